@@ -9,7 +9,7 @@
 # make contracts     writes docs/contracts anew, after a change of public contracts that is meant
 # make manual        writes docs/da65.info.5 anew, after a change of docs/INFORMATION_FILE.md
 # make definitions   writes docs/DEFINITIONS.md anew, after a change of the comments at the head of definitions
-# make speed         compares the program with cc65's da65, which needs cc65, valgrind and GNU time
+# make speed         counts instructions beside those of cc65's programs; needs cc65, valgrind and GNU time
 # make install       puts the programs, their man pages, what bash and zsh complete and the names of machines under PREFIX, /usr/local
 #                    unless it is given.
 #                    PROGRAM_PREFIX is put before their names, as in `make install PROGRAM_PREFIX=proved-`, and DESTDIR before PREFIX.
@@ -77,13 +77,15 @@ direct = $(filter $(crates),$(shell sed -nE 's/^$(1)://p' crates.txt))
 below = $(sort $(foreach name,$(call direct,$(1)),$(name) $(call below,$(name))))
 clear_line = if [ -t 1 ]; then printf '\r\033[K'; fi
 define crate
-bin/made/$(1): $(patsubst %,bin/made/%,$(call direct,$(1))) $(shell find crates/$(1) -name out -prune -o -path '*/src/*' -print -o -name '*.antt' -print)
+bin/made/$(1): $(patsubst %,bin/made/%,$(call direct,$(1))) \
+    $(shell find crates/$(1) -name out -prune -o -path '*/src/*' -print -o -name '*.antt' -print)
 	@begin=$$$$SECONDS; room=bin/made/$(1).room; rm -rf $$$$room; mkdir -p $$$$room; \
 	    cp -al --parents crates.txt HANDLES crates/*/{src,specs,proofs} $(patsubst %,crates/%/out/rlib,$(call below,$(1))) $$$$room; \
 	    [ ! -d crates/$(1)/out ] || mv crates/$(1)/out $$$$room/crates/$(1); \
 	    bash -c "$$$$PROGRESS" progress $(1) & \
 	    trap "[ ! -d $$$$room/crates/$(1)/out ] || mv $$$$room/crates/$(1)/out crates/$(1); rm -r $$$$room" EXIT; \
-	    (cd $$$$room/crates/$(1) && rt $(if $(filter $(1),$(programs)),run $$(RTFLAGS) -- --version,lib $$(RTFLAGS))) >$$@.log 2>&1 || { $$(clear_line); tail -n 20 $$@.log; exit 1; }; \
+	    (cd $$$$room/crates/$(1) && rt $(if $(filter $(1),$(programs)),run $$(RTFLAGS) -- --version,lib $$(RTFLAGS))) >$$@.log 2>&1 || \
+        { $$(clear_line); tail -n 20 $$@.log; exit 1; }; \
 	    $$(clear_line); printf '%-10s proved in %d seconds\n' $(1) $$$$((SECONDS - begin)); mv $$@.log $$@
 endef
 $(foreach name,$(crates),$(eval $(call crate,$(name))))
@@ -107,6 +109,7 @@ test:
 	tests/trace65.sh bin/trace65 bin/da65 bin/as65 bin/name65
 	tests/name65.sh bin/name65 bin/da65 bin/as65 bin/trace65
 	tests/growth.sh bin/da65
+	tests/speed.sh bin/da65
 	tests/docs.sh bin/da65
 	tests/ca65.sh bin/da65 10
 	@[ "$${CA65-}" != skip ] || echo 'CA65=skip: no listing went through ca65 and ld65, which need cc65'
@@ -124,7 +127,7 @@ definitions:
 	python3 tests/lint --write page
 
 speed: bin/da65
-	tests/growth.sh bin/da65 speed
+	tests/speed.sh bin/da65
 
 share := $(DESTDIR)$(PREFIX)/share
 
@@ -146,7 +149,8 @@ uninstall:
 	    rm -f "$(DESTDIR)$(PREFIX)/bin/$$name" "$(share)/man/man1/$$name.1" \
 	        "$(share)/bash-completion/completions/$$name" "$(share)/zsh/site-functions/_$$name"; \
 	done
-	@rm -f '$(share)/man/man5/$(PROGRAM_PREFIX)da65.info.5' $(patsubst names/%,'$(share)/$(PROGRAM_PREFIX)da65/names/%',$(wildcard names/*.inc))
+	@rm -f '$(share)/man/man5/$(PROGRAM_PREFIX)da65.info.5' \
+	    $(patsubst names/%,'$(share)/$(PROGRAM_PREFIX)da65/names/%',$(wildcard names/*.inc))
 	@rmdir '$(share)/$(PROGRAM_PREFIX)da65/names' '$(share)/$(PROGRAM_PREFIX)da65' 2>/dev/null || true
 
 help:

@@ -1,15 +1,11 @@
 #!/usr/bin/env bash
-# What a run takes, and that it goes on as its input grows. Four parts, all of them if none is named:
+# What a run takes, and that it goes on as its input grows. Three parts, all of them if none is named:
 #   sizes   each small number and each length, with ample memory. No contract forbids a false answer that memory ran out, so each of
 #           these must list, or be refused for its own reason. What is wanted is made here.
 #   work    the files that the program opens, and the as65 beside it, their reads, writes and memory, which tests/shim.c counts; and each
 #           allocation refused in turn, of these, of name65 and of the test of options_of. Without cc, which makes the shim, it fails,
 #           unless CC=skip is set: then it is left out.
 #   time    twice as many take at most three times as long.
-#   speed   instructions by valgrind's callgrind, beside cc65's da65 on the same bytes; for large information files also the most
-#           memory; as65 beside ca65 and ld65, and name65 beside as65. Each row has the ratio that docs/GATE.md gives it: more than
-#           a twentieth above it is a failure. Runs differ by less than a thousandth. Twice as many groups or lines take at most 2.3
-#           times the instructions. It is left out without valgrind, GNU time or cc65.
 # Usage: tests/growth.sh PROGRAM [PART]..
 set -u
 program=$(realpath "$1")
@@ -17,71 +13,9 @@ assembler=$(dirname "$program")/as65
 namer=$(dirname "$program")/name65
 root=$(realpath "$(dirname "$0")/..")
 . "$root/tests/rows.sh"
-. "$root/tests/random.sh"
+. "$root/tests/groups.sh"
 parts=("${@:2}")
-[ ${#parts[@]} != 0 ] || parts=(sizes work time speed)
-
-# groups KIND COUNT: prints that many groups of an information file, or lines with a definition. Ranges and segments have one byte each.
-# Labels have ascending addresses; those that are `ends` end at one address, and those that are `nested` lie in each other.
-groups() {
-    awk -v kind="$1" -v count="$2" 'BEGIN {
-        for (k = 0; k < count; k++) {
-            a = kind == "descending" ? count - 1 - k : kind == "shuffled" ? k * 40503 % 65536 : k
-            size = kind == "ends" ? count - k : kind == "nested" ? 65536 - 2 * k : 1
-            if (kind == "ranges") printf "RANGE { START $%04X; END $%04X; TYPE CODE; };\n", a, a
-            else if (kind == "segments") printf "SEGMENT{START $%04X;END $%04X;NAME \"s%04x\";};\n", a, a, a
-            else if (kind == "definitions") printf "n%04x := $%04X\n", a, a
-            else if (size == 1) printf "LABEL { ADDR $%04X; NAME \"n%04x\"; };\n", a, a
-            else printf "LABEL{ADDR $%04X;NAME \"n%04x\";SIZE %d;}\n", a, a, size
-        }
-    }'
-}
-
-# information KIND COUNT: prints an information file of that many groups, or one with an include file of that many lines, which it writes.
-information() {
-    case $1 in
-    definitions)
-        groups definitions "$2" >"$2.inc"
-        printf 'ASMINC { FILE "%s.inc"; };' "$2"
-        ;;
-    colliding) colliding "$2" ;;
-    *) groups "$1" "$2" ;;
-    esac
-}
-
-# colliding COUNT: prints that many groups LABEL whose names share one of the slots in which names are looked up by their text: the last
-# four letters of each make its hash 0.
-colliding() {
-    awk -v count="$1" 'BEGIN {
-        letters = "abcdefghijklmnopqrstuvwxyz"
-        factor = 413293
-        slots = 1048576
-        for (end = 0; end < 456976; end++) {
-            name = ""
-            hash = 0
-            for (rest = end + 456976; rest > 1; rest = int(rest / 26)) {
-                letter = rest % 26 + 1
-                name = name substr(letters, letter, 1)
-                hash = (hash * factor + 96 + letter) % slots
-            }
-            ends[hash] = ends[hash] name
-        }
-        power = 1
-        for (i = 0; i < 4; i++) power = power * factor % slots
-        for (start = 0; made < count; start++) {
-            name = ""
-            hash = 0
-            for (rest = start + 17576; rest >= 1; rest = int(rest / 26)) {
-                letter = rest % 26 + 1
-                name = name substr(letters, letter, 1)
-                hash = (hash * factor + 96 + letter) % slots
-            }
-            last = ends[(slots - hash * power % slots) % slots]
-            for (i = 1; i < length(last) && made < count; i += 4)
-                printf "LABEL { ADDR $%04X; NAME \"%s\"; };\n", made++, name substr(last, i, 4)
-        }
-    }'
-}
+[ ${#parts[@]} != 0 ] || parts=(sizes work time)
 
 # ---- sizes
 
@@ -211,7 +145,8 @@ tables() {
     image 3 352
     : >empty.info
     wants "$nop$nop$nop"
-    options=(-i\ empty.info -o\ /dev/stdout -S\ 0x1000 --cpu\ 6502 --comments\ 0 --mnemonic-column\ 9 --argument-column\ 17 --comment-column\ 49
+    options=(-i\ empty.info -o\ /dev/stdout -S\ 0x1000 --cpu\ 6502 --comments\ 0 --mnemonic-column\ 9 --argument-column\ 17 \
+        --comment-column\ 49
         --text-column\ 81 --label-break\ 7 --hexoffs --)
     for ((count = 0; count <= ${#options[@]}; count++)); do
         words=()
@@ -305,7 +240,8 @@ many() {
     done
     # Each step leads to all numbers below 20,000: ascending, descending and shuffled.
     for step in 1 19999 7919; do
-        awk -v step="$step" 'BEGIN { for (k = 1; k <= 20000; k++) printf "LABEL{ADDR %d;NAME \"m%d\";}\n", k * step % 20000, k * step % 20000 }' >some.info
+        awk -v step="$step" 'BEGIN { for (k = 1; k <= 20000; k++)
+                                   printf "LABEL{ADDR %d;NAME \"m%d\";}\n", k * step % 20000, k * step % 20000 }' >some.info
         awk -v nop="$nop" 'BEGIN { printf "; da65 listing\n\n        .setcpu \"6502\"\n\n"
                                    for (a = 0; a < 20000; a++) printf "%-16s:= $%04X\n", "m" a, a; printf "\n%s", nop }' >wanted.s
         lists "20,000 labels by steps of $step" -i some.info image.bin
@@ -327,12 +263,12 @@ many() {
                  for (a = 0; a < 65535; a++) printf "%-16s:= $%04X\n", sprintf("m%04x", a), a; printf "\nmffff:  nop\n" }' >wanted.s
     printf 'ASMINC{FILE "many.inc";}' >some.info
     lists '100,000 lines of an include file' -i some.info image.bin
-    # More bytes of names than a file may have, in three include files.
-    awk 'BEGIN { for (n = 0; n < 33000; n++) printf "n%079d=%d\n", n, n >(int(n / 11000) ".inc") }'
+    # The longest name for each address, in as many include files as that takes.
+    awk 'BEGIN { for (n = 0; n < 65536; n++) printf "n%079d=%d\n", n, n >(int(n / 11000) ".inc") }'
     awk -v nop="$nop" 'BEGIN { printf "; da65 listing\n\n        .setcpu \"6502\"\n\n"
-                               for (n = 0; n < 33000; n++) printf "n%079d := $%04X\n", n, n; printf "\n%s", nop }' >wanted.s
-    printf 'ASMINC{FILE "%d.inc";}' 0 1 2 >some.info
-    lists '33,000 names of 80 bytes' -i some.info image.bin
+                               for (n = 0; n < 65535; n++) printf "n%079d := $%04X\n", n, n; printf "\nn%079d:\n%s", n, nop }' >wanted.s
+    printf 'ASMINC{FILE "%d.inc";}' {0..5} >some.info
+    lists '65,536 names of 80 bytes' -i some.info image.bin
 }
 
 sizes() {
@@ -358,11 +294,11 @@ counted() {
     read -r opens reads writes most asked allocations <counts || fails "$*" 'the shim counted nothing'
 }
 
-# counts NAME STATUS OPENS READS WRITES BYTES ALL WORD..: this status, that many files opened, reads and writes, and at most that many
-# bytes of memory at one time, and ALL over the whole run.
+# counts NAME STATUS OPENS READS WRITES BYTES ALL TIMES WORD..: this status, that many files opened, reads and writes, and at most that
+# many bytes of memory at one time, ALL over the whole run, and TIMES allocations.
 counts() {
-    local name=$1 wanted=$2 wanted_opens=$3 wanted_reads=$4 wanted_writes=$5 bytes=$6 all=$7
-    shift 7
+    local name=$1 wanted=$2 wanted_opens=$3 wanted_reads=$4 wanted_writes=$5 bytes=$6 all=$7 times=$8
+    shift 8
     counted "$@"
     [ "$status" = "$wanted" ] || fails "$name" "status $status and not $wanted: $(cat stderr)"
     [ "$opens" = "$wanted_opens" ] || fails "$name" "$opens files opened and not $wanted_opens"
@@ -370,10 +306,11 @@ counts() {
     [ "$writes" = "$wanted_writes" ] || fails "$name" "$writes writes and not $wanted_writes"
     [ "$most" -le "$bytes" ] || fails "$name" "$most bytes of memory and not at most $bytes"
     [ "$asked" -le "$all" ] || fails "$name" "$asked bytes of memory over the whole run and not at most $all"
+    [ "$allocations" -le "$times" ] || fails "$name" "$allocations allocations and not at most $times"
 }
 
-# refuses_in_turn NAME LEAST DONE TROUBLE WORD..: each allocation refused in turn, of which there are at least LEAST, of a run with the status
-# DONE: the program says that it is out of memory, ends with a status of the pattern TROUBLE, and writes nothing on standard output.
+# refuses_in_turn NAME LEAST DONE TROUBLE WORD..: each allocation refused in turn, of which there are at least LEAST, of a run with the
+# status DONE: the program says that it is out of memory, ends with a status of the pattern TROUBLE, and writes nothing on standard output.
 refuses_in_turn() {
     local name=$1 least=$2 wanted=$3 trouble=$4 at=1
     shift 4
@@ -431,7 +368,8 @@ work() {
     head -c 65536 /dev/zero | tr '\0' '\352' >large.bin
     {
         printf 'GLOBAL { STARTADDR $1000; INPUTNAME "three.bin"; };\nASMINC { FILE "more.inc"; };\nASMINC { FILE "names.inc"; };\n'
-        printf 'ASMINC { FILE "empty.inc"; };\nASMINC { FILE "names.inc"; };\nRANGE { START $1000; END $1001; TYPE WordTable; NAME "table"; };\n'
+        printf 'ASMINC { FILE "empty.inc"; };\nASMINC { FILE "names.inc"; };\n'
+        printf 'RANGE { START $1000; END $1001; TYPE WordTable; NAME "table"; };\n'
         printf 'SEGMENT { START $1002; END $1002; NAME "DATA"; };\nLABEL { ADDR $1002; NAME "last"; COMMENT "the end"; };\n'
     } >all.info
     printf 'first = $20\nsecond := $2000\n' >names.inc
@@ -451,25 +389,37 @@ work() {
 
     # /dev/null is opened three times, for standard streams that are closed. 4 KiB a read and one read at the end, 8 KiB a write. The
     # map of an image has two bytes for each address. A table of ranges, and one of segments, has one, if there are any, and is given back
-    # before. Only names need the tables that find them. What has been read is given back before the run, and copied no more often than it must be.
-    counts 'three bytes' 0 4 2 1 136500 152000 three.bin
-    counts 'three bytes in a file' 0 5 2 1 136500 154000 -o out.s three.bin
-    counts '64 KiB' 0 4 17 97 202000 280000 large.bin
-    given=large.bin counts '64 KiB of standard input' 0 3 17 97 202000 280000 /dev/stdin
-    given=all.info counts 'an information file of standard input' 0 7 9 1 404000 820000 -i /dev/stdin
-    counts 'help' 0 3 0 1 18000 22500 -h
-    counts 'the version' 0 3 0 1 18000 21500 -V
-    counts 'an information file and include files' 0 8 9 1 404000 820000 -i all.info
-    counts 'large files and a long name' 0 7 152 1 1467000 3282000 -i wide.info -o out.s "$long"
-    counts 'a warning' 0 5 4 2 136500 220500 -i skip.info three.bin
-    counts 'no input name' 1 3 0 1 15200 19000
-    counts 'an empty input' 1 4 1 1 15500 19700 empty.bin
-    counts 'a refused information file' 1 4 2 1 16000 21400 -i bad.info three.bin
-    counts 'an input that is not there' 1 4 0 1 15500 19700 no.bin
+    # before. Only names need the tables that find them. What has been read is given back before the run, and copied no more often than it
+    # must be.
+    counts 'three bytes' 0 4 2 1 136500 152000 35 three.bin
+    counts 'three bytes in a file' 0 5 2 1 136500 154000 49 -o out.s three.bin
+    counts '64 KiB' 0 4 17 97 202000 280000 39 large.bin
+    given=large.bin counts '64 KiB of standard input' 0 3 17 97 202000 280000 39 /dev/stdin
+    given=all.info counts 'an information file of standard input' 0 7 9 1 404000 820000 84 -i /dev/stdin
+    counts 'help' 0 3 0 1 18000 22500 70 -h
+    counts 'the version' 0 3 0 1 18000 21500 29 -V
+    counts 'an information file and include files' 0 8 9 1 404000 820000 84 -i all.info
+    counts 'large files and a long name' 0 7 152 1 1467000 3282000 97 -i wide.info -o out.s "$long"
+    counts 'a warning' 0 5 4 2 136500 220500 53 -i skip.info three.bin
+    counts 'no input name' 1 3 0 1 15200 19000 22
+    counts 'an empty input' 1 4 1 1 15500 19700 33 empty.bin
+    counts 'a refused information file' 1 4 2 1 16000 21400 44 -i bad.info three.bin
+    counts 'an input that is not there' 1 4 0 1 15500 19700 39 no.bin
+
+    # Labels with an include file: the names of both are found by one index, which is made once.
+    awk 'BEGIN { for (n = 0; n < 2000; n++) printf "LABEL{ADDR %d;NAME \"l%d\";}\n", n, n; print "ASMINC{FILE \"later.inc\";}" }' >both.info
+    awk 'BEGIN { for (n = 2000; n < 4000; n++) printf "c%d = %d\n", n, n }' >later.inc
+    counts 'names of labels and of an include file' 0 6 26 13 790000 2190000 155 -i both.info -S 0xFF00 three.bin
 
     # as65 holds a listing, its names, its bytes, and the image beside it.
-    program=$assembler counts 'labels that are assembled' 0 5 99 1 7700000 13980000 -S 0 -o out.bin labels.s
-    program=$assembler counts 'labels that differ' 1 5 110 1 7960000 27500000 -S 0 --compare zeros.bin labels.s
+    program=$assembler counts 'labels that are assembled' 0 5 99 1 7700000 13980000 22971 -S 0 -o out.bin labels.s
+    program=$assembler counts 'labels that differ' 1 5 110 1 7960000 27500000 45908 -S 0 --compare zeros.bin labels.s
+
+    # What a fault is about is looked for once.
+    { cat labels.s; echo ' jmp nowhere'; } >undefined.s
+    printf ' bne far\nfar := $2000\n' >far.s
+    program=$assembler counts 'an undefined name after labels' 1 4 99 1 7700000 26800000 45865 -S 0 undefined.s
+    program=$assembler counts 'a branch too far' 1 4 2 1 9000 14250 64 -S 0 far.s
 
     refuses_options
     refuses_in_turn 'the command line' 40 0 1 --cpu 65c02 -S 0x1000 --comments 4 --text-column 60 three.bin
@@ -480,7 +430,8 @@ work() {
     program=$assembler refuses_in_turn 'a listing' 30 0 1 -S 0x1000 -o - short.s
     program=$assembler refuses_in_turn 'differences' 30 1 2 --compare three.bin short.s
     program=$assembler refuses_in_turn 'a faulty line' 30 1 1 -S 0x1000 -o - faulty.s
-    printf '#: HALVES { LOW $1001; HIGH $1003; };\n#: DIFFERENCE { ADDR $1004; FROM $1000; TO $1006; };\n#: AFTER { START $1007; END $2000; };\n' >moves.info
+    printf '%b' '#: HALVES { LOW $1001; HIGH $1003; };\n#: DIFFERENCE { ADDR $1004; FROM $1000; TO $1006; };\n' \
+        '#: AFTER { START $1007; END $2000; };\n' >moves.info
     printf 'v1 := $1010\nu1 := $12\nx1: lda #$00\nldx #$10\n.word 6\ny1: rts\n' >moves.s
     program=$namer refuses_in_turn 'a listing by names' 60 0 1 -S 0x1000 --used -i moves.info moves.s
     refuses_files 'an information file, include files and an output' -i all.info -o out.s
@@ -568,247 +519,9 @@ growing() {
     keeps_pace 'stretches in one line that differ' 16384 differ "$assembler" -S 0 --compare @.bin @.s
 }
 
-# ---- speed
-
-# instructions COMMAND..: sets `count` to how many instructions the command takes, which ends with the status `wanted`, or 0 if that is not set.
-instructions() {
-    valgrind --tool=callgrind --callgrind-out-file=callgrind.out "$@" >/dev/null 2>valgrind.log
-    if [ $? != "${wanted:-0}" ]; then
-        echo "growth: $* failed: $(grep -v '^==' valgrind.log)"
-        exit 1
-    fi
-    count=$(sed -nE 's/.*Collected : ([0-9]+).*/\1/p' valgrind.log)
-}
-
-# shows NAME LIMIT OURS THEIRS WIDTH [MORE]: instructions of a program and of cc65's, and their ratio in percent, which is at most a
-# twentieth above this one; and more, on one line.
-shows() {
-    local ratio
-    ratio=$(awk "BEGIN { print 100 * $3 / $4 }")
-    printf "%-${5}s %12d %12d %6.1f %%%s\n" "$1" "$3" "$4" "$ratio" "${6-}"
-    awk "BEGIN { exit !($ratio > 1.05 * $2) }" && fails "$1" "$ratio % of the instructions beside it, more than a twentieth above $2 %"
-}
-
-# compares NAME LIMIT WORD..: those of the program and of cc65's da65 on the same words.
-compares() {
-    local name=$1 limit=$2 ours
-    shift 2
-    instructions "$program" "$@" -o ours.s
-    ours=$count
-    instructions da65 "$@" -o theirs.s
-    shows "$name" "$limit" "$ours" "$count" 44
-}
-
-# assembles NAME LIMIT LISTING: those of as65, and those of ca65 and ld65 together, for the listing.
-assembles() {
-    local ours theirs
-    instructions "$assembler" -S 0 -o ours.bin "$3"
-    ours=$count
-    instructions ca65 --relax-checks -o theirs.o "$3"
-    theirs=$count
-    instructions ld65 -C flat.cfg -o theirs.bin theirs.o
-    cmp -s ours.bin theirs.bin || fails "$1" 'as65 and ld65 write other bytes'
-    shows "$1" "$2" "$ours" $((theirs + count)) 44
-}
-
-# names NAME LIMIT LISTING WORD..: those of name65 on the listing and the words, and those of as65 for the listing.
-names() {
-    local name=$1 limit=$2 listing=$3 ours
-    shift 3
-    instructions "$namer" -S 0 "$@" -o ours.s "$listing"
-    ours=$count
-    instructions "$assembler" -S 0 -o ours.bin "$listing"
-    shows "$name" "$limit" "$ours" "$count" 44
-}
-
-# memory COMMAND..: sets `peak` to the most memory that the command holds, in kilobytes.
-memory() {
-    /usr/bin/time -o time.log -f %M "$@" >/dev/null
-    peak=$(tail -n 1 time.log)
-}
-
-# reads NAME LIMIT: what it takes to list one byte with input.info, beside cc65's da65. Sets `ours` to the instructions.
-reads() {
-    local here words=(-i input.info -S 0 one.bin -o out.s)
-    memory "$program" "${words[@]}"
-    here=$peak
-    memory da65 "${words[@]}"
-    instructions "$program" "${words[@]}"
-    ours=$count
-    instructions da65 "${words[@]}"
-    shows "$1" "$2" "$ours" "$count" 28 "$(awk "BEGIN { printf \" %8d %8d %7.1f %%\", $here, $peak, 100 * $here / $peak }")"
-}
-
-# lengthens NAME STATUS BEFORE: as65 ends with this status for a line with 128 KiB of digits after this text, and takes at most 2.3 times
-# the instructions that it takes for one with 64 KiB.
-lengthens() {
-    local size half wanted=$2
-    for size in 65536 131072; do
-        { printf '%b' "$3"; head -c "$size" /dev/zero | tr '\0' 0; echo 1; } >"$size.s"
-    done
-    instructions "$assembler" -S 0 -o ours.bin 65536.s
-    half=$count
-    instructions "$assembler" -S 0 -o ours.bin 131072.s
-    printf '%-44s %12d %12d\n' "$1" "$half" "$count"
-    awk "BEGIN { exit !($count > 2.3 * $half) }" && fails "$1" 'more than 2.3 times the instructions of half as many'
-}
-
-# doubles HALF LIMIT KIND COUNT: the same with that many groups or lines, and with half as many, each with its limit.
-doubles() {
-    local half ours
-    information "$3" $(($4 / 2)) >input.info
-    reads "$(($4 / 2)) $3" "$1"
-    half=$ours
-    information "$3" "$4" >input.info
-    reads "$4 $3" "$2"
-    awk "BEGIN { exit !($ours > 2.3 * $half) }" && fails "$4 $3" 'more than 2.3 times the instructions of half as many'
-}
-
-# includes COUNT LINES WIDTH: prints an information file with that many include files, and writes them, with that many names, each with a
-# remark of that many bytes.
-includes() {
-    local k
-    for ((k = 0; k < $1; k++)); do
-        awk -v from=$((k * $2)) -v lines="$2" -v width="$3" 'BEGIN {
-            for (a = from; a < from + lines; a++) printf "n%04x := $%04X ; %*s\n", a, a, width, "a remark"
-        }' >"$k.inc"
-        echo "ASMINC { FILE \"$k.inc\"; };"
-    done
-}
-
-# remarked COUNT NAMES: prints an information file with that many include files, and writes them, each with that many names and then lines
-# of comment up to 1 MiB.
-remarked() {
-    local k
-    for ((k = 0; k < $1; k++)); do
-        awk -v from=$((k * $2)) -v names="$2" 'BEGIN {
-            for (a = from; a < from + names; a++) {
-                name = sprintf("n%04x := $%04X", a, a)
-                print name
-                size += length(name) + 1
-            }
-            line = "; a line of comment that says something about what stands below it"
-            for (; size + length(line) + 1 <= 1048576; size += length(line) + 1) print line
-        }' >"$k.inc"
-        echo "ASMINC { FILE \"$k.inc\"; };"
-    done
-}
-
-speed() {
-    local tool cpu from ours bytes=
-    local -A random=([6502]=25.1 [65SC02]=25.8 [65C02]=26.8)
-    for tool in valgrind da65 ca65 ld65 /usr/bin/time; do
-        command -v $tool >/dev/null || { echo "growth: speed is left out, since $tool is not installed"; return; }
-    done
-
-    seed 1
-    draw_bytes 65536
-    printf '%b' "$bytes" >random.bin
-    head -c 1024 random.bin >kilobyte.bin
-    head -c 65536 /dev/zero | tr '\0' '\352' >nop.bin
-    # A mixed image: in each 512 bytes code without a range, text, words, bytes, two-byte values high byte first, and code.
-    : >mixed.info
-    bytes=
-    for ((from = 0; from < 65536; from += 512)); do
-        draw_bytes 192
-        draw_bytes 64 32 126
-        draw_bytes 256
-        printf 'RANGE { START $%04X; END $%04X; TYPE %s; };\n' \
-            $((from + 192)) $((from + 255)) TEXTTABLE $((from + 256)) $((from + 319)) WORDTABLE \
-            $((from + 320)) $((from + 383)) BYTETABLE $((from + 384)) $((from + 447)) DBYTETABLE \
-            $((from + 448)) $((from + 511)) CODE >>mixed.info
-    done
-    printf '%b' "$bytes" >mixed.bin
-    # One byte table, alone and in 1,024 segments of their own names. Of no other image are there so few lines, so what is done once
-    # for each byte shows most.
-    echo 'RANGE { START 0; END $FFFF; TYPE BYTETABLE; };' >table.info
-    {
-        cat table.info
-        for ((from = 0; from < 65536; from += 64)); do
-            printf 'SEGMENT { START $%04X; END $%04X; NAME "S%d"; };\n' $from $((from + 63)) $from
-        done
-    } >segments.info
-
-    printf '%-44s %12s %12s %8s\n' 'instructions for 64 KiB' 'here' 'cc65' 'ratio'
-    for cpu in "${cpus[@]}"; do
-        compares "random bytes, $cpu" "${random[$cpu]}" -S 0 --cpu "$cpu" random.bin
-    done
-    compares 'nop' 35.2 -S 0 nop.bin
-    compares 'mixed bytes, without ranges' 25.1 -S 0 mixed.bin
-    compares "mixed bytes, $(wc -l <mixed.info) ranges" 25.2 -S 0 -i mixed.info mixed.bin
-    compares 'a byte table' 17.6 -S 0 -i table.info nop.bin
-    compares 'a byte table in 1,024 segments' 28.0 -S 0 -i segments.info nop.bin
-    grep SEGMENT segments.info >borders.info
-    echo 'SEGMENT { START $1000; END $1001; NAME "S"; };' >segment.info
-    echo 'LABEL { ADDR $1000; NAME "entry"; COMMENT "the entry"; };' >comment.info
-    compares 'nop, one segment of two bytes' 39.0 -S 0 -i segment.info nop.bin
-    compares 'nop, one name with a comment' 38.9 -S 0 -i comment.info nop.bin
-    compares 'nop, 1,024 segments' 46.7 -S 0 -i borders.info nop.bin
-
-    # What people run: a few bytes, a few tables and names. What is done once whatever there is shows most. (cc65's has no SIZE.)
-    printf '%s\n' 'GLOBAL { STARTADDR $F000; };' \
-        'RANGE { START $F00E; END $F017; TYPE TextTable; NAME "message"; };' \
-        'RANGE { START $F018; END $F01B; TYPE AddrTable; NAME "vectors"; };' \
-        'RANGE { START $F01C; END $F01D; TYPE WordTable; };' \
-        'RANGE { START $F01E; END $F021; TYPE DByteTable; };' \
-        'RANGE { START $F022; END $F02B; TYPE ByteTable; };' \
-        'LABEL { ADDR $FFD2; NAME "CHROUT"; };' >hello.info
-    echo 'LABEL { ADDR $1000; NAME "entry"; };' >label.info
-    printf '\xea' >one.bin
-    compares 'one byte' 33.5 -S 0 one.bin
-    compares '44 bytes with five tables and three names' 54.5 -i hello.info "$root/examples/hello.bin"
-    compares '1 KiB with one label' 35.9 -S 0 -i label.info kilobyte.bin
-    includes 16 1 10 >small.info
-    compares '1 KiB with 16 include files of a line' 42.7 -S 0 -i small.info kilobyte.bin
-    includes 16 4096 230 >large.info
-    compares '1 KiB with 16 include files of 1 MiB' 26.0 -S 0 -i large.info kilobyte.bin
-    remarked 16 250 >remarked.info
-    compares '1 KiB with 16 MiB of comment, 4,000 names' 64.3 -S 0 -i remarked.info kilobyte.bin
-
-    printf 'MEMORY { MAIN: start = 0, size = $10000, file = %%O; }\nSEGMENTS { CODE: load = MAIN, type = ro; }\n' >flat.cfg
-    printf '\n%-44s %12s %12s %8s\n' 'instructions for a listing' 'as65' 'ca65, ld65' 'ratio'
-    "$program" -S 0 random.bin -o random.s
-    "$program" -S 0 nop.bin -o nop.s
-    "$program" -S 0 -i mixed.info mixed.bin -o mixed.s
-    assembles 'random bytes' 29.0 random.s
-    assembles 'nop' 19.5 nop.s
-    assembles "mixed bytes, $(wc -l <mixed.info) ranges" 26.3 mixed.s
-    # What people write when they edit, and the shortest listing.
-    awk 'BEGIN { for (n = 0; n < 8000; n++) printf "n%d: lda #<n%d\n ldx #>n%d\n", n, n * 7919 % 8000, n * 7919 % 8000 }' >halves.s
-    awk 'BEGIN { for (n = 0; n < 3000; n++) printf "n%d := %d\n", n, 8192 + n
-        for (n = 0; n < 3000; n++) printf n % 8 ? ",n%d" : "\n .lobytes n%d", n * 7919 % 3000; print "" }' >lobytes.s
-    printf 'here:   lda     #$01\n        sta     $10\n        jmp     here\n' >three.s
-    assembles '8,000 pairs of halves' 35.5 halves.s
-    assembles 'low bytes of 3,000 names' 35.8 lobytes.s
-    assembles 'three lines' 48.2 three.s
-    # The same pairs as numbers, of which every tenth and then every one gets names; and the listings without a group.
-    "$assembler" -S 0 -o halves.bin halves.s
-    awk 'BEGIN { for (n = 0; n < 8000; n++) printf "LABEL { ADDR $%04X; NAME \"n%d\"; };\n", 4 * n, n }' >numbers.info
-    "$program" -S 0 -i numbers.info halves.bin -o numbers.s
-    awk 'BEGIN { for (n = 0; n < 8000; n++) printf "#: HALVES { LOW $%04X; HIGH $%04X; };\n", 4 * n + 1, 4 * n + 3 }' >pairs.info
-    awk 'NR % 10 == 1' pairs.info >few.info
-    printf '\n%-44s %12s %12s %8s\n' 'instructions for a listing' 'name65' 'as65' 'ratio'
-    names 'three lines' 130.1 three.s
-    names 'random bytes' 108.7 random.s
-    names 'random bytes, used names' 155.9 random.s --used
-    names 'a tenth of 8,000 pairs' 229.6 numbers.s -i few.info
-    names '8,000 pairs' 405.2 numbers.s -i pairs.info
-    printf '\n%-44s %12s %12s\n' 'instructions for a line' '64 KiB' '128 KiB'
-    lengthens 'a line that is one word' 1 n
-    lengthens 'a long number after a half' 0 'x1 := 1\n .byte <x1,'
-
-    printf '\n%-28s %12s %12s %8s %8s %8s %9s\n' 'instructions and kilobytes' 'here' 'cc65' 'ratio' 'here' 'cc65' 'ratio'
-    doubles 55.8 56.1 labels 20000
-    doubles 57.7 56.7 shuffled 20000
-    doubles 90.1 94.6 colliding 20000
-    doubles 67.8 68.5 definitions 60000
-    doubles 54.4 54.5 ranges 20000
-    doubles 77.0 75.8 segments 20000
-}
-
 for part in "${parts[@]}"; do
     case $part in
-    sizes | work | speed) $part ;;
+    sizes | work) $part ;;
     time) growing ;;
     *) echo "growth: no part $part"; exit 2 ;;
     esac

@@ -1,0 +1,254 @@
+#!/usr/bin/env bash
+# How many instructions the programs take, by valgrind's callgrind: da65 beside cc65's da65 on the same bytes, for large information files
+# also the most memory; as65 beside ca65 and ld65, and name65 beside as65. Each row has the ratio that docs/GATE.md gives it: more than a
+# twentieth above it is a failure. Runs differ by less than a thousandth. Twice as many groups or lines take at most 2.3 times the
+# instructions. Without valgrind, GNU time or cc65 it is left out.
+# Usage: tests/speed.sh PROGRAM
+set -u
+program=$(realpath "$1")
+assembler=$(dirname "$program")/as65
+namer=$(dirname "$program")/name65
+root=$(realpath "$(dirname "$0")/..")
+. "$root/tests/rows.sh"
+. "$root/tests/random.sh"
+. "$root/tests/groups.sh"
+
+for tool in valgrind da65 ca65 ld65 /usr/bin/time; do
+    command -v $tool >/dev/null || { echo "speed: left out, since $tool is not installed"; exit 0; }
+done
+
+# instructions COMMAND..: sets `count` to how many instructions the command takes, which ends with the status `wanted`, or 0 if that is not
+# set.
+instructions() {
+    valgrind --tool=callgrind --callgrind-out-file=callgrind.out "$@" >/dev/null 2>valgrind.log
+    if [ $? != "${wanted:-0}" ]; then
+        echo "speed: $* failed: $(grep -v '^==' valgrind.log)"
+        exit 1
+    fi
+    count=$(sed -nE 's/.*Collected : ([0-9]+).*/\1/p' valgrind.log)
+}
+
+# shows NAME LIMIT OURS THEIRS WIDTH [MORE]: instructions of a program and of cc65's, and their ratio in percent, which is at most a
+# twentieth above this one; and more, on one line.
+shows() {
+    local ratio
+    ratio=$(awk "BEGIN { print 100 * $3 / $4 }")
+    printf "%-${5}s %12d %12d %6.1f %%%s\n" "$1" "$3" "$4" "$ratio" "${6-}"
+    awk "BEGIN { exit !($ratio > 1.05 * $2) }" && fails "$1" "$ratio % of the instructions beside it, more than a twentieth above $2 %"
+}
+
+# compares NAME LIMIT WORD..: those of the program and of cc65's da65 on the same words.
+compares() {
+    local name=$1 limit=$2 ours
+    shift 2
+    instructions "$program" "$@" -o ours.s
+    ours=$count
+    instructions da65 "$@" -o theirs.s
+    shows "$name" "$limit" "$ours" "$count" 44
+}
+
+# assembles NAME LIMIT LISTING: those of as65, and those of ca65 and ld65 together, for the listing.
+assembles() {
+    local ours theirs
+    instructions "$assembler" -S 0 -o ours.bin "$3"
+    ours=$count
+    instructions ca65 --relax-checks -o theirs.o "$3"
+    theirs=$count
+    instructions ld65 -C flat.cfg -o theirs.bin theirs.o
+    cmp -s ours.bin theirs.bin || fails "$1" 'as65 and ld65 write other bytes'
+    shows "$1" "$2" "$ours" $((theirs + count)) 44
+}
+
+# names NAME LIMIT LISTING WORD..: those of name65 on the listing and the words, and those of as65 for the listing.
+names() {
+    local name=$1 limit=$2 listing=$3 ours
+    shift 3
+    instructions "$namer" -S 0 "$@" -o ours.s "$listing"
+    ours=$count
+    instructions "$assembler" -S 0 -o ours.bin "$listing"
+    shows "$name" "$limit" "$ours" "$count" 44
+}
+
+# memory COMMAND..: sets `peak` to the most memory that the command holds, in kilobytes.
+memory() {
+    /usr/bin/time -o time.log -f %M "$@" >/dev/null
+    peak=$(tail -n 1 time.log)
+}
+
+# reads NAME LIMIT: what it takes to list one byte with input.info, beside cc65's da65. Sets `ours` to the instructions.
+reads() {
+    local here words=(-i input.info -S 0 one.bin -o out.s)
+    memory "$program" "${words[@]}"
+    here=$peak
+    memory da65 "${words[@]}"
+    instructions "$program" "${words[@]}"
+    ours=$count
+    instructions da65 "${words[@]}"
+    shows "$1" "$2" "$ours" "$count" 28 "$(awk "BEGIN { printf \" %8d %8d %7.1f %%\", $here, $peak, 100 * $here / $peak }")"
+}
+
+# lengthens NAME STATUS BEFORE: as65 ends with this status for a line with 128 KiB of digits after this text, and takes at most 2.3 times
+# the instructions that it takes for one with 64 KiB.
+lengthens() {
+    local size half wanted=$2
+    for size in 65536 131072; do
+        { printf '%b' "$3"; head -c "$size" /dev/zero | tr '\0' 0; echo 1; } >"$size.s"
+    done
+    instructions "$assembler" -S 0 -o ours.bin 65536.s
+    half=$count
+    instructions "$assembler" -S 0 -o ours.bin 131072.s
+    printf '%-44s %12d %12d\n' "$1" "$half" "$count"
+    awk "BEGIN { exit !($count > 2.3 * $half) }" && fails "$1" 'more than 2.3 times the instructions of half as many'
+}
+
+# doubles HALF LIMIT KIND COUNT: the same with that many groups or lines, and with half as many, each with its limit.
+doubles() {
+    local half ours
+    information "$3" $(($4 / 2)) >input.info
+    reads "$(($4 / 2)) $3" "$1"
+    half=$ours
+    information "$3" "$4" >input.info
+    reads "$4 $3" "$2"
+    awk "BEGIN { exit !($ours > 2.3 * $half) }" && fails "$4 $3" 'more than 2.3 times the instructions of half as many'
+}
+
+# includes COUNT LINES WIDTH: prints an information file with that many include files, and writes them, with that many names, each with a
+# remark of that many bytes.
+includes() {
+    local k
+    for ((k = 0; k < $1; k++)); do
+        awk -v from=$((k * $2)) -v lines="$2" -v width="$3" 'BEGIN {
+            for (a = from; a < from + lines; a++) printf "n%04x := $%04X ; %*s\n", a, a, width, "a remark"
+        }' >"$k.inc"
+        echo "ASMINC { FILE \"$k.inc\"; };"
+    done
+}
+
+# remarked COUNT NAMES: prints an information file with that many include files, and writes them, each with that many names and then lines
+# of comment up to 1 MiB.
+remarked() {
+    local k
+    for ((k = 0; k < $1; k++)); do
+        awk -v from=$((k * $2)) -v names="$2" 'BEGIN {
+            for (a = from; a < from + names; a++) {
+                name = sprintf("n%04x := $%04X", a, a)
+                print name
+                size += length(name) + 1
+            }
+            line = "; a line of comment that says something about what stands below it"
+            for (; size + length(line) + 1 <= 1048576; size += length(line) + 1) print line
+        }' >"$k.inc"
+        echo "ASMINC { FILE \"$k.inc\"; };"
+    done
+}
+
+# ---- the rows
+
+bytes=
+declare -A random=([6502]=25.1 [65SC02]=25.8 [65C02]=26.8)
+seed 1
+draw_bytes 65536
+printf '%b' "$bytes" >random.bin
+head -c 1024 random.bin >kilobyte.bin
+head -c 65536 /dev/zero | tr '\0' '\352' >nop.bin
+# A mixed image: in each 512 bytes code without a range, text, words, bytes, two-byte values high byte first, and code.
+: >mixed.info
+bytes=
+for ((from = 0; from < 65536; from += 512)); do
+    draw_bytes 192
+    draw_bytes 64 32 126
+    draw_bytes 256
+    printf 'RANGE { START $%04X; END $%04X; TYPE %s; };\n' \
+        $((from + 192)) $((from + 255)) TEXTTABLE $((from + 256)) $((from + 319)) WORDTABLE \
+        $((from + 320)) $((from + 383)) BYTETABLE $((from + 384)) $((from + 447)) DBYTETABLE \
+        $((from + 448)) $((from + 511)) CODE >>mixed.info
+done
+printf '%b' "$bytes" >mixed.bin
+# One byte table, alone and in 1,024 segments of their own names. Of no other image are there so few lines, so what is done once
+# for each byte shows most.
+echo 'RANGE { START 0; END $FFFF; TYPE BYTETABLE; };' >table.info
+{
+    cat table.info
+    for ((from = 0; from < 65536; from += 64)); do
+        printf 'SEGMENT { START $%04X; END $%04X; NAME "S%d"; };\n' $from $((from + 63)) $from
+    done
+} >segments.info
+
+printf '%-44s %12s %12s %8s\n' 'instructions for 64 KiB' 'here' 'cc65' 'ratio'
+for cpu in "${cpus[@]}"; do
+    compares "random bytes, $cpu" "${random[$cpu]}" -S 0 --cpu "$cpu" random.bin
+done
+compares 'nop' 35.2 -S 0 nop.bin
+compares 'mixed bytes, without ranges' 25.1 -S 0 mixed.bin
+compares "mixed bytes, $(wc -l <mixed.info) ranges" 25.2 -S 0 -i mixed.info mixed.bin
+compares 'a byte table' 17.6 -S 0 -i table.info nop.bin
+compares 'a byte table in 1,024 segments' 28.0 -S 0 -i segments.info nop.bin
+grep SEGMENT segments.info >borders.info
+echo 'SEGMENT { START $1000; END $1001; NAME "S"; };' >segment.info
+echo 'LABEL { ADDR $1000; NAME "entry"; COMMENT "the entry"; };' >comment.info
+compares 'nop, one segment of two bytes' 39.0 -S 0 -i segment.info nop.bin
+compares 'nop, one name with a comment' 38.9 -S 0 -i comment.info nop.bin
+compares 'nop, 1,024 segments' 46.7 -S 0 -i borders.info nop.bin
+
+# What people run: a few bytes, a few tables and names. What is done once whatever there is shows most. (cc65's has no SIZE.)
+printf '%s\n' 'GLOBAL { STARTADDR $F000; };' \
+    'RANGE { START $F00E; END $F017; TYPE TextTable; NAME "message"; };' \
+    'RANGE { START $F018; END $F01B; TYPE AddrTable; NAME "vectors"; };' \
+    'RANGE { START $F01C; END $F01D; TYPE WordTable; };' \
+    'RANGE { START $F01E; END $F021; TYPE DByteTable; };' \
+    'RANGE { START $F022; END $F02B; TYPE ByteTable; };' \
+    'LABEL { ADDR $FFD2; NAME "CHROUT"; };' >hello.info
+echo 'LABEL { ADDR $1000; NAME "entry"; };' >label.info
+printf '\xea' >one.bin
+compares 'one byte' 33.5 -S 0 one.bin
+compares '44 bytes with five tables and three names' 54.5 -i hello.info "$root/examples/hello.bin"
+compares '1 KiB with one label' 35.9 -S 0 -i label.info kilobyte.bin
+includes 16 1 10 >small.info
+compares '1 KiB with 16 include files of a line' 42.7 -S 0 -i small.info kilobyte.bin
+includes 16 4096 230 >large.info
+compares '1 KiB with 16 include files of 1 MiB' 26.0 -S 0 -i large.info kilobyte.bin
+remarked 16 250 >remarked.info
+compares '1 KiB with 16 MiB of comment, 4,000 names' 64.3 -S 0 -i remarked.info kilobyte.bin
+
+printf 'MEMORY { MAIN: start = 0, size = $10000, file = %%O; }\nSEGMENTS { CODE: load = MAIN, type = ro; }\n' >flat.cfg
+printf '\n%-44s %12s %12s %8s\n' 'instructions for a listing' 'as65' 'ca65, ld65' 'ratio'
+"$program" -S 0 random.bin -o random.s
+"$program" -S 0 nop.bin -o nop.s
+"$program" -S 0 -i mixed.info mixed.bin -o mixed.s
+assembles 'random bytes' 29.0 random.s
+assembles 'nop' 19.5 nop.s
+assembles "mixed bytes, $(wc -l <mixed.info) ranges" 26.3 mixed.s
+# What people write when they edit, and the shortest listing.
+awk 'BEGIN { for (n = 0; n < 8000; n++) printf "n%d: lda #<n%d\n ldx #>n%d\n", n, n * 7919 % 8000, n * 7919 % 8000 }' >halves.s
+awk 'BEGIN { for (n = 0; n < 3000; n++) printf "n%d := %d\n", n, 8192 + n
+    for (n = 0; n < 3000; n++) printf n % 8 ? ",n%d" : "\n .lobytes n%d", n * 7919 % 3000; print "" }' >lobytes.s
+printf 'here:   lda     #$01\n        sta     $10\n        jmp     here\n' >three.s
+assembles '8,000 pairs of halves' 35.5 halves.s
+assembles 'low bytes of 3,000 names' 35.8 lobytes.s
+assembles 'three lines' 48.2 three.s
+# The same pairs as numbers, of which every tenth and then every one gets names; and the listings without a group.
+"$assembler" -S 0 -o halves.bin halves.s
+awk 'BEGIN { for (n = 0; n < 8000; n++) printf "LABEL { ADDR $%04X; NAME \"n%d\"; };\n", 4 * n, n }' >numbers.info
+"$program" -S 0 -i numbers.info halves.bin -o numbers.s
+awk 'BEGIN { for (n = 0; n < 8000; n++) printf "#: HALVES { LOW $%04X; HIGH $%04X; };\n", 4 * n + 1, 4 * n + 3 }' >pairs.info
+awk 'NR % 10 == 1' pairs.info >few.info
+printf '\n%-44s %12s %12s %8s\n' 'instructions for a listing' 'name65' 'as65' 'ratio'
+names 'three lines' 130.1 three.s
+names 'random bytes' 108.7 random.s
+names 'random bytes, used names' 155.9 random.s --used
+names 'a tenth of 8,000 pairs' 229.6 numbers.s -i few.info
+names '8,000 pairs' 405.2 numbers.s -i pairs.info
+printf '\n%-44s %12s %12s\n' 'instructions for a line' '64 KiB' '128 KiB'
+lengthens 'a line that is one word' 1 n
+lengthens 'a long number after a half' 0 'x1 := 1\n .byte <x1,'
+
+printf '\n%-28s %12s %12s %8s %8s %8s %9s\n' 'instructions and kilobytes' 'here' 'cc65' 'ratio' 'here' 'cc65' 'ratio'
+doubles 55.8 56.1 labels 20000
+doubles 57.7 56.7 shuffled 20000
+doubles 90.1 94.6 colliding 20000
+doubles 67.8 68.5 definitions 60000
+doubles 54.4 54.5 ranges 20000
+doubles 77.0 75.8 segments 20000
+
+[ "$failed" = 0 ] && echo 'speed: every row passed'
+exit "$failed"
