@@ -65,7 +65,8 @@ gives 'the start by its long name, in decimal' 'here: jmp here\n' '\x4c\xf0\xff'
 gives 'the start in octal' 'here: jmp here\n' '\x4c\x08\x00' -S 010
 gives 'a last line without a line feed' '\n rts' '\x60' -S 0
 gives 'all of it' \
-    'one := $10\nTwo := * + $01\n.setcpu "65c02" ; \xff\n.segment "S"\nlong: lda one\n lda a:one\n.code\n bra long-1\n.word Two,$1234\n.dbyt $5678\n.addr long\n.byte "A;",$22\n' \
+    'one := $10\nTwo := * + $01\n.setcpu "65c02" ; \xff\n.segment "S"\nlong: lda one\n lda a:one\n.code\n bra long-1\n'\
+'.word Two,$1234\n.dbyt $5678\n.addr long\n.byte "A;",$22\n' \
     '\xa5\x10\xad\x10\x00\x80\xf8\x01\x10\x34\x12\x56\x78\x00\x10A;\x22' -S 0x1000
 runs '64 KiB' 0 '' '' -S 0 -o out.bin large.s
 same '64 KiB' out.bin large.bin
@@ -143,16 +144,20 @@ refuses 'an undefined name of a table' '.addr nowhere-1\n' 1 'undefined name: no
 refuses 'one undefined name of two' 'here: .addr here,nowhere\n' 1 'undefined name: nowhere: here: .addr here,nowhere'
 refuses 'an undefined name after a number' ' .setcpu "65c02"\n bbr0 $10,nowhere\n' 2 'undefined name: nowhere: bbr0 $10,nowhere'
 refuses 'an undefined name after another' ' .setcpu "65c02"\n bbr0 nowhere,here\nhere:\n' 2 'undefined name: nowhere: bbr0 nowhere,here'
-refuses 'a relative operand beside another' ' .setcpu "65c02"\n bbr0 $10,far\n far := $9000\n' 2 'value out of range: branch too far: 32765 bytes: bbr0 $10,far'
-refuses 'the first of the undefined names' 'here: .addr here,nowhere,here+1,elsewhere\n' 1 'undefined name: nowhere: here: .addr here,nowhere,here+1,elsewhere'
+refuses 'a relative operand beside another' ' .setcpu "65c02"\n bbr0 $10,far\n far := $9000\n' 2 \
+    'value out of range: branch too far: 32765 bytes: bbr0 $10,far'
+refuses 'the first of the undefined names' 'here: .addr here,nowhere,here+1,elsewhere\n' 1 \
+    'undefined name: nowhere: here: .addr here,nowhere,here+1,elsewhere'
 gives 'a branch as far as it can go' 'far := $1081\n bne far\n' '\xd0\x7f' -S 0x1000
 gives 'a branch as far back as it can go' 'far := $0F82\n bne far\n' '\xd0\x80' -S 0x1000
 refuses 'a branch a byte too far' 'far := $1082\n bne far\n' 2 'value out of range: branch too far: 128 bytes: bne far'
 refuses 'a branch a byte too far back' 'far := $0F81\n bne far\n' 2 'value out of range: branch too far: -129 bytes: bne far'
 refuses 'a branch out of the address space' 'far := $1000\n bne far+$FFFF\n' 2 'value out of range: bne far+$FFFF'
-refuses 'a branch that is not too far beside an operand out of range' ' .setcpu "65c02"\n bbr0 $100,here\nhere:\n' 2 'value out of range: bbr0 $100,here'
+refuses 'a branch that is not too far beside an operand out of range' ' .setcpu "65c02"\n bbr0 $100,here\nhere:\n' 2 \
+    'value out of range: bbr0 $100,here'
 refuses 'a value out of range in a table' '.byte 256\n' 1 'value out of range: .byte 256'
-refuses 'control bytes of a faulty line' ' \x1b[2J\x07\t1 \r\n' 1 'syntax error: a carriage return ends the line: lines end with a line feed: ?[2J??1'
+refuses 'control bytes of a faulty line' ' \x1b[2J\x07\t1 \r\n' 1 \
+    'syntax error: a carriage return ends the line: lines end with a line feed: ?[2J??1'
 for len in 80 81 5000; do
     dots=
     [ "$len" = 80 ] || dots=' ..'
@@ -166,9 +171,12 @@ refuses 'a faulty line of control bytes' '\x01' 1 'syntax error: not a line of a
 # ---- halves of values
 
 gives 'halves' 'put := $1234\n lda #<put ; low\n ldx # >put\n .byte <put,"<;,", > put,1\n' '\xa9\x34\xa2\x12\x34<;,\x12\x01' -S 0x1000
-gives 'tables of halves' 'put := $1234\nlow: .lobytes put,low-1,put+$CD,$1FF ; <\nhigh:.HiBytes put, high+1-1 ,put+$CD\n' '\x34\xff\x01\xff\x12\x10\x13' -S 0x1000
-gives 'halves of a later name' ' lda #<later\n ldx #>later\n ldy #<(later-1)\n .byte <(later+1-1)\nlater: nop\n' '\xa9\x02\xa2\x11\xa0\x01\x02\xea' -S 0x10FB
-gives 'halves of sums in parentheses' ' lda #>(later-1)\n pha\n lda #<(later-1)\nlater: .byte >(later+$FF),<( $1234 )\n' '\xa9\x10\x48\xa9\xff\x11\x34' -S 0x10FB
+gives 'tables of halves' 'put := $1234\nlow: .lobytes put,low-1,put+$CD,$1FF ; <\nhigh:.HiBytes put, high+1-1 ,put+$CD\n' \
+    '\x34\xff\x01\xff\x12\x10\x13' -S 0x1000
+gives 'halves of a later name' ' lda #<later\n ldx #>later\n ldy #<(later-1)\n .byte <(later+1-1)\nlater: nop\n' \
+    '\xa9\x02\xa2\x11\xa0\x01\x02\xea' -S 0x10FB
+gives 'halves of sums in parentheses' ' lda #>(later-1)\n pha\n lda #<(later-1)\nlater: .byte >(later+$FF),<( $1234 )\n' \
+    '\xa9\x10\x48\xa9\xff\x11\x34' -S 0x10FB
 gives 'a half is one byte' 'zp := $12\n lda #<zp\n lda zp\nhere: jmp here\n' '\xa9\x12\xa5\x12\x4c\x04\x10' -S 0x1000
 gives 'lines with and without halves' ' nop\n .byte >far\n .byte ">"\nfar: bne far' '\xea\x10>\xd0\xfe' -S 0x1000
 refuses 'a sum after >, which ca65 reads otherwise' 'put := $1234\n lda #>put+1\n' 2 'syntax error: not a line of a listing: lda #>put+1'
@@ -178,7 +186,8 @@ refuses 'a half as an address' 'put := $1234\n lda <put\n' 2 'syntax error: not 
 refuses 'a half of .word' 'put := $1234\n .word <put\n' 2 'syntax error: other directives and operands (see ca65): .word <put'
 refuses 'a sum after <, which ca65 reads otherwise' 'put := $1234\n lda #<put+1\n' 2 'syntax error: not a line of a listing: lda #<put+1'
 refuses 'one less after <' 'put := $1234\n .byte <put-1\n' 2 'syntax error: other directives and operands (see ca65): .byte <put-1'
-refuses 'a half of a difference without parentheses' 'put := $1234\n lda #<put-put\n' 2 'syntax error: not a line of a listing: lda #<put-put'
+refuses 'a half of a difference without parentheses' 'put := $1234\n lda #<put-put\n' 2 \
+    'syntax error: not a line of a listing: lda #<put-put'
 refuses 'a half of a half' 'put := $1234\n .lobytes <put\n' 2 'syntax error: other directives and operands (see ca65): .lobytes <put'
 refuses 'half of nothing' ' nop\n lda #<\n' 2 'syntax error: not a line of a listing: lda #<'
 refuses 'a table of nothing' ' .lobytes\n' 1 'syntax error: other directives and operands (see ca65): .lobytes'
@@ -187,7 +196,8 @@ refuses 'half of a reserved name' ' lda #<x\n' 1 'syntax error: not a line of a 
 refuses 'a half and a carriage return' ' lda #<1\r\n' 1 'syntax error: a carriage return ends the line: lines end with a line feed: lda #<1'
 refuses 'a half of an undefined name' 'put := $1234\n lda #<pet\n' 2 'undefined name: pet: lda #<pet'
 refuses 'an undefined name in .byte' 'put := $1234\n .byte <put,>pet\n' 2 'undefined name: pet: .byte <put,>pet'
-refuses 'the first of the undefined names in halves' 'put := $1234\n .byte <put,>pet,1,<pot\n' 2 'undefined name: pet: .byte <put,>pet,1,<pot'
+refuses 'the first of the undefined names in halves' 'put := $1234\n .byte <put,>pet,1,<pot\n' 2 \
+    'undefined name: pet: .byte <put,>pet,1,<pot'
 refuses 'a branch too far below a half' ' lda #<far\n bne far\nfar := $2000\n' 2 'value out of range: branch too far: 4092 bytes: bne far'
 refuses 'a half of a value that has no room' ' nop\n .lobytes $FFFF,$10000\n' 2 'value out of range: .lobytes $FFFF,$10000'
 refuses 'a half of a value below 0' 'zero := 0\n lda #<(zero-1)\n' 2 'value out of range: lda #<(zero-1)'
@@ -205,20 +215,27 @@ refuses 'a half out of range with others that are not' ' .byte <1,>$10000,<2\n' 
 
 gives 'a value as a number' 'small := $20\n lda #small\n ldx #small+2-1\n .byte small,"A",small+$DF,1,later-1\nlater := 1\n' \
     '\xa9\x20\xa2\x21\x20A\xff\x01\x00' -S 0x1000
-gives 'differences' 'start: lda #end-start\n ldx #<(end-start)\n ldy #>(end-start)\n .byte end-start,>(end-start),<(far-end)\nend:\nfar := $2009\n' \
+gives 'differences' \
+    'start: lda #end-start\n ldx #<(end-start)\n ldy #>(end-start)\n .byte end-start,>(end-start),<(far-end)\nend:\nfar := $2009\n' \
     '\xa9\x09\xa2\x09\xa0\x00\x09\x00\x00' -S 0x2000
-gives 'differences in tables' 'here:\nfar := $3234\n.word far-here,here-here\n.dbyt far - here\n.addr far-here\n.dword far-here\n.lobytes far-here\n.hibytes far-here\n' \
+gives 'differences in tables' \
+    'here:\nfar := $3234\n.word far-here,here-here\n.dbyt far - here\n.addr far-here\n.dword far-here\n'\
+'.lobytes far-here\n.hibytes far-here\n' \
     '\x34\x12\x00\x00\x12\x34\x34\x12\x34\x12\x00\x00\x34\x12' -S 0x2000
 gives 'the largest difference of a byte' 'a1 := $1000\nb1 := $10FF\n lda #b1-a1\n .byte b1-a1\n' '\xa9\xff\xff' -S 0
 gives 'the largest difference' 'a1 := 0\nb1 := $FFFF\n.word b1-a1\n' '\xff\xff' -S 0
-gives 'reserved bytes' 'first: .res 3\n.RES 2,$FF\n.res 0\n.res 1 , %11 ; three\nlast: .addr first,last\n' '\x00\x00\x00\xff\xff\x03\x00\x10\x06\x10' -S 0x1000
+gives 'reserved bytes' 'first: .res 3\n.RES 2,$FF\n.res 0\n.res 1 , %11 ; three\nlast: .addr first,last\n' \
+    '\x00\x00\x00\xff\xff\x03\x00\x10\x06\x10' -S 0x1000
 "$program" -S 0 <<<' .res 65535' >stdout 2>stderr
 ends 'the most bytes that are reserved' 0 $? ''
 same 'the most bytes that are reserved' stdout <(head -c 65535 /dev/zero)
-gives 'binary numbers' ' lda #%1010\n ldx #%0\n .byte %11111111,%00000000001\n .word %1000000000000000\n' '\xa9\x0a\xa2\x00\xff\x01\x00\x80' -S 0
+gives 'binary numbers' ' lda #%1010\n ldx #%0\n .byte %11111111,%00000000001\n .word %1000000000000000\n' \
+    '\xa9\x0a\xa2\x00\xff\x01\x00\x80' -S 0
 gives 'characters' " lda #'A'\n .byte 'a',' ','~','\"',';',''',\"'\"\n lda 'A'\n .word 'A'\n" '\xa9A\x61 ~\x22;\x27\x27\xa5AA\x00' -S 0
-gives 'constants with =' 'zp=$20\nfar = $1234 ; a constant\n lda zp\n lda far\n lda later\nlater = $30\n' '\xa5\x20\xad\x34\x12\xad\x30\x00' -S 0x1000
-gives 'the accumulator without a' ' asl\n lsr\n ROL\n ror ; twice\nlabel: asl\n .setcpu "65sc02"\n inc\n dec\n' '\x0a\x4a\x2a\x6a\x0a\x1a\x3a' -S 0
+gives 'constants with =' 'zp=$20\nfar = $1234 ; a constant\n lda zp\n lda far\n lda later\nlater = $30\n' \
+    '\xa5\x20\xad\x34\x12\xad\x30\x00' -S 0x1000
+gives 'the accumulator without a' ' asl\n lsr\n ROL\n ror ; twice\nlabel: asl\n .setcpu "65sc02"\n inc\n dec\n' \
+    '\x0a\x4a\x2a\x6a\x0a\x1a\x3a' -S 0
 refuses 'an accumulator that the CPU lacks' ' nop\n inc\n' 2 'no such form: inc'
 refuses 'an instruction without its operand' ' lda\n' 1 'no such form: lda'
 refuses 'a value that is no byte' 'small := $20\n lda #small+$E0\n' 2 'value out of range: lda #small+$E0'
@@ -232,10 +249,12 @@ refuses 'a difference of a name that is no address' ' .word big-one\nbig := $100
 for text in '.word one-two' 'lda #one-here' '.byte here-here,here-one,two' '.hibytes one' 'lda #<(here-one)'; do
     refuses "an undefined name of a difference in $text" "here:\n $text\n" 2 "undefined name: one: $text"
 done
-for text in 'lda a1-b1' 'jmp a1-b1' 'lda a1-b1,x' 'lda (a1-b1),y' 'lda a:a1-b1' 'lda #(a1-b1)' 'lda #a1-b1-1' 'lda #a1-b1+1' 'lda #5-a1' 'lda #a1+1-b1' 'lda #a1-2' 'lda #<<a1' 'lda #<(a1' 'lda #<()'; do
+for text in 'lda a1-b1' 'jmp a1-b1' 'lda a1-b1,x' 'lda (a1-b1),y' 'lda a:a1-b1' 'lda #(a1-b1)' 'lda #a1-b1-1' \
+    'lda #a1-b1+1' 'lda #5-a1' 'lda #a1+1-b1' 'lda #a1-2' 'lda #<<a1' 'lda #<(a1' 'lda #<()'; do
     refuses "what is no value in $text" "a1 := 4\nb1 := 1\n $text\n" 3 "syntax error: not a line of a listing: $text"
 done
-for text in '.word (a1-b1)' '.byte (a1)' '.byte a1-b1-b1' '.word <a1' '.byte <a1,' '.byte <"A"' '.lobytes "A"' '.res' '.res a1' '.res 1,a1' '.res 1,2,3' '.res 1,' '.res "A"' '.word "A"'; do
+for text in '.word (a1-b1)' '.byte (a1)' '.byte a1-b1-b1' '.word <a1' '.byte <a1,' '.byte <"A"' '.lobytes "A"' '.res' \
+    '.res a1' '.res 1,a1' '.res 1,2,3' '.res 1,' '.res "A"' '.word "A"'; do
     refuses "what is no value in $text" "a1 := 4\nb1 := 1\n $text\n" 3 "syntax error: other directives and operands (see ca65): $text"
 done
 for text in '.res 65536' '.res 1,256' '.res 70000,70000'; do
@@ -244,7 +263,8 @@ done
 refuses 'reserved bytes past the end' ' nop\n.res $F000\n' 2 'past the end of the address space: .res $F000'
 printf 'start: lda #end-start\n.res 3\nend:\n.segment "TWO"\n asl\n' >edited.s
 printf '\xa9\x04\x00\x01\x00\x4a' >edited.bin
-runs 'an edited listing that differs' 1 '$1001: 04 -> 05, line 1: start: lda #end-start\n$1003: 01 -> 00, line 2: .res 3\n$1005: 4A -> 0A, line 5: asl\n' '' \
+runs 'an edited listing that differs' 1 \
+    '$1001: 04 -> 05, line 1: start: lda #end-start\n$1003: 01 -> 00, line 2: .res 3\n$1005: 4A -> 0A, line 5: asl\n' '' \
     -S 0x1000 --compare edited.bin edited.s
 
 # ---- segments that stay at their place
@@ -285,19 +305,25 @@ places 'a segment that is entered twice without bytes' ' .segment "TWO"\n.segmen
 places 'a label before a segment is not moved' 'here: .segment "TWO"\nthere: .addr here,there\n' '\xff\xff\xff\xff\x00\x10\x04\x10'
 places 'a segment of another name, and .code' ' nop\n.segment "two"\n nop\n.code\n nop\n' '\xea\xea\xea'
 places 'a distance over what is filled' 'a1: nop\n.segment "TWO"\nb1: lda #b1-a1\n' '\xea\xff\xff\xff\xa9\x04'
-refuses_place 'a segment past its start' ' .res 7\n.segment "TWO" ; here\n' 2 'segment past its start: 3 bytes past $1004: .segment "TWO" ; here'
-refuses_place 'a segment that is entered again' ' .segment "TWO"\n rts\n.segment "TWO"\n' 3 'segment past its start: 1 bytes past $1004: .segment "TWO"'
-refuses_place 'a segment after a later one' ' .segment "VECTORS"\nx1: .segment "TWO"\n' 2 'segment past its start: 4 bytes past $1004: x1: .segment "TWO"'
-refuses_place 'a label defined twice before a segment past its start' 'x1: .res 7\nx1: .segment "TWO"\n' 2 'name defined twice: x1: .segment "TWO"'
+refuses_place 'a segment past its start' ' .res 7\n.segment "TWO" ; here\n' 2 \
+    'segment past its start: 3 bytes past $1004: .segment "TWO" ; here'
+refuses_place 'a segment that is entered again' ' .segment "TWO"\n rts\n.segment "TWO"\n' 3 \
+    'segment past its start: 1 bytes past $1004: .segment "TWO"'
+refuses_place 'a segment after a later one' ' .segment "VECTORS"\nx1: .segment "TWO"\n' 2 \
+    'segment past its start: 4 bytes past $1004: x1: .segment "TWO"'
+refuses_place 'a label defined twice before a segment past its start' 'x1: .res 7\nx1: .segment "TWO"\n' 2 \
+    'name defined twice: x1: .segment "TWO"'
 printf 'SEGMENT { START $FFFA; END $FFFF; NAME "VECTORS"; };' >vectors.info
 printf ' nop\n nop\n nop\n.segment "VECTORS"\n .word 1,2,3\n' >vectors.s
-runs 'vectors past their start' 1 '' 'as65: vectors.s:4: segment past its start: 3 bytes past $FFFA: .segment "VECTORS"\n' -S 0xFFFA -i vectors.info --fill 0 vectors.s
+runs 'vectors past their start' 1 '' 'as65: vectors.s:4: segment past its start: 3 bytes past $FFFA: .segment "VECTORS"\n' -S 0xFFFA -i \
+    vectors.info --fill 0 vectors.s
 runs 'vectors at their start' 0 '\xea\xea\xea\x01\x00\x02\x00\x03\x00' '' -S 0xFFF7 -i vectors.info --fill 0 vectors.s
 printf 'SEGMENT { START $1004; END $1004; NAME "TWO"; };\nSEGMENT { START $1008; END $1008; NAME "TWO"; };' >again.info
 printf ' nop\n.segment "TWO"\n rts\n' >again.s
 runs 'the first of the segments of a name' 0 '\xea\xff\xff\xff\x60' '' -S 0x1000 -i again.info --fill 0xff again.s
 runs 'segments at their place do not differ' 0 '' '' -i places.info --fill 0xff --compare places.bin places.s
-runs 'segments at their place, with another byte between' 1 '$1001: FF FF FF -> EA EA EA, line 2: .segment "TWO"\n$1005: FF FF FF -> EA EA EA, line 4: .segment "VECTORS"\n' '' \
+runs 'segments at their place, with another byte between' 1 \
+    '$1001: FF FF FF -> EA EA EA, line 2: .segment "TWO"\n$1005: FF FF FF -> EA EA EA, line 4: .segment "VECTORS"\n' '' \
     -i places.info --fill 0xea --compare places.bin places.s
 
 # ---- a comparison
@@ -309,7 +335,8 @@ printf '\x4c\xfd\xff' >here.bin
 runs 'the start is that of the image' 0 '' '' --compare here.bin here.s
 runs 'another start' 1 '$1001: FD FF -> 00 10, line 1: here: jmp here\n' '' -S 0x1000 --compare here.bin here.s
 printf '\xa9\x02\x60' >other.bin
-runs 'one byte differs' 1 '$FFFE: 02 -> 01, line 5: lda     #$01\n' 'as65: other.bin is taken to begin at $FFFD\n' --compare other.bin three.s
+runs 'one byte differs' 1 '$FFFE: 02 -> 01, line 5: lda     #$01\n' 'as65: other.bin is taken to begin at $FFFD\n' --compare other.bin \
+    three.s
 runs 'one byte differs, at a start' 1 '$1001: 02 -> 01, line 5: lda     #$01\n' '' -S 4096 --compare other.bin three.s
 printf 'first: nop ; one\n\n nop\n.byte 1,2,3,4,5,6,7,8,9,10\n nop\n' >stretches.s
 printf '\x00\xea\x00\x00\x00\x00\x00\x00\x00\x00\x00\x0a\x00' >stretches.bin
@@ -317,21 +344,25 @@ runs 'stretches' 1 "\$2000: 00 -> EA, line 1: first: nop ; one\n\
 \$2002: 00 00 00 00 00 00 00 00 .. -> 01 02 03 04 05 06 07 08 .., line 4: .byte 1,2,3,4,5,6,7,8,9,10\n\
 \$200C: 00 -> EA, line 5: nop\n" '' -S 0x2000 --compare stretches.bin stretches.s
 printf '\xea\xea\x01\x02\x03\x04\x05\x06\x07\x08\x09\x00\xea' >stretches.bin
-runs 'a stretch of one byte in a line of ten' 1 '$200B: 00 -> 0A, line 4: .byte 1,2,3,4,5,6,7,8,9,10\n' '' -S 0x2000 --compare stretches.bin stretches.s
+runs 'a stretch of one byte in a line of ten' 1 '$200B: 00 -> 0A, line 4: .byte 1,2,3,4,5,6,7,8,9,10\n' '' -S 0x2000 --compare \
+    stretches.bin stretches.s
 printf '\xea\xea\x01\x00\x03\x00\x05\x06\x07\x08\x09\x0a\xea' >stretches.bin
 printf '\xea\xea\x09\x09\x09\x09\x09\x09\x09\x09\x09\x0a\xea' >stretches.bin
-runs 'a stretch of exactly eight bytes' 1 "\$2002: 09 09 09 09 09 09 09 09 -> 01 02 03 04 05 06 07 08, line 4: .byte 1,2,3,4,5,6,7,8,9,10\n" '' \
+runs 'a stretch of exactly eight bytes' 1 \
+    "\$2002: 09 09 09 09 09 09 09 09 -> 01 02 03 04 05 06 07 08, line 4: .byte 1,2,3,4,5,6,7,8,9,10\n" '' \
     -S 0x2000 --compare stretches.bin stretches.s
 printf '\xea\xea\x01\x00\x03\x00\x05\x06\x07\x08\x09\x0a\xea' >stretches.bin
 runs 'two stretches in one line' 1 "\$2003: 00 -> 02, line 4: .byte 1,2,3,4,5,6,7,8,9,10\n\
 \$2005: 00 -> 04, line 4: .byte 1,2,3,4,5,6,7,8,9,10\n" '' -S 0x2000 --compare stretches.bin stretches.s
 printf ' nop ; \x1b[2J\x7f\ttab \r \t\n' >control.s
-runs 'control bytes of a line' 1 '$1000: A9 -> EA, line 1: nop ; ?[2J??tab\nthe image has 3 bytes, the listing 1\n' '' -S 0x1000 --compare three.bin control.s
+runs 'control bytes of a line' 1 '$1000: A9 -> EA, line 1: nop ; ?[2J??tab\nthe image has 3 bytes, the listing 1\n' '' -S 0x1000 --compare \
+    three.bin control.s
 for len in 80 81 5000; do
     { printf ' nop ;'; head -c $((len - 5)) /dev/zero | tr '\0' x; echo ' '; } >wide.s
     dots=
     [ "$len" = 80 ] || dots=' ..'
-    runs "a line of $len characters" 1 "\$1000: A9 -> EA, line 1: nop ;$(head -c 75 /dev/zero | tr '\0' x)$dots\nthe image has 3 bytes, the listing 1\n" '' \
+    runs "a line of $len characters" 1 \
+        "\$1000: A9 -> EA, line 1: nop ;$(head -c 75 /dev/zero | tr '\0' x)$dots\nthe image has 3 bytes, the listing 1\n" '' \
         -S 0x1000 --compare three.bin wide.s
 done
 yes ' .byte 0,1' | head -n 32768 >every.s
@@ -341,15 +372,18 @@ ends 'every second byte' 1 $? ''
 [ "$(wc -l <stdout)" = 32768 ] || fails 'every second byte' "$(wc -l <stdout) lines and not 32768"
 [ "$(tail -n 1 stdout)" = '$FFFF: 00 -> 01, line 32768: .byte 0,1' ] || fails 'every second byte' "$(tail -n 1 stdout)"
 printf '\xa9\x01\x60\xea' >more.bin
-runs 'a listing with fewer bytes, without a start' 1 'the image has 4 bytes, the listing 3\n' 'as65: more.bin is taken to begin at $FFFC\n' --compare more.bin three.s
+runs 'a listing with fewer bytes, without a start' 1 'the image has 4 bytes, the listing 3\n' \
+    'as65: more.bin is taken to begin at $FFFC\n' --compare more.bin three.s
 printf '\xa9\x01' >short.bin
 runs 'a listing with more bytes' 1 'the image has 2 bytes, the listing 3\n' '' -S 0 --compare short.bin three.s
 printf '\xa9\x02\x60\xea' >long.bin
-runs 'a listing with fewer bytes' 1 '$0001: 02 -> 01, line 5: lda     #$01\nthe image has 4 bytes, the listing 3\n' '' -S 0 --compare long.bin three.s
+runs 'a listing with fewer bytes' 1 '$0001: 02 -> 01, line 5: lda     #$01\nthe image has 4 bytes, the listing 3\n' '' -S 0 --compare \
+    long.bin three.s
 printf '; nothing\n' >nothing.s
 runs 'a listing that gives no byte, beside an image' 2 '' 'as65: nothing.s: no bytes\n' -S 0 --compare three.bin nothing.s
 runs '64 KiB that do not differ' 0 '' '' --compare large.bin large.s
-runs '64 KiB that differ' 1 '$0000: 00 00 00 00 00 00 00 00 .. -> EA EA EA EA EA EA EA EA .., line 1: nop\n' 'as65: zeros.bin is taken to begin at $0000\n' --compare zeros.bin large.s
+runs '64 KiB that differ' 1 '$0000: 00 00 00 00 00 00 00 00 .. -> EA EA EA EA EA EA EA EA .., line 1: nop\n' \
+    'as65: zeros.bin is taken to begin at $0000\n' --compare zeros.bin large.s
 "$program" --compare other.bin <three.s >stdout 2>stderr
 ends 'a comparison with standard input' 1 $? 'as65: other.bin is taken to begin at $FFFD\n'
 holds 'a comparison with standard input' stdout '$FFFE: 02 -> 01, line 5: lda     #$01\n'
@@ -360,7 +394,8 @@ for image in /dev/stdin -; do
 done
 printf 'put := $1234\n nop\n ; here\n lda #>put\n.lobytes put,put+1\n' >halves.s
 printf '\xea\xa9\x34\x34\x36' >halves.bin
-runs 'halves that differ' 1 '$1002: 34 -> 12, line 4: lda #>put\n$1004: 36 -> 35, line 5: .lobytes put,put+1\n' '' -S 0x1000 --compare halves.bin halves.s
+runs 'halves that differ' 1 '$1002: 34 -> 12, line 4: lda #>put\n$1004: 36 -> 35, line 5: .lobytes put,put+1\n' '' -S 0x1000 --compare \
+    halves.bin halves.s
 printf '\xea\xa9\x12\x34\x35' >halves.bin
 runs 'halves that do not differ' 0 '' '' -S 0x1000 --compare halves.bin halves.s
 runs 'a fault before a comparison' 2 '' "as65: three.s:6: past the end of the address space: rts\n" -S 0xFFFE --compare short.bin three.s
@@ -375,14 +410,18 @@ speaks() {
 }
 
 speaks 'labels of another start' 'L1000: lda #$01\nL1002: rts\n' 'as65: 2 of the labels LXXXX would be at $XXXX with -S 0x1000\n'
-speaks 'labels of another start, one of them in half' 'L1000: lda #<L1002\nL1002: rts\n' 'as65: 2 of the labels LXXXX would be at $XXXX with -S 0x1000\n'
-speaks 'a label of another start after others' 'first: lda #$01\nL0FF2: rts\n' 'as65: 1 of the labels LXXXX would be at $XXXX with -S 0x0FF0\n'
-speaks 'a label of another start, and a constant' 'L2000 := $2000\nfirst: lda #$01\nL0FF2: rts\n' 'as65: 1 of the labels LXXXX would be at $XXXX with -S 0x0FF0\n'
+speaks 'labels of another start, one of them in half' 'L1000: lda #<L1002\nL1002: rts\n' \
+    'as65: 2 of the labels LXXXX would be at $XXXX with -S 0x1000\n'
+speaks 'a label of another start after others' 'first: lda #$01\nL0FF2: rts\n' \
+    'as65: 1 of the labels LXXXX would be at $XXXX with -S 0x0FF0\n'
+speaks 'a label of another start, and a constant' 'L2000 := $2000\nfirst: lda #$01\nL0FF2: rts\n' \
+    'as65: 1 of the labels LXXXX would be at $XXXX with -S 0x0FF0\n'
 speaks 'labels of two starts' 'L2000: lda #$01\nL1002:\nL2002: rts\n' 'as65: 2 of the labels LXXXX would be at $XXXX with -S 0x2000\n'
 speaks 'a label at its place before one that is not' 'LFFFD: lda #$01\nL1002: rts\n' ''
 speaks 'names of another form' 'l1000:\nL100:\nLABCG:\nL10_0:\nLabcd:\nM1000: lda #$01\nL10000: rts\n' ''
 speaks 'a first name whose start would be below 0' ' lda #$01\nL0001:\nL1002: rts\n' ''
-speaks 'a name whose start would be below 0 after another' ' lda #$01\nL1002:\nL0001: rts\n' 'as65: 1 of the labels LXXXX would be at $XXXX with -S 0x1000\n'
+speaks 'a name whose start would be below 0 after another' ' lda #$01\nL1002:\nL0001: rts\n' \
+    'as65: 1 of the labels LXXXX would be at $XXXX with -S 0x1000\n'
 speaks 'a start from which the image has no room' 'LFFFE: lda #$01\n' ''
 speaks 'a start from which the image has just room' 'LFFFC: lda #$01\n' 'as65: 1 of the labels LXXXX would be at $XXXX with -S 0xFFFC\n'
 speaks 'a name whose start would be 0' ' lda #$01\nL0002: rts\n' 'as65: 1 of the labels LXXXX would be at $XXXX with -S 0x0000\n'
@@ -421,7 +460,8 @@ is_absent 'an output that is the input of the information file' new.bin
 cp three.bin new.bin
 ln -s new.bin link.bin
 for name in ./new.bin link.bin; do
-    runs "an output that is the input of the information file, $name" 1 '' "as65: the output is an input: $name\n" -i named.info -o $name here.s
+    runs "an output that is the input of the information file, $name" 1 '' "as65: the output is an input: $name\n" -i named.info -o $name \
+        here.s
     same "an output that is the input of the information file, $name" new.bin three.bin
 done
 for words in '' '--compare other.bin'; do
@@ -524,7 +564,8 @@ if [ -e /dev/full ]; then
 fi
 # ---- calls and memory
 
-# counts NAME OPENS READS WRITES ALL WORD..: the program opens that many files, reads and writes that often, and asks for at most ALL bytes of memory.
+# counts NAME OPENS READS WRITES ALL WORD..: the program opens that many files, reads and writes that often, and asks for at most ALL bytes
+# of memory.
 counts() {
     local name=$1 wanted="$2 $3 $4" all=$5 opens reads writes most asked allocations
     shift 5

@@ -1,15 +1,14 @@
 #!/usr/bin/env bash
 # The programs beside those of cc65. Each information file of tests/peer goes through this program and through cc65's da65, and what they
-# say is compared with the tables of docs/DIFFERENCES.md: each row has the file's name, what this program says, what cc65's says, and how the
-# listings compare. With `rows` in place of a count the rows that were found are printed, and nothing else is done.
-# The names of names/ have the values that they have in the include files of cc65.
-# Then random images of each CPU with random ranges, names, segments, comments and columns, and every example, are listed, and each
-# listing is assembled with the real ca65 and ld65, and with the as65 beside the program: the result must be the image. Then
-# random texts go to both, as people write them who edit a listing, most of them right: both give the same bytes, or both refuse
-# the text. The same seed gives the same images and texts. At last a text has its segments at their place in both.
-# Left out, since ca65 treats them in its own way: a segment named ZEROPAGE, a byte $FF in a comment, and what `excused` names.
-# Without ca65 and ld65 it fails, unless CA65=skip is set.
-# Usage: tests/ca65.sh PROGRAM [COUNT [SEED [TEXTS]]]      COUNT is that of images; PEER is cc65's da65, /usr/bin/da65 if it is not set
+# say is compared with the tables of docs/DIFFERENCES.md: each row has the file's name, what this program says, what cc65's says, and how
+# the listings compare. With `rows` in place of a count the rows that were found are printed, and nothing else is done. The names of names/
+# have the values that they have in the include files of cc65. Then random images of each CPU with random ranges, names, segments, comments
+# and columns, and every example, are listed, and each listing is assembled with the real ca65 and ld65, and with the as65 beside the
+# program: the result must be the image. Then random texts go to both, as people write them who edit a listing, most of them right: both
+# give the same bytes, or both refuse the text. The same seed gives the same images and texts. At last a text has its segments at their
+# place in both. Left out, since ca65 treats them in its own way: a segment named ZEROPAGE, a byte $FF in a comment, and what `excused`
+# names. Without ca65 and ld65 it fails, unless CA65=skip is set. Usage: tests/ca65.sh PROGRAM [COUNT [SEED [TEXTS]]]      COUNT is that of
+# images; PEER is cc65's da65, /usr/bin/da65 if it is not set
 set -u
 program=$(realpath "$1")
 as65=$(dirname "$program")/as65
@@ -95,15 +94,16 @@ fi
 
 # ---- names of machines
 
-# names_agree FILE COUNT OTHERS INCLUDE..: these include files of cc65 have so many of the names of names/FILE.inc, or more, and give them the
-# same values, but for the others.
+# names_agree FILE COUNT OTHERS INCLUDE..: these include files of cc65 have so many of the names of names/FILE.inc, or more, and give them
+# the same values, but for the others.
 names_agree() {
     local file=$1 count=$2 others=$3 include both name
     shift 3
     {
         echo 'names_of_both .set 0'
         for include; do printf '.include "%s.inc"\n' "$include"; done
-        sed -nE 's/^(\w+) += (\$....)  ;.*/.ifdef \1\n.assert \1 = \2, warning, "\1"\nnames_of_both .set names_of_both + 1\n.endif/p' "$root/names/$file.inc"
+        sed -nE 's/^(\w+) += (\$....)  ;.*/.ifdef \1\n.assert \1 = \2, warning, "\1"\nnames_of_both .set names_of_both + 1\n.endif/p' \
+            "$root/names/$file.inc"
         echo '.out .sprintf("%d", names_of_both)'
     } >names.s
     both=$(ca65 -o names.o -D "__${file^^}__" names.s 2>messages) || fails "names/$file.inc" "$(cat messages)"
@@ -593,11 +593,13 @@ printf 'SEGMENT { START $1010; END $1FFF; NAME "TABLES"; };\nSEGMENT { START $2F
 printf 'start: lda #<last\n ldx #last-start\nlast:\n.segment "TABLES"\nthere: .addr start,there,last\n .res 3\n' >places.s
 printf '.segment "VECTORS"\nend: .word end-there,end,start\n' >>places.s
 printf 'MEMORY { ROM: start = $1000, size = $2000, file = %%O, fill = yes, fillval = $EA; }\n' >places.cfg
-printf 'SEGMENTS { CODE: load = ROM, type = ro; TABLES: load = ROM, type = ro, start = $1010; VECTORS: load = ROM, type = ro, start = $2FFA; }\n' >>places.cfg
+printf 'SEGMENTS { CODE: load = ROM, type = ro;'\
+' TABLES: load = ROM, type = ro, start = $1010; VECTORS: load = ROM, type = ro, start = $2FFA; }\n' >>places.cfg
 sed 's/\.res 3/.res 3,$00/' places.s >linked.s
 ca65 -o places.o linked.s && ld65 -C places.cfg -o linked.out places.o || stops 'segments at their place' 'ca65 and ld65'
 "$as65" -S 0x1000 -i places.info --fill '$EA' -o places.out places.s || stops 'segments at their place' 'as65'
 cmp linked.out places.out || stops 'segments at their place' 'other bytes'
 
-[ "$failed" = 0 ] && echo "ca65: each of $compared listings assembles to its image, $agreed of $texts texts give the same bytes, and both refuse $refused"
+[ "$failed" = 0 ] && echo "ca65: each of $compared listings assembles to its image, $agreed of $texts texts give the same bytes," \
+    "and both refuse $refused"
 exit "$failed"

@@ -6,9 +6,10 @@
 #   ```        are excerpts: their lines stand, one after the other, in what the last commands printed or in a file that the page made
 #
 # and in its tables a command `bin/da65 ..` or `bin/as65 ..` is run, and where a row has an information file or a command, and beside it
-# the message `da65: ..` or the word nothing, that is what the program says. The assembler is the as65 beside the program. The examples of as65's and trace65's man pages are
-# run, and that of da65's at five addresses, and for 64 KiB. So are the rows of docs/INFORMATION_FILE.md that have a message.
-# Without ca65 and ld65 the script fails, unless CA65=skip is set: then each section ends at the first block that needs them.
+# the message `da65: ..` or the word nothing, that is what the program says. The assembler is the as65 beside the program. The examples of
+# as65's and trace65's man pages are run, and that of da65's at five addresses, and for 64 KiB. So are the rows of docs/INFORMATION_FILE.md
+# that have a message. Without ca65 and ld65 the script fails, unless CA65=skip is set: then each section ends at the first block that needs
+# them.
 #
 # Then it installs, under the programs' names and under others, and takes everything away again: bash and zsh complete every option of the
 # help texts, and the man pages are well formed and refer to nothing that is not installed. zsh and mandoc are left out where they are
@@ -243,7 +244,8 @@ zsh_completes() {
 for prefix in '' proved-; do
     made=$work/made$prefix
     make -s install DESTDIR="$made" PREFIX=/usr PROGRAM_PREFIX="$prefix" || fails installing "make install PROGRAM_PREFIX=$prefix"
-    diff <(installed "$prefix" | sort) <(cd "$made/usr" && find . -type f | sed 's,^\./,,' | sort) || fails installing "other files with PROGRAM_PREFIX=$prefix"
+    diff <(installed "$prefix" | sort) <(cd "$made/usr" && find . -type f | sed 's,^\./,,' | sort) ||
+        fails installing "other files with PROGRAM_PREFIX=$prefix"
     for program in da65 as65 trace65 name65; do
         name=$prefix$program
         cmp -s "bin/$program" "$made/usr/bin/$name" || fails installing "$name is another program"
@@ -251,7 +253,8 @@ for prefix in '' proved-; do
         while read -r option; do
             bash_completes "$made/usr/share/bash-completion/completions/$name" "$name" "$option" | grep -qxe "$option" ||
                 fails installing "bash does not complete $option after $name"
-            ! command -v zsh >/dev/null || grep -qE -- "(^|[ ])$option " <<<"$listed" || fails installing "zsh does not complete $option after $name"
+            ! command -v zsh >/dev/null || grep -qE -- "(^|[ ])$option " <<<"$listed" ||
+                fails installing "zsh does not complete $option after $name"
         done < <(options "$program")
     done
     cpus=$(bash_completes "$made/usr/share/bash-completion/completions/${prefix}da65" "${prefix}da65" --cpu 65 | tr '\n' ' ')
@@ -269,5 +272,6 @@ else
     echo 'docs: mandoc is not installed, so no man page was looked at'
 fi
 command -v zsh >/dev/null || echo 'docs: zsh is not installed, so its completion was not run'
-[ "$failed" = 0 ] && echo "docs: ran $ran commands and found $shown excerpts; left out $left_out; everything is installed and taken away, and every option completed"
+[ "$failed" = 0 ] && echo "docs: ran $ran commands and found $shown excerpts; left out $left_out;" \
+    "everything is installed and taken away, and every option completed"
 exit "$failed"

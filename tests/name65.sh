@@ -107,7 +107,8 @@ refuses 'past $FFFF' 'HALVES { LOW $1001; HIGH $FFFF; SIZE 2; };' 'x1: lda #$00\
 refuses 'a byte of an instruction' 'ENTRY { ADDR 1; };\nHALVES { LOW $1000; HIGH $1002; };' 'x1 := $10A9\nlda #0\n.byte $10\n' \
     'info:2: no number stands alone for what is at $1000'
 refuses 'a byte of an address' 'HALVES { LOW $1001; HIGH $1002; };' 'x1: jmp $1000\n' 'info:1: no number stands alone for what is at $1001'
-refuses 'a byte of a string' 'HALVES { LOW $1000; HIGH $1001; };' 'x1 := $1041\n.byte "A",$10\n' 'info:1: no number stands alone for what is at $1000'
+refuses 'a byte of a string' 'HALVES { LOW $1000; HIGH $1001; };' 'x1 := $1041\n.byte "A",$10\n' \
+    'info:1: no number stands alone for what is at $1000'
 refuses 'a byte that is a half already' 'HALVES { LOW $1001; HIGH $1003; };' 'x1: lda #<x1\nldx #$10\n' \
     'info:1: no number stands alone for what is at $1001'
 refuses 'a byte of two groups' 'HALVES { LOW $1001; HIGH $1003; };\nHALVES { LOW $1001; ADDR $1000; };' 'x1: lda #$00\nldx #$10\n' \
@@ -115,7 +116,8 @@ refuses 'a byte of two groups' 'HALVES { LOW $1001; HIGH $1003; };\nHALVES { LOW
 refuses 'an address without a name' 'HALVES { LOW $1001; HIGH $1003; };' 'x1: lda #$01\nldx #$10\n' \
     'info:1: no name at $1001: LABEL { ADDR $1001; NAME "L1001"; };'
 refuses 'another half' 'HALVES { LOW $1001; ADDR $1000; };' 'x1: lda #$10\n' 'info:1: the byte at $1001 is not this half of $1000'
-refuses 'another length' 'DIFFERENCE { ADDR $1000; FROM $1000; TO $1002; };' 'x1: .word 3\nx2: rts\n' 'info:1: the word at $1000 is not TO - FROM'
+refuses 'another length' 'DIFFERENCE { ADDR $1000; FROM $1000; TO $1002; };' 'x1: .word 3\nx2: rts\n' \
+    'info:1: the word at $1000 is not TO - FROM'
 refuses 'a length in bytes' 'DIFFERENCE { ADDR $1000; FROM $1000; TO $1002; };' 'x1: .byte 2,0\nx2: rts\n' \
     'info:1: no number stands alone for what is at $1000'
 refuses 'variables inside the image' 'AFTER { START $1002; END $1010; };' 'lda $1010\n' 'info:1: START is inside the image: $1002'
@@ -137,7 +139,8 @@ comes_back() {
     proposes "$@"
     "$as65" -S "$2" --compare "$3" named.s || fails "$1" 'other bytes by as65'
     [ "${CA65-}" != skip ] || return
-    ca65 --relax-checks -o named.o named.s && ld65 -t none -S "$2" -D __STACKSTART__=0x10800 -o named.out named.o && cmp -s "$3" named.out ||
+    ca65 --relax-checks -o named.o named.s && ld65 -t none -S "$2" -D __STACKSTART__=0x10800 -o named.out named.o &&
+        cmp -s "$3" named.out ||
         fails "$1" 'other bytes by ca65 and ld65'
 }
 

@@ -66,7 +66,8 @@ runs 'the command line wins' 0 "$header        ora     (\$60,x)\n" '' -S 0x2000 
 runs 'a range' 0 "$header        .word   \$01A9\n        .byte   \$60\n" '' -i words.info three.bin
 runs 'skipped bytes' 0 "$header        .byte   \$A9\n        rts\n" \
     'da65: warning: skipped bytes, the listing does not assemble to the image\n' -i skip.info three.bin
-hello="${header}CHROUT          := \$FFD2\n\nLF000:  ldx     #\$00\nLF002:  lda     message,x\n        jsr     CHROUT\n        inx\n        cpx     #\$0A\n"
+hello="${header}CHROUT          := \$FFD2\n\nLF000:  ldx     #\$00\nLF002:  lda     message,x\n"
+hello+="        jsr     CHROUT\n        inx\n        cpx     #\$0A\n"
 hello+='        bne     LF002\n        rts\nmessage: .byte  "SAY ",$22,"HI",$22,$0D,$00\nvectors: .addr  LF000\n        .addr   message\n'
 hello+='        .word   $1234\n        .dbyt   $1234,$5678\n        .byte   $01,$02,$03,$04,$05,$06,$07,$08\n        .byte   $09,$0A\n'
 (cd "$root" && "$program" -i examples/hello.info -o "$work/hello.s") || fails 'the example with tables and names' 'status'
@@ -111,7 +112,8 @@ printf 'GLOBAL { STARTADDR $1000; };\nASMINC { FILE "one.inc"; };\nASMINC { FILE
 loads="${header}ab              := \$0020\ncd              := \$0021\n\n        lda     a:ab\n        lda     a:cd\n"
 runs 'two include files with names of one length' 0 "$loads" '' -i pair.info loads.bin
 : >empty.inc
-printf 'GLOBAL { STARTADDR $1000; };\nASMINC { FILE "empty.inc"; };\nASMINC { FILE "one.inc"; };\nASMINC { FILE "two.inc"; };' >after_empty.info
+printf 'GLOBAL { STARTADDR $1000; };\nASMINC { FILE "empty.inc"; };\nASMINC { FILE "one.inc"; };\nASMINC { FILE "two.inc"; };' \
+    >after_empty.info
 runs 'an empty include file' 0 "$loads" '' -i after_empty.info loads.bin
 # Each of sixteen include files gives the operand of one instruction its name, and the last of them is missing then.
 : >sixteen.bin
@@ -135,7 +137,8 @@ runs 'the last of sixteen include files is missing' 1 '' 'da65: cannot read incl
 for file in "$root"/names/*.inc; do
     cp "$file" machine.inc
     printf 'GLOBAL { STARTADDR $3000; };\nASMINC { FILE "machine.inc"; };' >machine.info
-    constants=$(sed -nE 's/^(\w+) += (\$....)  ;.*/\1 \2/p' machine.inc | while read -r name value; do printf '%-15s := %s\n' "$name" "$value"; done)
+    constants=$(sed -nE 's/^(\w+) += (\$....)  ;.*/\1 \2/p' machine.inc |
+        while read -r name value; do printf '%-15s := %s\n' "$name" "$value"; done)
     runs "the names of $(basename "$file")" 0 "$header$constants\n\n        lda     #\$01\n        rts\n" '' -i machine.info three.bin
 done
 

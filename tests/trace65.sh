@@ -198,7 +198,8 @@ shown 'the last character' 'READY~|.|' -S 0x1000 tilde.bin
 
 # rts at $1000; entries by a table of addresses, one of returns, and a range of code
 image table.bin '\x06\x10\x06\x10\xff\xff\x60\x60\x60\xff'
-image table.info 'RANGE { START $1000; END $1001; TYPE AddrTable; };\nRANGE { START $1002; END $1003; TYPE RtsTable; };\nRANGE { START $1008; END $1008; TYPE Code; };\n'
+image table.info 'RANGE { START $1000; END $1001; TYPE AddrTable; };\nRANGE { START $1002; END $1003; TYPE RtsTable; };\n'\
+'RANGE { START $1008; END $1008; TYPE Code; };\n'
 proposes 'entries of the information file' '1004-1005 ByteTable;1009-1009 ByteTable;' -S 0x1000 --plain -i table.info table.bin
 proposes 'rts alone is no sound beginning' '1004-1007 ByteTable;1009-1009 ByteTable;' -S 0x1000 -i table.info table.bin
 
@@ -208,8 +209,10 @@ proposes 'vectors' 'FFF6-FFF6 ByteTable;FFFA-FFFF AddrTable;' vectors.bin
 
 # What the monitor of the board has besides its tables and what the vectors and the command table reach: the routines that programs call,
 # and the jumps to them.
-proposes 'the monitor with its information file' 'FE3B-FE42 ByteTable;FEA0-FEC1 ByteTable;FEC8-FED6 ByteTable;FFDF-FFF9 ByteTable;' --plain -i examples/board/board.info
-proposes 'and with these routines as entries' 'FFDF-FFF9 ByteTable;' --plain -i examples/board/board.info --entry 0xFE3B,0xFEA0,0xFEAB,0xFED0
+proposes 'the monitor with its information file' 'FE3B-FE42 ByteTable;FEA0-FEC1 ByteTable;FEC8-FED6 ByteTable;FFDF-FFF9 ByteTable;' \
+    --plain -i examples/board/board.info
+proposes 'and with these routines as entries' 'FFDF-FFF9 ByteTable;' --plain -i examples/board/board.info --entry \
+    0xFE3B,0xFEA0,0xFEAB,0xFED0
 
 # ---- what is given at the wrong place
 
@@ -223,17 +226,23 @@ misplaced() {
 
 # lda $1234; nop; rts
 image operand.bin '\xad\x34\x12\xea\x60'
-misplaced 'entries right outside of the image' 'entry $0FFF is outside the image;entry $1005 is outside the image;' -S 0x1000 --entry 0x0fff,0x1000,0x1004,0x1005 operand.bin
-misplaced 'both operands, and the instruction after them' 'entry $1001 is inside the instruction at $1000;entry $1002 is inside the instruction at $1000;' \
+misplaced 'entries right outside of the image' 'entry $0FFF is outside the image;entry $1005 is outside the image;' -S 0x1000 --entry \
+    0x0fff,0x1000,0x1004,0x1005 operand.bin
+misplaced 'both operands, and the instruction after them' \
+    'entry $1001 is inside the instruction at $1000;entry $1002 is inside the instruction at $1000;' \
     -S 0x1000 --entry 0x1001,0x1002,0x1003 operand.bin
 # lda $adad; nop; rts; and from the second and the third byte on lda again
 image deep.bin '\xad\xad\xad\xea\x60'
 misplaced 'a byte of two instructions' 'entry $1002 is inside the instruction at $1001;entry $1001 is inside the instruction at $1000;' \
     -S 0x1000 --entry 0x1002,0x1001 deep.bin
-image wrong.info '#: ENTRY { ADDR $1006; };\nRANGE { START $0F00; END $0FFF; TYPE ByteTable; };\nRANGE { START $1005; END $1005; TYPE ByteTable; };\n'
-misplaced 'an entry of the file and ranges' 'entry $1006 is outside the image;range $0F00-$0FFF is outside the image;range $1005-$1005 is outside the image;' -S 0x1000 -i wrong.info operand.bin
+image wrong.info \
+    '#: ENTRY { ADDR $1006; };\nRANGE { START $0F00; END $0FFF; TYPE ByteTable; };\nRANGE { START $1005; END $1005; TYPE ByteTable; };\n'
+misplaced 'an entry of the file and ranges' \
+    'entry $1006 is outside the image;range $0F00-$0FFF is outside the image;range $1005-$1005 is outside the image;' -S 0x1000 -i \
+    wrong.info operand.bin
 image within.info '#: ENTRY { ADDR $1001; };\n'
-misplaced 'an entry of the file inside an instruction' 'entry $1001 is inside the instruction at $1000;' -S 0x1000 -i within.info operand.bin
+misplaced 'an entry of the file inside an instruction' 'entry $1001 is inside the instruction at $1000;' -S 0x1000 -i within.info \
+    operand.bin
 image wrong.info 'RANGE { START $0F00; END $1000; TYPE Code; };\nRANGE { START $1004; END $2000; TYPE Code; };\n'
 misplaced 'ranges with a byte of the image' 'entry $0F00 is outside the image;' -S 0x1000 -i wrong.info --entry 0xf00 operand.bin
 
@@ -293,11 +302,14 @@ proposes 'a vector that a range has a byte of' 'FFF6-FFF6 ByteTable;FFFA-FFFA By
 
 # rts; the words $1007 and $100B; two bytes; rts; three bytes; rts
 image rows.bin '\x60\x07\x10\x0b\x10\xff\xff\x60\xff\xff\xff\x60'
-proposes 'two words that are addresses of routines' '1001-1004 AddrTable;1005-1006 ByteTable;1008-100A ByteTable;' -S 0x1000 --entry 0x1007,0x100b rows.bin
-proposes 'plainly too' '1001-1004 AddrTable;1005-1006 ByteTable;1008-100A ByteTable;' -S 0x1000 --plain --entry 0x1000,0x1007,0x100b rows.bin
+proposes 'two words that are addresses of routines' '1001-1004 AddrTable;1005-1006 ByteTable;1008-100A ByteTable;' -S 0x1000 --entry \
+    0x1007,0x100b rows.bin
+proposes 'plainly too' '1001-1004 AddrTable;1005-1006 ByteTable;1008-100A ByteTable;' -S 0x1000 --plain --entry 0x1000,0x1007,0x100b \
+    rows.bin
 proposes 'one is no row' '1001-1006 ByteTable;1008-100B ByteTable;' -S 0x1000 --entry 0x1007 rows.bin
 image row.info 'RANGE { START $1004; END $1004; TYPE ByteTable; };\n'
-proposes 'nor with a byte in a range' '1001-1003 ByteTable;1005-1006 ByteTable;1008-100A ByteTable;' -S 0x1000 -i row.info --entry 0x1007,0x100b rows.bin
+proposes 'nor with a byte in a range' '1001-1003 ByteTable;1005-1006 ByteTable;1008-100A ByteTable;' -S 0x1000 -i row.info --entry \
+    0x1007,0x100b rows.bin
 image equal.bin '\x60\x07\x10\x07\x10\xff\xff\x60\xff\xff\xff\x60'
 proposes 'nor are two equal words' '1001-1006 ByteTable;1008-100A ByteTable;' -S 0x1000 --entry 0x1007,0x100b equal.bin
 # rts; the words $1007 and $1008; two bytes; nop; rts
@@ -470,7 +482,8 @@ proposes 'a group of another address' '' -S 0x1000 -i inline.info --plain print.
 # jsr $FF7D; "HI THERE", CR, 0; jmp $1000; jsr $FF7D; "NO END"
 image outside.bin '\x20\x7d\xffHI THERE\x0d\x00\x4c\x00\x10\x20\x7d\xffNO END'
 image inline.info '#: INLINE { ADDR $FF7D; };\n'
-proposes 'a routine outside the image, and a text without a zero byte' '1003-100C TextTable;1013-1018 TextTable;' -S 0x1000 -i inline.info --entry 0x1010 outside.bin
+proposes 'a routine outside the image, and a text without a zero byte' '1003-100C TextTable;1013-1018 TextTable;' -S 0x1000 -i inline.info \
+    --entry 0x1010 outside.bin
 comes_back 'they come back' 0x1000 outside.bin -i inline.info --entry 0x1010
 proposes 'texts are no code' '1003-100C TextTable;1010-1012 ByteTable;1013-1018 TextTable;' -S 0x1000 -i inline.info outside.bin
 image bad.info '\n#: EXIT { };\n'
@@ -481,10 +494,12 @@ image bad.info '#: ENTRY { ADDR 1; };\nFOO\n'
 runs 'a fault of the file comes first' 1 '' 'trace65: info:2: unknown group\n' -i bad.info three.bin
 
 image end.info 'LABEL { ADDR $1009; NAME "end"; };\n'
-runs 'the whole text' 0 "$legend# \$1000 +\n# 9 bytes of code that is reached, 0 in ranges, 1 in neither\nRANGE { START \$1009; END \$1009; TYPE ByteTable; }; # .\n#: HALVES { LOW \$1001; HIGH \$1005; }; # \$1009 end\n" '' \
+runs 'the whole text' 0 "$legend# \$1000 +\n# 9 bytes of code that is reached, 0 in ranges, 1 in neither\n"\
+"RANGE { START \$1009; END \$1009; TYPE ByteTable; }; # .\n#: HALVES { LOW \$1001; HIGH \$1005; }; # \$1009 end\n" '' \
     -S 0x1000 -i end.info stores.bin
 image variable.bin '\x8d\x10\x10\x60'
-runs 'and with a label and a variable' 0 "$legend# \$1000 #\n# 4 bytes of code that is reached, 0 in ranges, 0 in neither\nLABEL { ADDR \$1010; NAME \"L1010\"; };\n#: AFTER { START \$1004; END \$1010; };\n" '' \
+runs 'and with a label and a variable' 0 "$legend# \$1000 #\n# 4 bytes of code that is reached, 0 in ranges, 0 in neither\n"\
+"LABEL { ADDR \$1010; NAME \"L1010\"; };\n#: AFTER { START \$1004; END \$1010; };\n" '' \
     -S 0x1000 variable.bin
 
 # ---- the whole file
@@ -618,7 +633,9 @@ else
     moves filler 0x2345 '' ''
     # Labels after the image are constants: their lines say where they lie.
     shows variables 0x1000
-    moves variables 0x2345 '' '$2348: 51 23 -> 0C 10, line 9: sta     L100C\n$234B: 52 23 -> 0D 10, line 10: sta     L100D,x\n$234E: 51 23 -> 0C 10, line 11: inc     L100C\n'
+    moves variables 0x2345 '' \
+        '$2348: 51 23 -> 0C 10, line 9: sta     L100C\n'\
+'$234B: 52 23 -> 0D 10, line 10: sta     L100D,x\n$234E: 51 23 -> 0C 10, line 11: inc     L100C\n'
     moves variables 0x2345 's/:= \$100C/:= $2351/; s/:= \$100D/:= $2352/' ''
     shows routine 0x1000
     moves routine 0x2345 '' ''

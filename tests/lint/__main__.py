@@ -1,8 +1,7 @@
-"""What can be seen of the tree without the prover, in a few seconds: that its public contracts are those of docs/contracts, that each promise
-of docs/PROOFS.md has its clause, that each edit that must fail can be applied, where the code answers out of memory by itself, what a listing
-and the meaning of a text share, that information files have the words of their page, that their man page and the page of definitions are
-made of what they come from, and
-the form of the files of names.
+"""What can be seen of the tree without the prover, in a few seconds: that its public contracts are those of docs/contracts, that each
+promise of docs/PROOFS.md has its clause, that each edit that must fail can be applied, where the code answers out of memory by itself, what
+a listing and the meaning of a text share, that information files have the words of their page, that their man page and the page of
+definitions are made of what they come from, how wide clauses and scripts are, and the form of the files of names.
 
 Usage: python3 tests/lint                    fails if one of these does not hold, and says what
        python3 tests/lint --write contracts  writes docs/contracts anew, `manual` the man page, and `page` docs/DEFINITIONS.md
@@ -12,7 +11,7 @@ import sys
 
 sys.dont_write_bytecode = True
 
-import contracts, edits, manual, memory, names, page, promises, readings, words  # noqa: E401
+import columns, contracts, edits, manual, memory, names, page, promises, readings, words  # noqa: E401
 from source import Refused
 
 CHECKS = {
@@ -24,6 +23,7 @@ CHECKS = {
     words: "an information file has the words of docs/INFORMATION_FILE.md and no others",
     manual: "docs/da65.info.5 is docs/INFORMATION_FILE.md",
     page: "docs/DEFINITIONS.md is what the definitions say of themselves",
+    columns: "no more clauses than before are wider than 100 columns, and no script is wider than 140",
     names: "the files of names have their form",
 }
 WRITTEN = {module.__name__: module for module in (contracts, manual, page)}
