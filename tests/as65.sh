@@ -113,6 +113,21 @@ done
 for text in 'lda #%102' '.byte %' '.word % 1' 'lda #%12 ; five'; do
     refuses "a binary number that is none in $text" " nop\n $text\n" 2 "syntax error: a binary number is written %1010: $text"
 done
+# Of what a line has the first of the table counts.
+while IFS='|' read -r text hint; do
+    printf -v shown '%b' "$text"
+    refuses "the first of two that $text has" "$text\n" 1 "syntax error: $hint: ${shown%$'\r'}"
+done <<'ROWS'
+\xef\xbb\xbfrts\r|a byte order mark
+lda #'a\r|a carriage return ends the line: lines end with a line feed
+lda #'%|a character is written 'A'
+lda #%2*2|a binary number is written %1010
+lda #0x1*2|* and other expressions (see ca65)
+bne @0x1|hexadecimal is $01, not 0x01
+@x = 5|cheap locals (see ca65)
+x1 = .y|a constant is NAME := NUMBER
+loop .align|other directives and operands (see ca65)
+ROWS
 refuses 'an origin' '*=$1000\n' 1 'syntax error: * and other expressions (see ca65): *=$1000'
 for text in 'x1 = x1' 'lda = 5' 'x1: y1 = 5' 'x1 == 5' 'x1 = 5+1' 'x1 =' '= 5'; do
     refuses "a constant that is no number in $text" "$text\n" 1 "syntax error: a constant is NAME := NUMBER: $text"
@@ -437,6 +452,7 @@ printf 'GLOBAL { INPUTSIZE 3; };' >size.info
 printf 'GLOBAL { INPUTOFFS 2; };' >header.info
 printf 'GLOBAL { INPUTOFFS 2; INPUTSIZE 3; STARTADDR $1000; };' >part.info
 printf 'GLOBAL { INPUTSIZE 9; };' >nine.info
+printf 'GLOBAL { INPUTSIZE $10000; };' >full.info
 printf 'GLOBAL { INPUTNAME "new.bin"; STARTADDR $1000; };' >named.info
 printf 'GLOBAL { STARTADDR F000; };' >bad.info
 printf '\x01\x10\xa9\x02\x60' >header.prg
@@ -445,6 +461,7 @@ runs 'the start of an information file' 0 '\x4c\x00\x10' '' -i start.info here.s
 runs 'the start of an information file by its long name' 0 '\x4c\x00\x10' '' --info=start.info here.s
 runs 'the start of the command line wins' 0 '\x4c\x00\x20' '' -S 0x2000 -i start.info here.s
 runs 'the size of an information file' 0 '\x4c\xfd\xff' '' -i size.info here.s
+runs 'the largest size of an information file' 0 '\x4c\x00\x00' '' -i full.info here.s
 runs 'an information file without a start' 1 '' "$no_start" -i header.info here.s
 runs 'a refused information file' 1 '' 'as65: info:1: something else expected\n' -i bad.info no.s
 runs 'a refused information file beside an image' 2 '' 'as65: info:1: something else expected\n' -i bad.info --compare no.bin no.s
