@@ -131,6 +131,9 @@ runs 'a refused include file' 1 '' 'trace65: include bad.inc:2: bad include line
 
 legend='# a character for 64 bytes: # code that is reached, + partly,\n# r in a range of the information file, . neither\n'
 runs 'all is code' 0 "$legend# \$1000 #\n# 3 bytes of code that is reached, 0 in ranges, 0 in neither\n" '' -S 0x1000 examples/three.bin
+{ head -c 1026 /dev/zero | tr '\0' '\352'; printf '\x60'; } >lines.bin
+runs 'a picture of two lines' 0 "$legend# \$1000 ################\n# \$1400 #\n"\
+"# 1027 bytes of code that is reached, 0 in ranges, 0 in neither\n" '' -S 0x1000 lines.bin
 proposes 'hello: a text, and the bytes after it' 'F00E-F015 TextTable;F016-F02B ByteTable;' -S 0xF000 examples/hello.bin
 proposes 'hello: its information file covers all' '' -i examples/hello.info
 # lda #1; beq +2; rts; a byte; rts
