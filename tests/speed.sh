@@ -223,9 +223,11 @@ awk 'BEGIN { for (n = 0; n < 8000; n++) printf "n%d: lda #<n%d\n ldx #>n%d\n", n
 awk 'BEGIN { for (n = 0; n < 3000; n++) printf "n%d := %d\n", n, 8192 + n
     for (n = 0; n < 3000; n++) printf n % 8 ? ",n%d" : "\n .lobytes n%d", n * 7919 % 3000; print "" }' >lobytes.s
 printf 'here:   lda     #$01\n        sta     $10\n        jmp     here\n' >three.s
+{ yes '        .setcpu "6502"' | head -n 10000; echo '        rts'; } >cpus.s
 assembles '8,000 pairs of halves' 35.5 halves.s
 assembles 'low bytes of 3,000 names' 35.8 lobytes.s
 assembles 'three lines' 48.2 three.s
+assembles '10,000 lines that set the same CPU' 76.0 cpus.s
 # The same pairs as numbers, of which every tenth and then every one gets names; and the listings without a group.
 "$assembler" -S 0 -o halves.bin halves.s
 awk 'BEGIN { for (n = 0; n < 8000; n++) printf "LABEL { ADDR $%04X; NAME \"n%d\"; };\n", 4 * n, n }' >numbers.info
