@@ -21,7 +21,7 @@ WIDER = {
     "da65_cli": 12,
     "as65": 23,
     "trace65": 40,
-    "name65": 9,
+    "name65": 7,
 }
 
 SCRIPTS = ("Makefile", ".ci/run", "tests/*.sh", "tests/shim.c")

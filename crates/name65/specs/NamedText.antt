@@ -5,7 +5,9 @@ use Rattle.std.specs.String.{string_bytes}
 use Rattle.info65.specs.declared.tags.tag.Tag.{Tag}
 use Rattle.text65.specs.Lines.{text_lines}
 use Rattle.stmt65.specs.Code.Held.{held}
+use Rattle.stmt65.specs.Lexing.{parts}
 use Rattle.stmt65.specs.Meaning.{meaning_in}
+use Rattle.stmt65.specs.Reading.{reading_of}
 use Rattle.stmt65.specs.SourceLine.{SourceLine, Assignment, PlaceAssignment, Statement}
 use Rattle.stmt65.specs.Sources.{source_addresses, source_meaning, source_readings}
 use Rattle.stmt65.specs.declared.assembling.assembler.Source.{Source}
@@ -14,6 +16,8 @@ use Rattle.name65.specs.declared.failure.Failure.{Failure}
 use Rattle.name65.specs.declared.complaint.Refusal.{Refusal}
 use Rattle.name65.specs.declared.complaint.Refusal.TheVariants as refusal
 use Rattle.name65.specs.declared.failure.Failure.TheVariants.{Group, Line, Memory}
+use Rattle.name65.specs.declared.plan.Plan.{Plan}
+use Rattle.name65.specs.declared.plan.PlacedLine.{PlacedLine}
 
 -- ---- which lines a group touches
 
@@ -29,6 +33,11 @@ is_touched_constant marks used None = false
 unfoldable pub is_touched : List Bool → Bool → ℕ → ℕ → Option SourceLine → Bool
 is_touched marks used at end line =
     if nat_lt at end then list_any (λ is. is) (take (end - at) (drop at marks)) else is_touched_constant marks used line
+
+-- a group touches the line
+abbrev pub touches : Plan → PlacedLine → Bool
+touches plan placed =
+    is_touched plan.marks.now plan.used placed.at placed.end (reading_of placed.language (parts placed.language placed.line.now))
 
 -- of each line, by what it says and the address after it
 unfoldable pub touched_from : List Bool → Bool → ℕ → List (Option SourceLine) → List ℕ → List Bool

@@ -2,10 +2,8 @@
 
 ghost use Rattle.std.specs.Prelude.{◌≡◌, ◌++◌, ◌-◌, ◌≤◌, [], if◌then◌else◌, IfOk, None, Ok, OnOk, Some, drop, take};
 ghost use Rattle.std.specs.List.{list_any};
-ghost use Rattle.stmt65.specs.Lexing.{parts};
-ghost use Rattle.stmt65.specs.Reading.{reading_of};
 ghost use Rattle.stmt65.specs.Sources.{source_addresses, source_meaning};
-ghost use Rattle.name65.specs.NamedText.{AreLines, IsNamed, is_touched, line_text};
+ghost use Rattle.name65.specs.NamedText.{AreLines, IsNamed, line_text, touches};
 
 use crate::changed_line::put_changed;
 use crate::complaint::Refusal;
@@ -42,7 +40,7 @@ fn has_mark(marks: &[bool], at: u64, end: u64) -> bool
 /// Whether a group touches a line.
 #[tactic(auto, unfolding(crate::specs::NamedText::is_touched))]
 fn is_touched(plan: &Plan<'_, '_>, placed: &PlacedLine<'_>) -> Result<bool, AllocError>
-    ensures { IfOk result (λ touched. touched ≡ is_touched plan.now.marks.now plan.now.used placed.now.at placed.now.end (reading_of placed.now.language (parts placed.now.language placed.now.line.now))) }
+    ensures { IfOk result (λ touched. touched ≡ touches plan.now placed.now) }
 {
     if placed.at < placed.end {
         return Ok(has_mark(plan.marks, placed.at, placed.end));
@@ -61,7 +59,7 @@ fn put_change(
     plan: &Plan<'_, '_>,
     placed: &PlacedLine<'_>,
 ) -> Result<bool, Refusal>
-    ensures { IfOk result (λ touched. touched ≡ is_touched plan.now.marks.now plan.now.used placed.now.at placed.now.end (reading_of placed.now.language (parts placed.now.language placed.now.line.now))) }
+    ensures { IfOk result (λ touched. touched ≡ touches plan.now placed.now) }
 {
     if is_touched(plan, placed)? {
         put_changed(out, tail, plan, placed)?;

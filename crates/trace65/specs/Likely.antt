@@ -125,6 +125,10 @@ call_comment failing calls t =
 unfoldable pub comments_of_calls : List Tag → ℕ → ℕ → ℕ → List (List ℕ)
 comments_of_calls tags failing calls t = if are_many failing calls && not (list_any (is_inline t) tags) then call_comment failing calls t ∷ [] else []
 
+-- by the counts of the calls of each address
+abbrev pub comments_at : List Tag → Calls → ℕ → List (List ℕ)
+comments_at tags calls t = comments_of_calls tags (get_or calls.failing t 0) (get_or calls.all t 0) t
+
 -- one for each routine of which that holds, in order
 unfoldable pub call_comments : FlowView → List Bool → List (List ℕ)
 call_comments f marks =

@@ -4,7 +4,7 @@ ghost use Rattle.std.specs.Prelude.{◌≡◌, ◌<◌, ◌++◌, ℕ, IfOk, OnO
 ghost use Rattle.std.specs.List.{list_any};
 ghost use Rattle.reach65.specs.Routines.{call_at, is_it};
 ghost use Rattle.reach65.specs.TextLaws.{comment_line};
-ghost use Rattle.trace65.specs.Likely.{AreCounts, are_many, call_comment, call_comments, comments_of_calls, fails, fails_at, is_call, is_end, is_failing, is_inline, no_counts, with_one};
+ghost use Rattle.trace65.specs.Likely.{AreCounts, are_many, call_comment, call_comments, comments_at, comments_of_calls, fails, fails_at, is_call, is_end, is_failing, is_inline, no_counts, with_one};
 
 use crate::digits::{put_address, put_decimal};
 use info65::{Tag, TagKind};
@@ -211,7 +211,7 @@ impl Calls {
     /// Appends the comment of an address.
     fn put(&self, out: &mut Vec<u8>, tags: &[Tag], address: u16) -> Result<(), AllocError>
         requires { get_or self.now.failing address 0 < 65537 }
-        ensures { OnOk result (out.new.items ≡ out.old.items ++ flat_map comment_line (comments_of_calls tags.now (get_or self.now.failing address 0) (get_or self.now.all address 0) address)) }
+        ensures { OnOk result (out.new.items ≡ out.old.items ++ flat_map comment_line (comments_at tags.now self.now address)) }
     {
         let at = usize::from(address);
         put_if_many(out, tags, self.failing[at], self.all[at], address)
