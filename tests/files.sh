@@ -631,6 +631,10 @@ each_write() {
     says 'a write' $trouble "$unwritten"
     begin
     rm "${name[$main]}"
+    LD_PRELOAD=$work/shim.so SHIM_COUNTS=$work/counts go
+    [ "$(cut -d' ' -f3 counts)" = 1 ] || fails "$run: a message" "$(cut -d' ' -f3 counts) writes and not one"
+    begin
+    rm "${name[$main]}"
     command_line
     LD_PRELOAD=$work/shim.so SHIM_REFUSE_WRITE=1 SHIM_ERROR=28 SHIM_COUNTS=$work/counts "$program" "${words[@]}" >stdout 2>stderr
     status=$?

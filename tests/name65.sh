@@ -65,6 +65,14 @@ runs 'a last line without a line feed' 0 'nop ; last\n' '' last.s
 printf '#: HALVES { LOW $FFFD; HIGH $FFFF; };\n' >halves.info
 printf 'LFFFC: lda #$FC\nldx #$FF\n' >end.s
 runs 'without a start the last byte is at $FFFF' 0 'LFFFC: lda #<LFFFC\nldx #>LFFFC\n' '' -i halves.info end.s
+# The fewest bytes that a listing has, and the most; and the last group of the largest information file.
+printf '#: HALVES { LOW $FFFF; ADDR $12FF; };\n' >last.info
+printf 'x1 := $12FF\n.byte $FF\n' >byte.s
+runs 'a listing of a byte' 0 'x1 := $12FF\n.lobytes x1\n' '' -i last.info byte.s
+printf 'x1 := $12FF\n.res 65535\n.byte $FF\n' >most.s
+runs 'a listing of 64 KiB' 0 'x1 := $12FF\n.res 65535\n.lobytes x1\n' '' -i last.info most.s
+{ head -c $((1048576 - 38)) /dev/zero | tr '\0' '#'; printf '\n%s' '#: HALVES { LOW $FFFF; ADDR $12FF; };'; } >large.info
+runs 'a group at the end of the largest file' 0 'x1 := $12FF\n.lobytes x1\n' '' -i large.info byte.s
 printf 'GLOBAL { STARTADDR $2000; };\n#: HALVES { LOW $2001; HIGH $2003; };\n' >halves.info
 printf 'L2000: lda #$00\nldx #$20\n' >start.s
 runs 'the start of the information file' 0 'L2000: lda #<L2000\nldx #>L2000\n' '' -i halves.info start.s
