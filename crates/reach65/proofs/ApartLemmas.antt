@@ -1,7 +1,8 @@
 -- Instructions that share no byte.
 use Rattle.std.proofs.Common.{◌≡◌, ◌+◌, ◌<◌, ◌≤◌, ℕ, Bool, true, false, List, Option, Some, None, arith, inl, inr}
-use Rattle.std.proofs.lemmas.Bool.{cases_order}
+use Rattle.std.proofs.lemmas.Bool.{cases_Bool, cases_order}
 use Rattle.std.proofs.lemmas.Bool.Decides.{nat_tests}
+use Rattle.std.proofs.lemmas.List.Folds.{Any-from_list_any}
 use Rattle.isa65.specs.Mode.{len_of}
 use Rattle.isa65.specs.declared.mode.Mode.{Mode}
 use Rattle.isa65.specs.declared.mode.Mode.TheVariants.{Imp, Acc, Imm, Zp, Zpx, Zpy, Abs, Absx, Absy, Ind, Indx, Indy, Zpind, Absindx, Rel, Zprel}
@@ -9,9 +10,10 @@ use Rattle.isa65.specs.declared.op.Op.{Op}
 use Rattle.map65.specs.MapView.{MapView}
 use Rattle.reach65.specs.Code.Apart.{is_after, is_before, len_at, op_len}
 use Rattle.reach65.specs.Flow.{instruction_at}
-use Rattle.reach65.specs.Reached.{is_marked}
+use Rattle.reach65.specs.Laws.{IsOfCode}
+use Rattle.reach65.specs.Reached.{any_marked, is_marked}
 use Rattle.reach65.specs.Sound.{IsApart}
-use Rattle.reach65.specs.Taken.{has_byte, is_within}
+use Rattle.reach65.specs.Taken.{has_byte, is_code, is_within}
 
 -- an instruction has at most three bytes
 pub mode-short : (mode : Mode) → len_of mode ≤ 3
@@ -58,6 +60,15 @@ before-none : (m : MapView) (marks : List Bool) (b c : ℕ) → c < b → b < c 
     → is_before m marks b 1 ≡ false → is_before m marks b 2 ≡ false → ⊥
 before-none m marks b c low high marked one two = grind (arith, nat_tests, op-short)
 
+-- one that has the address
+before-none-of : (m : MapView) (marks : List Bool) (b c : ℕ) → c ≤ b → b < c + len_at m c → is_marked marks c ≡ true
+    → is_before m marks b 0 ≡ false → is_before m marks b 1 ≡ false → is_before m marks b 2 ≡ false → ⊥
+before-none-of m marks b c low high marked zero_before one two = grind (arith, nat_tests, op-short)
+
+code-is : (m : MapView) (marks : List Bool) (a : ℕ) → is_code m marks a ≡ true → IsOfCode m marks a
+unfolding is_code any_marked
+code-is m marks a is = grind (arith, Any-from_list_any)
+
 pub tests_apart : (m : MapView) (marks : List Bool) (b : ℕ) → is_after marks b (len_at m b) 1 ≡ false → is_after marks b (len_at m b) 2 ≡ false
     → is_before m marks b 1 ≡ false → is_before m marks b 2 ≡ false → IsApart m marks b
 tests_apart m marks b one two three four = record {
@@ -72,3 +83,20 @@ tests_apart m marks b one two three four = record {
         ]
       ];
 }
+
+-- ---- bytes of code
+
+-- a marked instruction that has an address begins there, or one or two bytes before
+none-has : (m : MapView) (marks : List Bool) (x : ℕ) → is_before m marks x 0 ≡ false → is_before m marks x 1 ≡ false → is_before m marks x 2 ≡ false
+    → (b : ℕ) → is_marked marks b ≡ true → has_byte m b x ≡ true → ⊥
+none-has m marks x zero_before one two b marked has =
+    let its = has-span m b x has in
+    before-none-of m marks x b its.low its.high marked zero_before one two
+
+pub no_code : (m : MapView) (marks : List Bool) (x : ℕ) → is_before m marks x 0 ≡ false → is_before m marks x 1 ≡ false → is_before m marks x 2 ≡ false
+    → is_code m marks x ≡ false
+no_code m marks x zero_before one two =
+    elim (cases_Bool (is_code m marks x)) as (λ _. is_code m marks x ≡ false) [
+      | inl is ↦ let code = code-is m marks x is in absurd (none-has m marks x zero_before one two code.at code.marked code.has)
+      | inr none ↦ none
+    ]

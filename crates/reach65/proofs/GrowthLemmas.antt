@@ -1,5 +1,5 @@
 -- The growth of a search, one candidate after the other.
-use Rattle.std.proofs.Common.{◌≡◌, ◌<◌, ℕ, Bool, true, List, length, get_or, Some, subst, sym}
+use Rattle.std.proofs.Common.{◌≡◌, ◌≤◌, ◌<◌, ℕ, Bool, true, List, length, get_or, Some, subst, sym}
 use Rattle.std.specs.List.{Contains}
 use Rattle.std.proofs.lemmas.List.Elements.{Contains-get_or}
 use Rattle.isa65.specs.declared.op.Op.{Op}
@@ -7,7 +7,7 @@ use Rattle.reach65.specs.Code.Growing.{HasPair, IsGrown, extent_of}
 use Rattle.reach65.specs.Code.Searching.{HasJoined, IsAsBefore, IsDone, State}
 use Rattle.reach65.specs.Entries.{pointers}
 use Rattle.reach65.specs.Flow.{FlowView, end_after, instruction_at}
-use Rattle.reach65.specs.Growth.{Grows, IsCandidate, IsFollowed, behind, in_halves, in_table, joined, unchanged}
+use Rattle.reach65.specs.Growth.{AreBeside, BeginsCode, Grows, IsCandidate, IsFollowed, MayJoin, alone, behind, in_halves, in_row, in_table, joined, unchanged}
 use Rattle.reach65.specs.Pairs.{pairs_at}
 use Rattle.reach65.specs.Reached.{AreReached, is_marked}
 use Rattle.reach65.specs.declared.pairs.Pair.{Pair}
@@ -20,16 +20,28 @@ is_behind f marks a b op marked is ends = behind b op marked is ends
 pub is_in_halves : (f : FlowView) (marks : List Bool) (a b : ℕ) (pairs : List Pair) → pairs ≡ pairs_at f.map marks b → HasPair pairs a → IsCandidate f marks a
 is_in_halves f marks a b pairs is has = in_halves b has.pair (subst (λ l. Contains l has.pair) is has.has) has.is
 
-pub is_in_table : (f : FlowView) (marks : List Bool) (tables : List ℕ) (k : ℕ) → tables ≡ pointers f.map → k < length tables → IsCandidate f marks (get_or tables k 0)
+is_in_table : (f : FlowView) (marks : List Bool) (tables : List ℕ) (k : ℕ) → tables ≡ pointers f.map → k < length tables → IsCandidate f marks (get_or tables k 0)
 is_in_table f marks tables k is low = in_table (subst (λ l. Contains l (get_or tables k 0)) is (Contains-get_or tables k 0 low))
+
+pub may_alone : (f : FlowView) (s : State) (a : ℕ) → IsCandidate f s.marks a → MayJoin f (extent_of s) a 4
+may_alone f s a candidate = alone candidate
+
+pub table_may : (f : FlowView) (s : State) (tables : List ℕ) (k : ℕ) → tables ≡ pointers f.map → k < length tables → MayJoin f (extent_of s) (get_or tables k 0) 4
+table_may f s tables k is low = alone (is_in_table f s.marks tables k is low)
 
 -- ---- growth
 
-pub grown_same : (f : FlowView) (s : State) → IsDone f s → IsGrown f s s
-grown_same f s done = record { done = done; grown = λ first was. was }
-
 same-extent : (old new : State) → IsAsBefore old new → extent_of new ≡ extent_of old
 same-extent old new same = λ i. record { entries = same.entries i; marks = same.marks i }
+
+-- beside a word that leads to code, in a search as it was before that was looked at
+pub is_in_row : (f : FlowView) (old mid : State) (less a other : ℕ) → less ≤ 1 → AreBeside f old.marks less a other → BeginsCode f (extent_of old) less other
+    → IsAsBefore old mid → MayJoin f (extent_of mid) a 3
+is_in_row f old mid less a other few words begins same =
+    subst (λ e. MayJoin f e a 3) (sym (same-extent old mid same)) (in_row (record { less = less; few = few; other = other; words = words; begins = begins }))
+
+pub grown_same : (f : FlowView) (s : State) → IsDone f s → IsGrown f s s
+grown_same f s done = record { done = done; grown = λ first was. was }
 
 pub grown_before : (f : FlowView) (old new : State) → IsDone f old → IsAsBefore old new → IsGrown f old new
 grown_before f old new done same = record {
@@ -37,10 +49,10 @@ grown_before f old new done same = record {
   grown = λ first was. subst (Grows f first) (sym (same-extent old new same)) was;
 }
 
-pub grown_joined : (f : FlowView) (old new : State) (a : ℕ) → IsCandidate f old.marks a → HasJoined f old a new → IsGrown f old new
-grown_joined f old new a candidate has = record {
+pub grown_joined : (f : FlowView) (old new : State) (a least : ℕ) → MayJoin f (extent_of old) a least → HasJoined f least old a new → IsGrown f old new
+grown_joined f old new a least candidate has = record {
   done = has.done;
-  grown = λ first was. joined (extent_of old) (extent_of new) a was candidate (record { entries = has.entries; reached = has.done.reached; sound = has.sound });
+  grown = λ first was. joined (extent_of old) (extent_of new) a least was candidate (record { entries = has.entries; reached = has.done.reached; sound = has.sound });
 }
 
 pub grown_then : (f : FlowView) (old mid new : State) → IsGrown f old mid → IsGrown f mid new → IsGrown f old new

@@ -9,7 +9,9 @@ use Rattle.std.proofs.lemmas.List.Sums.{sum_by-set}
 use Rattle.map65.specs.ImageView.{IsPlaced, is_inside}
 use Rattle.map65.proofs.Public.{within}
 use Rattle.reach65.specs.Code.Searching.{AreApart, AreChecked, AreSound, IsAsBefore, IsBegun, IsDone, IsTrial, State, HasBegun, HasJoined, HasNext, IsAtEnd, put, put_entry, put_inside, put_some, unset}
+use Rattle.reach65.specs.Code.Growing.{extent_of}
 use Rattle.reach65.specs.Flow.{FlowView, goal_at, next_at}
+use Rattle.reach65.specs.Growth.{IsSoundAt}
 use Rattle.reach65.specs.Reached.{entry, led, is_marked}
 use Rattle.reach65.specs.Sound.{IsApart, IsSound, is_fine, marked_count}
 use Rattle.reach65.proofs.FlowLemmas.{leads-below}
@@ -174,11 +176,11 @@ has_begun f s t a placed done is = subst (HasBegun f s a) (sym is) (record {
 
 -- ---- the end of a trial
 
-pub are_sound : (f : FlowView) (marks : List Bool) (added : List ℕ) → ((b : ℕ) → Contains added b → is_fine f b ≡ true) → AreApart f marks added → AreSound f marks added
-are_sound f marks added fine apart = record { fine = fine; apart = apart.each; four = apart.four }
+pub are_sound : (f : FlowView) (least : ℕ) (marks : List Bool) (added : List ℕ) → ((b : ℕ) → Contains added b → is_fine f b ≡ true) → AreApart f least marks added → AreSound f least marks added
+are_sound f least marks added fine apart = record { fine = fine; apart = apart.each; many = apart.many }
 
-sound-trial : (f : FlowView) (before : List Bool) (s : State) → IsTrial before s → AreSound f s.marks s.added → IsSound f before s.marks
-sound-trial f before s trial are = record {
+sound-trial : (f : FlowView) (least : ℕ) (before : List Bool) (s : State) → IsTrial before s → AreSound f least s.marks s.added → IsSound f least before s.marks
+sound-trial f least before s trial are = record {
   fine = λ b now was. elim (trial.fresh b now) as (λ _. is_fine f b ≡ true) [
     | inl marked ↦ absurd (both_ways (is_marked before b) was marked)
     | inr added ↦ are.fine b added
@@ -187,12 +189,19 @@ sound-trial f before s trial are = record {
     | inl marked ↦ absurd (both_ways (is_marked before b) was marked)
     | inr added ↦ are.apart b added
   ];
-  four = omega (arith, trial.count, are.four);
+  many = omega (arith, trial.count, are.many);
 }
 
-pub trial_joined : (f : FlowView) (old mid new : State) (a : ℕ) → HasBegun f old a mid → new.entries ≡ mid.entries → IsDone f new → IsTrial old.marks new → AreSound f new.marks new.added
-    → HasJoined f old a new
-trial_joined f old mid new a begun same done trial are = record { entries = same ∙ begun.entries; done = done; sound = sound-trial f old.marks new trial are }
+pub trial_joined : (f : FlowView) (least : ℕ) (old mid new : State) (a : ℕ) → HasBegun f old a mid → new.entries ≡ mid.entries → IsDone f new → IsTrial old.marks new → AreSound f least new.marks new.added
+    → HasJoined f least old a new
+trial_joined f least old mid new a begun same done trial are = record { entries = same ∙ begun.entries; done = done; sound = sound-trial f least old.marks new trial are }
+
+pub trial_sound : (f : FlowView) (least : ℕ) (old mid new : State) (a : ℕ) → HasBegun f old a mid → new.entries ≡ mid.entries → IsDone f new → IsTrial old.marks new
+    → AreSound f least new.marks new.added → IsSoundAt f least (extent_of old) a
+trial_sound f least old mid new a begun same done trial are = record {
+  new = extent_of new;
+  joins = record { entries = same ∙ begun.entries; reached = done.reached; sound = sound-trial f least old.marks new trial are };
+}
 
 pub trial_undone : (f : FlowView) (old mid last new : State) (a : ℕ) → HasBegun f old a mid → last.entries ≡ mid.entries → IsTrial old.marks last
     → ((l : List ℕ) (b : ℕ) → last.entries ≡ l ++ b ∷ [] → new.entries ≡ l) → new.marks ≡ unset last.marks last.added → new.todo ≡ [] → IsAsBefore old new

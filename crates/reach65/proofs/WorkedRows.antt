@@ -1,5 +1,5 @@
 -- The definitions, held against worked examples.
-use Rattle.std.proofs.Common.{◌≡◌, ◌≤◌, refl, arith}
+use Rattle.std.proofs.Common.{◌≡◌, ◌≤◌, ℕ, zero, suc, true, [], ◌∷◌, refl, arith}
 use Rattle.map65.specs.Items.{full_len_at, item_len, item_start, size_at}
 use Rattle.map65.specs.Pieces.{are_joined, is_in_run, is_joined, is_own}
 use Rattle.map65.specs.Roles.{role_at, role_in}
@@ -7,20 +7,43 @@ use Rattle.map65.specs.Segments.{is_border}
 use Rattle.map65.specs.Spans.{addresses}
 use Rattle.map65.specs.Targets.{target_at, target_for, target_of}
 use Rattle.reach65.specs.Entries.{code_starts, entries_of, entries_with, plain_entries_of, pointer_at, pointers, vectors}
-use Rattle.reach65.specs.Flow.{end_after, goal_at, goal_of, instruction_at, next_at, text_at, text_of}
+use Rattle.map65.specs.MapRows.{code_at}
+use Rattle.reach65.proofs.ApartLemmas.{tests_apart}
+use Rattle.reach65.specs.Flow.{FlowView, end_after, goal_at, goal_of, instruction_at, next_at, text_at, text_of}
 use Rattle.reach65.specs.Inlines.{inline_of, is_inline, text_end, zero_end}
 use Rattle.reach65.specs.Pieces.{is_free, is_open, is_plain, past_zero}
-use Rattle.reach65.specs.Reached.{any_marked}
+use Rattle.reach65.specs.Reached.{any_marked, is_marked}
 use Rattle.reach65.specs.Routines.{branch_at, call_at, goes_on, is_called, is_gone_on, is_text_start}
 use Rattle.reach65.specs.Rows.{free_word, is_in_table, is_of_table, is_row, is_word}
-use Rattle.reach65.specs.Sound.{is_fine, marked_count}
+use Rattle.reach65.specs.Growth.{is_entered, is_run_into}
+use Rattle.reach65.specs.Sound.{IsApart, is_fine, marked_count}
 use Rattle.reach65.specs.Survey.{is_likely, is_routine}
 use Rattle.reach65.specs.Taken.{has_byte, is_code}
 use Rattle.reach65.specs.Variables.{is_operand, operand_at}
 use Rattle.reach65.specs.Worked.{WorkedCode}
 
+-- nop; nop; nop; rts at $0000
+abbrev four : FlowView
+four = record { map = code_at 0 (0xEA ∷ 0xEA ∷ 0xEA ∷ 0x60 ∷ []); tags = [] }
+
+four-fine : (b : ℕ) → is_marked (true ∷ true ∷ true ∷ true ∷ []) b ≡ true → is_fine four b ≡ true
+unfolding addresses end_after goal_at goal_of inline_of instruction_at is_fine next_at role_at role_in text_of
+four-fine zero is = refl
+four-fine (suc zero) is = refl
+four-fine (suc (suc zero)) is = refl
+four-fine (suc (suc (suc zero))) is = refl
+four-fine (suc (suc (suc (suc b)))) is = cc
+
+four-apart : (b : ℕ) → is_marked (true ∷ true ∷ true ∷ true ∷ []) b ≡ true → IsApart four.map (true ∷ true ∷ true ∷ true ∷ []) b
+unfolding addresses instruction_at role_at role_in
+four-apart zero is = tests_apart four.map _ 0 refl refl refl refl
+four-apart (suc zero) is = tests_apart four.map _ 1 refl refl refl refl
+four-apart (suc (suc zero)) is = tests_apart four.map _ 2 refl refl refl refl
+four-apart (suc (suc (suc zero))) is = tests_apart four.map _ 3 refl refl refl refl
+four-apart (suc (suc (suc (suc b)))) is = cc
+
 pub worked_code : WorkedCode
-unfolding addresses any_marked are_joined branch_at call_at code_starts end_after entries_of entries_with free_word full_len_at goal_at goal_of goes_on has_byte inline_of instruction_at is_border is_called is_code is_fine is_free is_gone_on is_in_run is_in_table is_inline is_joined is_likely is_of_table is_open is_operand is_own is_plain is_routine is_row is_text_start is_word item_len item_start marked_count next_at operand_at past_zero plain_entries_of pointer_at pointers role_at role_in size_at target_at target_for target_of text_at text_end text_of vectors zero_end
+unfolding addresses any_marked are_joined branch_at call_at code_starts end_after entries_of entries_with free_word full_len_at goal_at goal_of goes_on has_byte inline_of instruction_at is_border is_called is_code is_entered is_fine is_free is_gone_on is_in_run is_in_table is_inline is_joined is_likely is_of_table is_open is_operand is_own is_plain is_routine is_row is_run_into is_text_start is_word item_len item_start marked_count next_at operand_at past_zero plain_entries_of pointer_at pointers role_at role_in size_at target_at target_for target_of text_at text_end text_of vectors zero_end
 worked_code = record {
   nexts = refl;
   goals = refl;
@@ -45,7 +68,13 @@ worked_code = record {
   not_reached = refl;
   open_bytes = refl;
   after_zero = refl;
-  too_few = λ m s. let few : 4 ≤ 3 = s.four in omega (arith, few);
+  too_few = λ m s. let few : 4 ≤ 3 = s.many in omega (arith, few);
+  enough = record { fine = λ b is _. four-fine b is; apart = λ b is _. four-apart b is; many = omega arith };
+  run_into = refl;
+  not_run_into = refl;
+  entered = refl;
+  entered_less = refl;
+  no_instruction = refl;
   code = refl;
   gone_on = refl;
   called = refl;

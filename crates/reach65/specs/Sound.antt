@@ -1,8 +1,8 @@
 -- Sound beginnings.
 --
 -- An address is a sound beginning beside what is reached if each instruction that is reached from it, and not before, is fine and shares no
--- byte with another reached instruction, and if there are at least four of them. Data and text fail at this nearly always, since two
--- fifths of all bytes are no opcode.
+-- byte with another reached instruction, and if there are at least four of them, or three if a word of a row leads there. Data and text
+-- fail at this nearly always, since two fifths of all bytes are no opcode.
 use Rattle.std.specs.Prelude.{◌≡◌, ℕ, ◌+◌, ◌≤◌, ◌&&◌, ◌||◌, not, nat_le, Bool, true, false, List, Option, Some, None, count_by, is_some}
 use Rattle.isa65.specs.Mode.{row_of}
 use Rattle.isa65.specs.declared.mnemonic.Mnemonic.TheVariants.{Brk}
@@ -62,8 +62,8 @@ pub record IsApart (m : MapView) (marks : List Bool) (b : ℕ) : Type 0 where
 unfoldable pub marked_count : List Bool → ℕ
 marked_count marks = count_by (λ b. b) marks
 
--- a sound beginning: what the marks `after` have beside the marks `before`
-pub record IsSound (f : FlowView) (before after : List Bool) : Type 0 where
+-- a sound beginning of at least so many instructions: what the marks `after` have beside the marks `before`
+pub record IsSound (f : FlowView) (least : ℕ) (before after : List Bool) : Type 0 where
   pub fine : (b : ℕ) → is_marked after b ≡ true → is_marked before b ≡ false → is_fine f b ≡ true
   pub apart : (b : ℕ) → is_marked after b ≡ true → is_marked before b ≡ false → IsApart f.map after b
-  pub four : marked_count before + 4 ≤ marked_count after
+  pub many : marked_count before + least ≤ marked_count after

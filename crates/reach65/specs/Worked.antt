@@ -10,6 +10,7 @@ use Rattle.map65.specs.MapRows.{code_at, map_of}
 use Rattle.map65.specs.MapView.{MapView}
 use Rattle.reach65.specs.Entries.{entries_of, plain_entries_of}
 use Rattle.reach65.specs.Flow.{FlowView, goal_at, next_at, text_at}
+use Rattle.reach65.specs.Growth.{is_entered, is_run_into}
 use Rattle.reach65.specs.Pieces.{Ground, is_open, past_zero}
 use Rattle.reach65.specs.Routines.{is_called, is_gone_on, is_text_start}
 use Rattle.reach65.specs.Rows.{Words, is_of_table, is_row}
@@ -97,6 +98,13 @@ three_reached =
     all : List Bool
     all = true ∷ true ∷ true ∷ []
 
+-- lda #$00; lda $0000; rts; rts at $0000, of which each instruction is reached
+abbrev pub a_run : FlowView
+a_run = flow (code_at 0 (0xA9 ∷ 0x00 ∷ 0xAD ∷ 0x00 ∷ 0x00 ∷ 0x60 ∷ 0x60 ∷ []))
+
+abbrev pub each_of_run : List Bool
+each_of_run = true ∷ false ∷ true ∷ false ∷ false ∷ true ∷ true ∷ []
+
 -- ---- the examples
 
 pub record WorkedCode : Type 0 where
@@ -134,8 +142,19 @@ pub record WorkedCode : Type 0 where
       ≡ false ∷ false ∷ false ∷ false ∷ false ∷ false ∷ false ∷ false ∷ false ∷ []
   -- nop before a range that is no code
   pub into_a_range : is_first_fine (with_range 0x1001 0x1001 role.ByteTable (0xEA ∷ 0x60 ∷ [])) ≡ false
-  -- three instructions are too few
-  pub too_few : (f : FlowView) → (IsSound f [] (true ∷ true ∷ true ∷ []) → ⊥)
+  -- three instructions are too few for four
+  pub too_few : (f : FlowView) → (IsSound f 4 [] (true ∷ true ∷ true ∷ []) → ⊥)
+  -- nop; nop; nop; rts are enough
+  pub enough : IsSound (flow (code_at 0 (0xEA ∷ 0xEA ∷ 0xEA ∷ 0x60 ∷ []))) 4 [] (true ∷ true ∷ true ∷ true ∷ [])
+  -- an instruction of two bytes goes on to the next one, and so does one of three; none goes on to an operand, nor rts
+  pub run_into : map (is_run_into a_run each_of_run) (0 ∷ 2 ∷ 3 ∷ 5 ∷ 6 ∷ []) ≡ false ∷ true ∷ false ∷ true ∷ false ∷ []
+  -- if it is not reached
+  pub not_run_into : map (is_run_into a_run []) (2 ∷ 5 ∷ []) ≡ false ∷ false ∷ []
+  -- a word may lead to any reached instruction, and one that is less one to none that code runs into
+  pub entered : map (is_entered a_run each_of_run 0) (0 ∷ 2 ∷ 3 ∷ 5 ∷ 6 ∷ 7 ∷ []) ≡ true ∷ true ∷ false ∷ true ∷ true ∷ false ∷ []
+  pub entered_less : map (is_entered a_run each_of_run 1) (0 ∷ 2 ∷ 3 ∷ 5 ∷ 6 ∷ 7 ∷ []) ≡ true ∷ false ∷ false ∷ false ∷ true ∷ false ∷ []
+  -- an undefined opcode is no instruction, even at an entry
+  pub no_instruction : is_entered (flow (code_at 0 (0xFF ∷ []))) (true ∷ []) 0 0 ≡ false
   -- bit $60EA, and nop in it, at $0000
   pub overlapping : (IsApart (code_at 0 (0x2C ∷ 0xEA ∷ 0x60 ∷ [])) (true ∷ true ∷ []) 0 → ⊥)
   -- Behind a call code goes on after its text: none, if no group has the address; up to and with the zero byte; two bytes; what the first

@@ -1,13 +1,14 @@
 //! What is reached from sound beginnings besides the entries.
 
 ghost use Rattle.std.specs.Prelude.{◌≡◌, ℕ, IfOk, IfSome, OnOk, Ok, true, length};
-ghost use Rattle.reach65.specs.Code.Growing.{HasPair, IsGrown};
+ghost use Rattle.reach65.specs.Code.Growing.{HasPair, IsGrown, extent_of};
 ghost use Rattle.reach65.specs.Code.Searching.{IsDone};
-ghost use Rattle.reach65.specs.Growth.{IsCandidate, IsFollowed};
+ghost use Rattle.reach65.specs.Growth.{AreWordsOf, IsCandidate, IsFollowed, MayJoin};
 
 use crate::entries::pointers_of;
 use crate::flow::Flow;
 use crate::pairs::{Pair, put_pairs_at};
+use crate::row_words::{RowWords, given_marks, hopeful_marks};
 use crate::search::{Search, search_from};
 use map65::ADDRESSES;
 use std::alloc::{AllocError, Allocator, Global};
@@ -16,6 +17,12 @@ use std::marker::Model;
 /// How many instructions all trials that fail may look at. Few programs come near it: what is no code fails after a few. It keeps
 /// the time in proportion to the image, whatever that has.
 const PATIENCE: usize = 0x1_0000;
+
+/// The least number of instructions of any other sound beginning.
+const LEAST: usize = 4;
+
+/// How often the image is searched for rows of words. Most images have none that leads on after the first time.
+const SCANS: usize = 8;
 
 /// The entries, and marks of what is reached from them.
 #[derive(Drop)]
@@ -123,22 +130,23 @@ fn is_candidate<A: Allocator, B: Allocator>(
 
 // ---- one candidate
 
-/// Adds an address to the entries, if it is a sound beginning, and what is reached from it to `fresh`.
+/// Adds an address to the entries, if it is a sound beginning of at least so many instructions, and what is reached from it to `fresh`.
 #[tactic(auto, using(crate::proofs::GrowthLemmas::grown_same, crate::proofs::GrowthLemmas::grown_before, crate::proofs::GrowthLemmas::grown_joined))]
-fn join<A: Allocator, B: Allocator>(
+pub fn join<A: Allocator, B: Allocator>(
     search: &mut Search<A>,
     fresh: &mut Vec<u16, A>,
     flow: &Flow<'_, '_, B>,
     address: u16,
+    least: usize,
 ) -> Result<(), AllocError>
     requires done { IsDone flow.now search.old }
-    requires candidate { IsCandidate flow.now search.old.marks address }
+    requires candidate { MayJoin flow.now (extent_of search.old) address least }
     ensures { OnOk result (IsGrown flow.now search.old search.new) }
 {
     if PATIENCE < search.wasted() {
         return Ok(());
     }
-    if search.try_entry(flow, address)? {
+    if search.try_entry(flow, address, least)? {
         fresh.extend_from_slice(search.added())?;
     }
     Ok(())
@@ -160,7 +168,7 @@ fn try_candidate<A: Allocator + Copy, B: Allocator>(
         return Ok(());
     }
     if is_candidate(alloc, flow, search.marks(), candidate)? {
-        join(search, fresh, flow, candidate.address)?;
+        join(search, fresh, flow, candidate.address, LEAST)?;
     }
     Ok(())
 }
@@ -168,7 +176,7 @@ fn try_candidate<A: Allocator + Copy, B: Allocator>(
 // ---- all candidates
 
 /// Adds the sound beginnings that tables refer to.
-#[tactic(auto, using(crate::proofs::GrowthLemmas::grown_same, crate::proofs::GrowthLemmas::grown_then, crate::proofs::GrowthLemmas::is_in_table))]
+#[tactic(auto, using(crate::proofs::GrowthLemmas::grown_same, crate::proofs::GrowthLemmas::grown_then, crate::proofs::GrowthLemmas::table_may))]
 fn join_tables<A: Allocator + Copy, B: Allocator>(
     alloc: A,
     search: &mut Search<A>,
@@ -180,7 +188,7 @@ fn join_tables<A: Allocator + Copy, B: Allocator>(
 {
     let tables = pointers_of(alloc, flow.map())?;
     'tables: for &address in &tables {
-        join(search, fresh, flow, address)?;
+        join(search, fresh, flow, address, LEAST)?;
     }
     Ok(())
 }
@@ -264,6 +272,29 @@ fn join_candidates<A: Allocator + Copy, B: Allocator>(
     Ok(fresh)
 }
 
+/// Adds the sound beginnings among the words of rows, and all that is found from them, until there are no more, or many times.
+#[tactic(auto, using(crate::proofs::GrowthLemmas::grown_same, crate::proofs::GrowthLemmas::grown_then))]
+fn grow_rows<A: Allocator + Copy, B: Allocator>(
+    alloc: A,
+    search: &mut Search<A>,
+    flow: &Flow<'_, '_, B>,
+) -> Result<(), AllocError>
+    requires { IsDone flow.now search.old }
+    ensures { OnOk result (IsGrown flow.now search.old search.new) }
+{
+    let given = given_marks(alloc, flow.map().info().ranges())?;
+    let hopeful = hopeful_marks(alloc, flow, search.marks())?;
+    let words = RowWords::new(flow, given, hopeful);
+    'scans: for _scan in 0..SCANS {
+        let fresh = words.join_rows(alloc, search)?;
+        if fresh.is_empty() {
+            return Ok(());
+        }
+        grow(alloc, search, fresh, flow)?;
+    }
+    Ok(())
+}
+
 /// Adds the sound beginnings among the candidates that what is reached gives, and what is reached from them, until there are no more.
 /// Each time but the last at least one address joins, so there are fewer times than addresses.
 #[tactic(auto, using(crate::proofs::GrowthLemmas::grown_same, crate::proofs::GrowthLemmas::grown_then))]
@@ -301,6 +332,7 @@ pub fn follow<A: Allocator + Copy, B: Allocator>(
     let mut fresh = Vec::from_slice(alloc, search.added())?;
     join_tables(alloc, &mut search, &mut fresh, flow)?;
     grow(alloc, &mut search, fresh, flow)?;
+    grow_rows(alloc, &mut search, flow)?;
     Ok(Extent {
         entries: search.entries,
         marks: search.marks,

@@ -3,6 +3,7 @@
 //! [`Flow`] says where the instruction of an address leads, [`entries_of`] where reading begins, and [`reached`] marks what is reached from there.
 #![tactic(auto)]
 
+mod entered;
 mod entries;
 mod flow;
 mod growth;
@@ -13,6 +14,7 @@ pub mod laws;
 mod marks;
 mod pairs;
 mod pieces;
+mod row_words;
 mod rows;
 mod said;
 mod search;

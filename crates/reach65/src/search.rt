@@ -2,17 +2,23 @@
 
 ghost use Rattle.std.specs.Prelude.{◌≡◌, ◌++◌, ◌∷◌, [], ℕ, Bool, true, List, Contains, Ok, None, Some, IfOk, IfNone, IfSome, OnOk, false, length, slice_set};
 ghost use Rattle.map65.specs.ImageView.{is_inside};
-ghost use Rattle.reach65.specs.Code.Searching.{AreChecked, AreSound, HasBegun, HasNext, IsAtEnd, IsBegun, IsDone, IsTrial, IsTried, put, put_entry, put_inside, put_some, unset};
+ghost use Rattle.reach65.specs.Code.Growing.{extent_of};
+ghost use Rattle.reach65.specs.Code.Searching.{AreChecked, AreSound, HasBegun, HasNext, IsAsBefore, IsAtEnd, IsBegun, IsDone, IsTrial, IsTried, put, put_entry, put_inside, put_some, unset};
 ghost use Rattle.reach65.specs.Flow.{goal_at, next_at};
+ghost use Rattle.reach65.specs.Growth.{BeginsCode, IsSoundAt};
 ghost use Rattle.reach65.specs.Sound.{is_fine};
 ghost use Rattle.reach65.specs.Reached.{AreReached, is_marked, no_marks};
 
+use crate::entered::is_entered;
 use crate::flow::Flow;
 use crate::marks::blank_marks;
 use crate::sound::{are_apart, is_fine_op};
 use map65::{Image, is_inside};
 use std::alloc::{AllocError, Allocator, Global};
 use std::marker::Model;
+
+/// The least number of instructions of a sound beginning to which a word of a row leads.
+pub const IN_ROW: usize = 3;
 
 /// The entries; the addresses that are marked, and those of them that are still to be looked at; and those that were marked since the
 /// last trial began; how many instructions the trials that failed have looked at. An address is to be looked at from when it is marked, so each is looked at once.
@@ -249,39 +255,81 @@ impl<A: Allocator> Search<A> {
         self.entries.pop();
     }
 
-    /// Whether a trial has found a sound beginning.
-    fn is_sound_trial<B: Allocator>(&mut self, flow: &Flow<'_, '_, B>) -> Result<bool, AllocError>
+    /// Whether a trial has found a sound beginning of so many instructions.
+    fn is_sound_trial<B: Allocator>(
+        &mut self,
+        flow: &Flow<'_, '_, B>,
+        least: usize,
+    ) -> Result<bool, AllocError>
         requires begun { IsBegun flow.now self.old }
         requires checked { AreChecked flow.now self.old }
         ensures sound { result ≡ Ok true → IsDone flow.now self.new }
-        ensures are { result ≡ Ok true → AreSound flow.now self.new.marks self.new.added }
+        ensures are { result ≡ Ok true → AreSound flow.now least self.new.marks self.new.added }
         ensures entries { OnOk result (self.new.entries ≡ self.old.entries) }
         ensures trial { (before : List Bool) → IsTrial before self.old → OnOk result (IsTrial before self.new) }
     {
         if self.finish_trial(flow)? {
-            Ok(are_apart(flow, &self.marks, &self.added))
+            Ok(are_apart(flow, &self.marks, &self.added, least))
         } else {
             Ok(false)
         }
     }
 
-    /// Adds an address to the entries, with what is reached from it, and returns `true`, if it is a sound beginning.
+    /// Adds an address to the entries, with what is reached from it, and returns `true`, if it is a sound beginning of at least so many
+    /// instructions.
     #[tactic(auto, using(crate::proofs::TrialLemmas::trial_joined, crate::proofs::TrialLemmas::trial_undone))]
     pub fn try_entry<B: Allocator>(
         &mut self,
         flow: &Flow<'_, '_, B>,
         address: u16,
+        least: usize,
     ) -> Result<bool, AllocError>
         requires { IsDone flow.now self.old }
-        ensures { IfOk result (IsTried flow.now self.old address self.new) }
+        ensures { IfOk result (IsTried flow.now least self.old address self.new) }
     {
         self.begin_trial(flow, address)?;
-        if self.is_sound_trial(flow)? {
+        if self.is_sound_trial(flow, least)? {
             return Ok(true);
         }
         self.wasted = self.wasted.saturating_add(self.added.len());
         self.undo();
         Ok(false)
+    }
+
+    /// Whether the address is a sound beginning of at least so many instructions. The search is as before.
+    #[tactic(auto, using(crate::proofs::TrialLemmas::trial_sound, crate::proofs::TrialLemmas::trial_undone))]
+    fn is_sound<B: Allocator>(
+        &mut self,
+        flow: &Flow<'_, '_, B>,
+        address: u16,
+        least: usize,
+    ) -> Result<bool, AllocError>
+        requires { IsDone flow.now self.old }
+        ensures same { OnOk result (IsAsBefore self.old self.new) }
+        ensures sound { result ≡ Ok true → IsSoundAt flow.now least (extent_of self.old) address }
+    {
+        self.begin_trial(flow, address)?;
+        let sound = self.is_sound_trial(flow, least)?;
+        self.wasted = self.wasted.saturating_add(self.added.len());
+        self.undo();
+        Ok(sound)
+    }
+
+    /// Whether code begins at the address, of a word that is this much less. The search is as before.
+    pub fn begins_code<B: Allocator>(
+        &mut self,
+        flow: &Flow<'_, '_, B>,
+        less: u16,
+        address: u16,
+    ) -> Result<bool, AllocError>
+        requires { IsDone flow.now self.old }
+        ensures same { OnOk result (IsAsBefore self.old self.new) }
+        ensures begins { result ≡ Ok true → BeginsCode flow.now (extent_of self.old) less address }
+    {
+        if self.is_marked(address) {
+            return Ok(is_entered(flow, &self.marks, less, address));
+        }
+        self.is_sound(flow, address, IN_ROW)
     }
 
     /// Returns the marks.

@@ -1,20 +1,18 @@
 //! Sound beginnings.
 
-ghost use Rattle.std.specs.Prelude.{◌≡◌, ◌+◌, ◌<◌, ◌≤◌, ◌&&◌, true, IfSome, length, nat_lt};
+ghost use Rattle.std.specs.Prelude.{◌≡◌, ◌+◌, ◌<◌, ◌≤◌, ◌&&◌, false, true, IfSome, length, nat_lt};
 ghost use Rattle.isa65.specs.Mode.{len_of};
 ghost use Rattle.map65.specs.ImageView.{end_of};
 ghost use Rattle.reach65.specs.Code.Searching.{AreApart};
 ghost use Rattle.reach65.specs.Code.Apart.{is_after, is_before, len_at};
 ghost use Rattle.reach65.specs.Reached.{is_marked};
 ghost use Rattle.reach65.specs.Sound.{IsApart, goes_on, is_begun, is_beyond, is_branch, is_fine_op, leads_well};
+ghost use Rattle.reach65.specs.Taken.{is_code};
 
 use crate::flow::{Flow, bytes_from, goal_of, is_last};
 use isa65::{Mnemonic, Op, OperandKind, Row};
 use map65::{Image, is_inside, only_inside};
 use std::alloc::Allocator;
-
-/// The least number of instructions of a sound beginning.
-const LEAST: usize = 4;
 
 // ---- one instruction
 
@@ -122,6 +120,16 @@ fn is_before<A: Allocator>(
     marks[usize::from(at)] && distance < u16::from(len_at(flow, at))
 }
 
+/// Whether a marked instruction has the address.
+#[tactic(auto, using(crate::proofs::ApartLemmas::no_code))]
+pub fn has_code<A: Allocator>(flow: &Flow<'_, '_, A>, marks: &[bool], address: u16) -> bool
+    requires { length marks.now ≡ 65536 }
+    ensures { result ≡ false → is_code flow.now.map marks.now address ≡ false }
+{
+    is_before(flow, marks, address, 0)
+        || (is_before(flow, marks, address, 1) || is_before(flow, marks, address, 2))
+}
+
 /// Whether the instruction of an address shares no byte with another one that is marked. An instruction has at most three bytes.
 #[tactic(auto, using(crate::proofs::ApartLemmas::tests_apart))]
 fn is_apart<A: Allocator>(flow: &Flow<'_, '_, A>, marks: &[bool], address: u16) -> bool
@@ -140,15 +148,20 @@ fn is_apart<A: Allocator>(flow: &Flow<'_, '_, A>, marks: &[bool], address: u16) 
 
 // ---- all that is found
 
-/// Whether the instruction of each of these addresses shares no byte with another marked one, and there are four at least.
-pub fn are_apart<A: Allocator>(flow: &Flow<'_, '_, A>, marks: &[bool], added: &[u16]) -> bool
+/// Whether the instruction of each of these addresses shares no byte with another marked one, and there are so many at least.
+pub fn are_apart<A: Allocator>(
+    flow: &Flow<'_, '_, A>,
+    marks: &[bool],
+    added: &[u16],
+    least: usize,
+) -> bool
     requires { length marks.now ≡ 65536 }
-    ensures { result ≡ true → AreApart flow.now marks.now added.now }
+    ensures { result ≡ true → AreApart flow.now least marks.now added.now }
 {
     'added: for &address in added {
         if !is_apart(flow, marks, address) {
             return false;
         }
     }
-    LEAST <= added.len()
+    least <= added.len()
 }

@@ -107,23 +107,23 @@ pub record IsAsBefore (old new : State) : Type 0 where
   pub todo : new.todo ≡ []
 
 -- a search that an address has joined
-pub record HasJoined (f : FlowView) (old : State) (a : ℕ) (new : State) : Type 0 where
+pub record HasJoined (f : FlowView) (least : ℕ) (old : State) (a : ℕ) (new : State) : Type 0 where
   pub entries : new.entries ≡ old.entries ++ a ∷ []
   pub done : IsDone f new
-  pub sound : IsSound f old.marks new.marks
+  pub sound : IsSound f least old.marks new.marks
 
 -- an address was tried: it has joined, or all is as before
-abbrev pub IsTried : FlowView → State → ℕ → State → Bool → Type 0
-IsTried f old a new true = HasJoined f old a new
-IsTried f old a new false = IsAsBefore old new
+abbrev pub IsTried : FlowView → ℕ → State → ℕ → State → Bool → Type 0
+IsTried f least old a new true = HasJoined f least old a new
+IsTried f least old a new false = IsAsBefore old new
 
--- each of these is apart from all that is marked, and there are four at least
-pub record AreApart (f : FlowView) (marks : List Bool) (added : List ℕ) : Type 0 where
+-- each of these is apart from all that is marked, and there are so many at least
+pub record AreApart (f : FlowView) (least : ℕ) (marks : List Bool) (added : List ℕ) : Type 0 where
   pub each : (b : ℕ) → Contains added b → IsApart f.map marks b
-  pub four : 4 ≤ length added
+  pub many : least ≤ length added
 
 -- and each is fine
-pub record AreSound (f : FlowView) (marks : List Bool) (added : List ℕ) : Type 0 where
+pub record AreSound (f : FlowView) (least : ℕ) (marks : List Bool) (added : List ℕ) : Type 0 where
   pub fine : (b : ℕ) → Contains added b → is_fine f b ≡ true
   pub apart : (b : ℕ) → Contains added b → IsApart f.map marks b
-  pub four : 4 ≤ length added
+  pub many : least ≤ length added

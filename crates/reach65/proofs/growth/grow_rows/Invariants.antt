@@ -1,0 +1,5 @@
+use Rattle.reach65.specs.Code.Growing.{IsGrown}
+use Rattle.reach65.proofs.growth.grow_rows.Given as goal
+
+abbrev pub invariant-scans : goal.invariant-scans
+invariant-scans g l = IsGrown l.flow l.initial.search l.search

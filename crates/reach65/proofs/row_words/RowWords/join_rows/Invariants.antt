@@ -1,0 +1,5 @@
+use Rattle.reach65.specs.Code.Growing.{IsGrown}
+use Rattle.reach65.proofs.row_words.RowWords.join_rows.Given as goal
+
+abbrev pub invariant-rows : goal.invariant-rows
+invariant-rows g l = IsGrown l.self l.initial.search l.search

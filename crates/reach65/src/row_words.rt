@@ -1,0 +1,289 @@
+//! Words of rows that lead to code.
+
+ghost use Rattle.std.specs.Prelude.{◌≡◌, ◌<◌, ◌+◌, ◌≤◌, IfOk, IfSome, OnOk, false, length, true};
+ghost use Rattle.isa65.specs.Mode.{len_of};
+ghost use Rattle.map65.specs.ImageView.{end_of};
+ghost use Rattle.reach65.specs.Code.Growing.{IsGrown};
+ghost use Rattle.reach65.specs.Code.Searching.{IsDone};
+ghost use Rattle.reach65.specs.Growth.{AreBeside, AreWordsOf, IsWordOf};
+ghost use Rattle.reach65.specs.Taken.{AreMarkedBy, is_given, is_taken};
+
+use crate::entries::word_at;
+use crate::flow::Flow;
+use crate::growth::join;
+use crate::marks::{blank_marks, mark_ranges};
+use crate::search::{IN_ROW, Search};
+use crate::sound::{has_code, is_fine_op};
+use info65::RangeSpec;
+use isa65::Op;
+use map65::is_inside;
+use std::alloc::{AllocError, Allocator, Global};
+use std::marker::Model;
+
+/// What instructions lead to, marks of what the ranges of the information file have, and of where code may begin.
+#[derive(Drop)]
+pub struct RowWords<'a, 'f, 'm, A: Allocator = Global, B: Allocator = Global> {
+    flow: &'a Flow<'f, 'm, A>,
+    given: Vec<bool, B>,
+    hopeful: Vec<bool, B>,
+}
+
+impl<'a, 'f, 'm, A: Allocator, B: Allocator> Model for RowWords<'a, 'f, 'm, A, B> {
+    ghost use Rattle.std.specs.Prelude.{◌≡◌, length};
+    ghost use Rattle.reach65.specs.Flow.{FlowView};
+    ghost use Rattle.reach65.specs.Taken.{AreMarkedBy, is_given};
+
+    ghost Value = { FlowView };
+
+    ghost view = { λ w. w.flow.now };
+
+    ghost invariant = { λ w. AreMarkedBy (is_given w.flow.now.map.info.ranges) w.given.items × (length w.hopeful.items ≡ 65536) };
+}
+
+// ---- where code may begin
+
+/// Whether the mark of the address is set, if there is an address after this one.
+fn is_hopeful_after(marks: &[bool], address: u16, later: Option<u16>) -> bool
+    requires { length marks.now ≡ 65536 }
+{
+    match later {
+        Some(later) => later <= address || marks[usize::from(later)],
+        None => true,
+    }
+}
+
+/// Whether the instruction of the address is fine, and those after it that it leads to have marks.
+fn is_hopeful_op<A: Allocator>(flow: &Flow<'_, '_, A>, marks: &[bool], address: u16, op: Op) -> bool
+    requires count { length marks.now ≡ 65536 }
+    requires low { flow.now.map.image.start ≤ address }
+    requires high { address < end_of flow.now.map.image }
+    requires whole { address + len_of op.mode ≤ end_of flow.now.map.image }
+{
+    is_fine_op(flow, address, op)
+        && is_hopeful_after(marks, address, flow.next_of(address, op))
+        && is_hopeful_after(marks, address, flow.goal_by(address, op))
+}
+
+/// Whether code may begin at the address.
+fn is_hopeful<A: Allocator>(
+    flow: &Flow<'_, '_, A>,
+    reached: &[bool],
+    marks: &[bool],
+    address: u16,
+) -> bool
+    requires reached { length reached.now ≡ 65536 }
+    requires count { length marks.now ≡ 65536 }
+{
+    if reached[usize::from(address)] {
+        return true;
+    }
+    if has_code(flow, reached, address) {
+        return false;
+    }
+    match flow.instruction_at(address) {
+        Some(op) => is_hopeful_op(flow, marks, address, op),
+        None => false,
+    }
+}
+
+/// Marks where code may begin: a reached instruction, or one that is fine as all after it are that it leads to. It saves trials: few
+/// bytes of data lead to the end of a routine.
+pub fn hopeful_marks<A: Allocator, B: Allocator>(
+    alloc: A,
+    flow: &Flow<'_, '_, B>,
+    reached: &[bool],
+) -> Result<Vec<bool, A>, AllocError>
+    requires { length reached.now ≡ 65536 }
+    ensures { IfOk result (λ marks. length marks.items ≡ 65536) }
+{
+    let mut marks = blank_marks(alloc)?;
+    let image = flow.map().image();
+    let start = usize::from(image.start());
+    let mut at = start + image.bytes().len();
+    'back: while start < at {
+        at -= 1;
+        let mark = is_hopeful(flow, reached, &marks, at as u16);
+        marks[at] = mark;
+    }
+    Ok(marks)
+}
+
+/// Marks the addresses of these ranges. There is a mark for each address from $0000 to $FFFF.
+pub fn given_marks<A: Allocator>(alloc: A, ranges: &[RangeSpec]) -> Result<Vec<bool, A>, AllocError>
+    ensures { IfOk result (λ marks. AreMarkedBy (is_given ranges.now) marks.items) }
+{
+    let mut marks = blank_marks(alloc)?;
+    mark_ranges(&mut marks, ranges);
+    Ok(marks)
+}
+
+// ---- words
+
+impl<'a, 'f, 'm, A: Allocator, B: Allocator> RowWords<'a, 'f, 'm, A, B> {
+    /// What these instructions lead to; `given` has the marks of what the ranges of the information file have, and `hopeful` those of
+    /// where code may begin, one for each address from $0000 to $FFFF.
+    pub fn new(
+        flow: &'a Flow<'f, 'm, A>,
+        given: Vec<bool, B>,
+        hopeful: Vec<bool, B>,
+    ) -> RowWords<'a, 'f, 'm, A, B>
+        requires given { AreMarkedBy (is_given flow.now.map.info.ranges) given.items }
+        requires hopeful { length hopeful.items ≡ 65536 }
+        ensures { result ≡ flow.now }
+    {
+        RowWords {
+            flow,
+            given,
+            hopeful,
+        }
+    }
+
+    /// Whether nothing speaks for the address.
+    #[tactic(auto, using(crate::proofs::TakenLemmas::not_taken))]
+    fn is_open(&self, marks: &[bool], address: u16) -> bool
+        requires { length marks.now ≡ 65536 }
+        ensures { result ≡ true → is_taken self.now.map marks.now address ≡ false }
+    {
+        !self.given[usize::from(address)] && !has_code(self.flow, marks, address)
+    }
+
+    /// The address to which the word at the address leads, if nothing speaks for its bytes and code may begin there.
+    fn word_of(&self, marks: &[bool], less: u16, at: usize) -> Option<u16>
+        requires count { length marks.now ≡ 65536 }
+        requires room { at < 65540 }
+        ensures { IfSome result (λ a. IsWordOf self.now marks.now less at a) }
+    {
+        let image = self.flow.map().image();
+        if !is_inside(image, at) || !is_inside(image, at + 1) {
+            return None;
+        }
+        let to = word_at(image, at as u16).checked_add(less)?;
+        if self.hopeful[usize::from(to)]
+            && self.is_open(marks, at as u16)
+            && self.is_open(marks, (at + 1) as u16)
+        {
+            Some(to)
+        } else {
+            None
+        }
+    }
+
+    /// The addresses to which two different words lead, the first of them at the address.
+    fn words_of(&self, marks: &[bool], less: u16, at: usize) -> Option<(u16, u16)>
+        requires count { length marks.now ≡ 65536 }
+        requires room { at < 65536 }
+        ensures { IfSome result (λ p. AreWordsOf self.now marks.now less at p.0 p.1) }
+    {
+        let one = self.word_of(marks, less, at)?;
+        let other = self.word_of(marks, less, at + 2)?;
+        if one == other {
+            return None;
+        }
+        Some((one, other))
+    }
+
+    /// Adds an address to the entries, if code begins at the one of the word beside, and it is a sound beginning.
+    #[tactic(auto, using(crate::proofs::GrowthLemmas::grown_same, crate::proofs::GrowthLemmas::grown_before, crate::proofs::GrowthLemmas::grown_then))]
+    fn join_beside<C: Allocator>(
+        &self,
+        search: &mut Search<C>,
+        fresh: &mut Vec<u16, C>,
+        less: u16,
+        address: u16,
+        other: u16,
+    ) -> Result<(), AllocError>
+        requires done { IsDone self.now search.old }
+        requires few { less ≤ 1 }
+        requires words { AreBeside self.now search.old.marks less address other }
+        ensures { OnOk result (IsGrown self.now search.old search.new) }
+    {
+        if search.is_marked(address) {
+            return Ok(());
+        }
+        if search.begins_code(self.flow, less, other)? {
+            join(search, fresh, self.flow, address, IN_ROW)?;
+        }
+        Ok(())
+    }
+
+    /// Adds the address of the second of two words to the entries, if they are in a row. Returns whether it is reached.
+    #[tactic(auto, using(crate::proofs::GrowthLemmas::grown_same, crate::proofs::GrowthLemmas::grown_then))]
+    fn join_second<C: Allocator>(
+        &self,
+        search: &mut Search<C>,
+        fresh: &mut Vec<u16, C>,
+        less: u16,
+        at: usize,
+    ) -> Result<bool, AllocError>
+        requires done { IsDone self.now search.old }
+        requires few { less ≤ 1 }
+        requires room { at < 65536 }
+        ensures { OnOk result (IsGrown self.now search.old search.new) }
+    {
+        let Some((one, other)) = self.words_of(search.marks(), less, at) else {
+            return Ok(false);
+        };
+        self.join_beside(search, fresh, less, other, one)?;
+        Ok(search.is_marked(other))
+    }
+
+    /// Adds the address of the first of two words to the entries, if they are in a row.
+    #[tactic(auto, using(crate::proofs::GrowthLemmas::grown_same, crate::proofs::GrowthLemmas::grown_then))]
+    fn join_first<C: Allocator>(
+        &self,
+        search: &mut Search<C>,
+        fresh: &mut Vec<u16, C>,
+        less: u16,
+        at: usize,
+    ) -> Result<(), AllocError>
+        requires done { IsDone self.now search.old }
+        requires few { less ≤ 1 }
+        requires room { at < 65536 }
+        ensures { OnOk result (IsGrown self.now search.old search.new) }
+    {
+        let Some((one, other)) = self.words_of(search.marks(), less, at) else {
+            return Ok(());
+        };
+        self.join_beside(search, fresh, less, one, other)
+    }
+
+    /// Adds the addresses of two words to the entries, if they are in a row, and sound beginnings.
+    #[tactic(auto, using(crate::proofs::GrowthLemmas::grown_same, crate::proofs::GrowthLemmas::grown_then))]
+    fn join_words<C: Allocator>(
+        &self,
+        search: &mut Search<C>,
+        fresh: &mut Vec<u16, C>,
+        less: u16,
+        at: usize,
+    ) -> Result<(), AllocError>
+        requires done { IsDone self.now search.old }
+        requires few { less ≤ 1 }
+        requires room { at < 65536 }
+        ensures { OnOk result (IsGrown self.now search.old search.new) }
+    {
+        if self.join_second(search, fresh, less, at)? {
+            self.join_first(search, fresh, less, at)?;
+        }
+        Ok(())
+    }
+
+    /// Adds the sound beginnings among the words of rows to the entries. Returns what is reached from them.
+    #[tactic(auto, using(crate::proofs::GrowthLemmas::grown_same, crate::proofs::GrowthLemmas::grown_then))]
+    pub fn join_rows<C: Allocator + Copy>(
+        &self,
+        alloc: C,
+        search: &mut Search<C>,
+    ) -> Result<Vec<u16, C>, AllocError>
+        requires { IsDone self.now search.old }
+        ensures { OnOk result (IsGrown self.now search.old search.new) }
+    {
+        let mut fresh = Vec::new(alloc);
+        let image = self.flow.map().image();
+        let start = usize::from(image.start());
+        'rows: for k in 0..image.bytes().len() {
+            self.join_words(search, &mut fresh, 0, start + k)?;
+            self.join_words(search, &mut fresh, 1, start + k)?;
+        }
+        Ok(fresh)
+    }
+}
