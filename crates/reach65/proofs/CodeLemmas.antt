@@ -139,9 +139,9 @@ joined-code m a run code = joined-if m a run (ap (λ r. is_wide r && is_own m.in
 
 -- ---- with the ranges that are proposed
 
-module _ (m : MapView) (marks taken words texts : List Bool) (pieces : List RangeSpec) (info : InfoView) (placed : IsPlaced m.image) (spoken : AreMarkedBy (is_taken m marks) taken) (are : ArePieces (record { image = m.image; taken = taken; words = words; texts = texts }) 0 pieces) (new : IsWith m.info info pieces) (whole : AreWhole m marks) where
+module _ (m : MapView) (marks taken words returns texts : List Bool) (pieces : List RangeSpec) (info : InfoView) (placed : IsPlaced m.image) (spoken : AreMarkedBy (is_taken m marks) taken) (are : ArePieces (record { image = m.image; taken = taken; words = words; returns = returns; texts = texts }) 0 pieces) (new : IsWith m.info info pieces) (whole : AreWhole m marks) where
   abbrev ground : Ground
-  ground = record { image = m.image; taken = taken; words = words; texts = texts }
+  ground = record { image = m.image; taken = taken; words = words; returns = returns; texts = texts }
 
   abbrev all : MapView
   all = with_info m info
@@ -256,6 +256,6 @@ module _ (m : MapView) (marks taken words texts : List Bool) (pieces : List Rang
       })
 
 pub code_law : (m : MapView) → CodeLaw m
-code_law m tags entries marks taken words texts pieces info placed reached spoken are new whole = record {
-  each = λ a op marked is before. items-below m marks taken words texts pieces info placed spoken are new whole (suc a) a op (omega arith) marked is before;
+code_law m tags entries marks taken words returns texts pieces info placed reached spoken are new whole = record {
+  each = λ a op marked is before. items-below m marks taken words returns texts pieces info placed spoken are new whole (suc a) a op (omega arith) marked is before;
 }

@@ -1,6 +1,6 @@
 -- How many characters texts have.
 use Rattle.std.proofs.Common.{zero, suc, ◌≡◌, ◌≢◌, ◌+◌, ◌-◌, ◌<◌, ◌≤◌, ◌∙◌, ◌&&◌, not, nat_lt, ℕ, Bool, true, false, List, [], ◌∷◌, ap, ap₂, arith, get_or, inl, inr, length, refl, sym}
-use Rattle.std.specs.Prelude.{count_by, if◌then◌else◌, replicate}
+use Rattle.std.specs.Prelude.{◌||◌, count_by, if◌then◌else◌, replicate}
 use Rattle.std.proofs.lemmas.Bool.{and_parts, cases_lt, le-ltb, lt-leb}
 use Rattle.std.proofs.lemmas.List.{get_or-replicate, get_or_past, length-replicate}
 use Rattle.std.proofs.lemmas.List.Sums.{count_by-le-length, sum_by-cons}
@@ -17,7 +17,7 @@ use Rattle.reach65.specs.declared.texts.Tail.{Tail}
 
 pub plain-free : (g : Ground) (a : ℕ) → is_plain g a ≡ true → is_free g a ≡ true
 unfolding is_plain
-plain-free g a is = (and_parts (is_free g a) (not (is_marked g.words a)) is).0
+plain-free g a is = (and_parts (is_free g a) (not (is_marked g.words a || is_marked g.returns a)) is).0
 
 written-free : (g : Ground) (t : Alphabet) (a : ℕ) → is_written g t a ≡ true → is_free g a ≡ true
 unfolding is_written

@@ -7,7 +7,7 @@ use Rattle.info65.specs.declared.information.range.RangeSpec.{RangeSpec}
 use Rattle.info65.specs.declared.information.range.RangeType.{RangeType}
 use Rattle.info65.specs.declared.information.range.RangeType.TheVariants as role
 use Rattle.map65.specs.ImageView.{byte_at, end_of}
-use Rattle.reach65.specs.Pieces.{ArePieces, Ground, IsKnown, IsPiece, IsStretch, LiesIn, are_same, begins_text, is_break, is_filler, is_free, is_open, is_plain, is_same, is_word, past_zero}
+use Rattle.reach65.specs.Pieces.{ArePieces, Ground, IsKnown, IsPiece, IsStretch, LiesIn, are_same, begins_text, is_break, is_filler, is_free, is_open, is_plain, is_return, is_same, is_word, past_zero}
 use Rattle.reach65.proofs.LenLemmas.{plain-free, text-free}
 use Rattle.reach65.specs.Reached.{is_marked}
 use Rattle.reach65.specs.Taken.{is_given}
@@ -22,6 +22,10 @@ past-free g a past = and_left _ _ (and_right (nat_le g.image.start a) _ (le-ltb 
 pub past-word : (g : Ground) (a : ℕ) → end_of g.image ≤ a → is_word g a ≡ false
 unfolding is_word
 past-word g a past = and_left _ _ (past-free g a past)
+
+pub past-return : (g : Ground) (a : ℕ) → end_of g.image ≤ a → is_return g a ≡ false
+unfolding is_return
+past-return g a past = and_left _ _ (past-free g a past)
 
 pub past-plain : (g : Ground) (a : ℕ) → end_of g.image ≤ a → is_plain g a ≡ false
 unfolding is_plain
@@ -38,6 +42,10 @@ past-break g a past = or_left _ _ (not_from_false (is_plain g a) (past-plain g a
 word-free : (g : Ground) (a : ℕ) → is_word g a ≡ true → is_free g a ≡ true
 unfolding is_word
 word-free g a is = (and_parts (is_free g a) (is_marked g.words a) is).0
+
+return-free : (g : Ground) (a : ℕ) → is_return g a ≡ true → is_free g a ≡ true
+unfolding is_return
+return-free g a is = (and_parts (is_free g a) (is_marked g.returns a) is).0
 
 same-free : (g : Ground) (from a : ℕ) → is_same g from a ≡ true → is_free g a ≡ true
 unfolding is_same
@@ -80,13 +88,14 @@ pub filler-same : (g : Ground) (a : ℕ) → is_filler g a ≡ true → is_same 
 unfolding is_filler are_same
 filler-same g a is = (and_parts (is_same g a a) (are_same g a (a + 1) 15) is).0
 
-pub plain-unbroken : (g : Ground) (a : ℕ) → is_free g a ≡ true → is_word g a ≡ false → is_filler g a ≡ false → begins_text g a ≡ false → is_break g a ≡ false
-unfolding is_break is_plain is_word
-plain-unbroken g a free word filler text = grind (arith, free, word, filler, text)
+pub plain-unbroken : (g : Ground) (a : ℕ) → is_free g a ≡ true → is_word g a ≡ false → is_return g a ≡ false → is_filler g a ≡ false → begins_text g a ≡ false → is_break g a ≡ false
+unfolding is_break is_plain is_return is_word
+plain-unbroken g a free word less filler text = grind (arith, free, word, less, filler, text)
 
 -- each address of a piece is free
 piece-free : (g : Ground) (r : RangeType) (from end a : ℕ) → IsPiece g r from end → from ≤ a → a < end → is_free g a ≡ true
 piece-free g role.AddrTable from end a piece low high = word-free g a (piece.0 a low high)
+piece-free g role.RtsTable from end a piece low high = return-free g a (piece.0 a low high)
 piece-free g role.TextTable from end a piece low high = text-free g from end a piece.0 low high
 piece-free g role.ByteTable from end a (inl piece) low high = same-free g from a (piece.1 a low high)
 piece-free g role.ByteTable from end a (inr (inl piece)) low high = break-free g a (piece.0 a low high)

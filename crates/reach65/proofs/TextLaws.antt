@@ -33,7 +33,8 @@ piece-low g r placed ordered piece = omega (arith, placed.room, (piece-lies g r 
 piece-table : (g : Ground) (t : RangeType) (from end : ℕ) → IsPiece g t from end → IsTable t
 piece-table g role.TextTable from end piece = inl refl
 piece-table g role.ByteTable from end piece = inr (inl refl)
-piece-table g role.AddrTable from end piece = inr (inr refl)
+piece-table g role.AddrTable from end piece = inr (inr (inl refl))
+piece-table g role.RtsTable from end piece = inr (inr (inr refl))
 piece-table g _ from end piece = absurd piece
 
 stretch-table : (g : Ground) (t : RangeType) (from end : ℕ) → IsStretch g t from end → IsTable t
@@ -101,15 +102,15 @@ text-gives o m ranges labels text p tables low line =
     subst Q (sym all) (gives-both o ranges labels (tokens_of (line + 1) rest) (tokens_of third.line tail) begins (subst P (append-nil (label_items labels)) ends))
 
 -- what a range of the file has is not free
-given-past : (m : MapView) (marks taken words texts : List Bool) → IsPlaced m.image → AreMarkedBy (is_taken m marks) taken → ArePast (record { image = m.image; taken = taken; words = words; texts = texts }) 0 m.info.ranges
+given-past : (m : MapView) (marks taken words returns texts : List Bool) → IsPlaced m.image → AreMarkedBy (is_taken m marks) taken → ArePast (record { image = m.image; taken = taken; words = words; returns = returns; texts = texts }) 0 m.info.ranges
 unfolding is_free is_taken is_given
-given-past m marks taken words texts placed spoken a low given = grind arith
+given-past m marks taken words returns texts placed spoken a low given = grind arith
 
 pub text_law : (m : MapView) → TextLaw m
-text_law m o file text info marks taken words texts pieces labels accepted same among named placed spoken are new p small =
-    let g : Ground = record { image = m.image; taken = taken; words = words; texts = texts } in
+text_law m o file text info marks taken words returns texts pieces labels accepted same among named placed spoken are new p small =
+    let g : Ground = record { image = m.image; taken = taken; words = words; returns = returns; texts = texts } in
     let P : List RangeSpec → Type 0 = λ l. ArePast g 0 l in
-    let past : ArePast g 0 info.ranges = subst P same (given-past m marks taken words texts placed spoken) in
+    let past : ArePast g 0 info.ranges = subst P same (given-past m marks taken words returns texts placed spoken) in
     let added = pieces-added g 0 info.ranges pieces placed are past in
     let tail : List ℕ = (p.first ++ 10 ∷ []) ++ (flat_map comment_line p.before ++ (range_lines m.image pieces ++ (label_lines labels ++ flat_map comment_line p.after))) in
     let R : List ℕ → Type 0 = λ t. length (file ++ t) ≤ 1_048_576 in

@@ -72,9 +72,9 @@ type_tokens line text =
     a_word line (codes "TYPE") ∷ a_word line text ∷ record { kind = semicolon; text = codes ";"; line = line } ∷ record { kind = closing_brace; text = codes "}"; line = line }
     ∷ record { kind = semicolon; text = codes ";"; line = line } ∷ []
 
--- a range that is proposed has one of three types
+-- a range that is proposed has one of four types
 abbrev pub IsTable : RangeType → Type 0
-IsTable t = (t ≡ role.TextTable) ⊎ ((t ≡ role.ByteTable) ⊎ (t ≡ role.AddrTable))
+IsTable t = (t ≡ role.TextTable) ⊎ ((t ≡ role.ByteTable) ⊎ ((t ≡ role.AddrTable) ⊎ (t ≡ role.RtsTable)))
 
 -- the type of a range, up to the comment
 abbrev type_line : RangeType → List ℕ → List ℕ
@@ -85,9 +85,11 @@ unfolding tokens_after lexeme_at word_at in_class attribute_named value_of form_
 type-opens o line role.TextTable rest table = record { tokens = type_tokens line (codes "TextTable"); is = refl; spelled = ((refl, refl), (refl, (refl, (refl, (refl, tt))))) }
 type-opens o line role.ByteTable rest table = record { tokens = type_tokens line (codes "ByteTable"); is = refl; spelled = ((refl, refl), (refl, (refl, (refl, (refl, tt))))) }
 type-opens o line role.AddrTable rest table = record { tokens = type_tokens line (codes "AddrTable"); is = refl; spelled = ((refl, refl), (refl, (refl, (refl, (refl, tt))))) }
+type-opens o line role.RtsTable rest table = record { tokens = type_tokens line (codes "RtsTable"); is = refl; spelled = ((refl, refl), (refl, (refl, (refl, (refl, tt))))) }
 type-opens o line _ rest (inl is) = cc
 type-opens o line _ rest (inr (inl is)) = cc
-type-opens o line _ rest (inr (inr is)) = cc
+type-opens o line _ rest (inr (inr (inl is))) = cc
+type-opens o line _ rest (inr (inr (inr is))) = cc
 
 -- ---- a number of four hex digits
 

@@ -89,5 +89,6 @@ worked_code = record {
   row_taken = refl;
   row_in_vector = refl;
   tables = refl;
+  return_tables = refl;
   overlapping = λ a. let same : 0 ≡ 1 = a.each 1 1 refl refl refl in omega (arith, same);
 }

@@ -50,7 +50,7 @@ pub record KeepsItems (m : MapView) (marks : List Bool) (info : InfoView) : Type
       → item_len (with_info m info) a ≡ len_of op.mode
 
 abbrev pub CodeLaw : MapView → Type 0
-CodeLaw m = (tags : List Tag) (entries : List ℕ) (marks taken words texts : List Bool) (pieces : List RangeSpec) (info : InfoView)
+CodeLaw m = (tags : List Tag) (entries : List ℕ) (marks taken words returns texts : List Bool) (pieces : List RangeSpec) (info : InfoView)
     → IsPlaced m.image → AreReached (record { map = m; tags = tags }) entries marks → AreMarkedBy (is_taken m marks) taken
-    → ArePieces (record { image = m.image; taken = taken; words = words; texts = texts }) 0 pieces → IsWith m.info info pieces
+    → ArePieces (record { image = m.image; taken = taken; words = words; returns = returns; texts = texts }) 0 pieces → IsWith m.info info pieces
     → AreWhole m marks → KeepsItems m marks info

@@ -1,6 +1,6 @@
 -- What is proposed for the addresses of the image that nothing speaks for.
 --
--- Words that are addresses are a table of addresses. Filler is a longest stretch of at least 16 equal bytes. A text is a longest stretch of
+-- Words that are addresses are a table of addresses, and words that are less one a table of returns. Filler is a longest stretch of at least 16 equal bytes. A text is a longest stretch of
 -- characters of one alphabet, up to where filler begins: at least five, half of them letters or blanks. What lies between these is a table of
 -- bytes, and so is a text that has a character beside those of ASCII. Where a text is known to begin, it goes up to and with its zero byte,
 -- whatever its bytes are.
@@ -14,11 +14,13 @@ use Rattle.reach65.specs.Texts.{are_chars, are_enough, is_char, letter_count}
 use Rattle.reach65.specs.declared.texts.Alphabet.{Alphabet}
 use Rattle.reach65.specs.declared.texts.Alphabet.TheVariants as alphabet
 
--- the image, the addresses that something speaks for, those of words that are addresses, and where texts are known to begin
+-- the image, the addresses that something speaks for, those of words that are addresses, those of words that are less one, and where texts are
+-- known to begin
 pub record Ground : Type 0 where
   pub image : ImageView
   pub taken : List Bool
   pub words : List Bool
+  pub returns : List Bool
   pub texts : List Bool
 
 -- an address of the image that nothing speaks for
@@ -29,9 +31,13 @@ is_free g a = is_inside g.image a && not (is_marked g.taken a)
 unfoldable pub is_word : Ground → ℕ → Bool
 is_word g a = is_free g a && is_marked g.words a
 
--- such an address of no word
+-- such an address of a word that is less one
+unfoldable pub is_return : Ground → ℕ → Bool
+is_return g a = is_free g a && is_marked g.returns a
+
+-- such an address of neither
 unfoldable pub is_plain : Ground → ℕ → Bool
-is_plain g a = is_free g a && not (is_marked g.words a)
+is_plain g a = is_free g a && not (is_marked g.words a || is_marked g.returns a)
 
 -- ---- filler
 
@@ -122,6 +128,7 @@ is_ascii g from = are_chars alphabet.Ascii (take (text_len g from) (bytes_from g
 -- What is proposed for a stretch from a free address on where no text is known to begin: up to before the second address.
 abbrev pub IsPiece : Ground → RangeType → ℕ → ℕ → Type 0
 IsPiece g role.AddrTable from end = ((a : ℕ) → from ≤ a → a < end → is_word g a ≡ true) × (is_word g end ≡ false)
+IsPiece g role.RtsTable from end = ((a : ℕ) → from ≤ a → a < end → is_return g a ≡ true) × (is_return g end ≡ false)
 IsPiece g role.TextTable from end = IsText g from end × (is_ascii g from ≡ true)
 IsPiece g role.ByteTable from end = IsFiller g from end ⊎ (IsBytes g from end ⊎ (IsText g from end × (is_ascii g from ≡ false)))
 IsPiece g r from end = ⊥

@@ -48,10 +48,11 @@ shown_as r bytes = shown_bytes (alphabet_of r bytes) bytes
 abbrev pub range_bytes : ImageView → RangeSpec → List ℕ
 range_bytes image r = take (r.last + 1 - r.first) (bytes_from image r.first)
 
--- a table of bytes, unless it is a text or a table of addresses
+-- a table of bytes, unless it is a text, or a table of addresses or of returns
 abbrev pub type_text : RangeType → List ℕ
 type_text role.TextTable = codes "TextTable"
 type_text role.AddrTable = codes "AddrTable"
+type_text role.RtsTable = codes "RtsTable"
 type_text _ = codes "ByteTable"
 
 -- `RANGE { START $hhhh; END $hhhh; TYPE t; }; # ..`, and the end of the line

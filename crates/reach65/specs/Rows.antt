@@ -8,6 +8,7 @@ use Rattle.info65.specs.Ranges.{has_address}
 use Rattle.info65.specs.declared.information.range.RangeSpec.{RangeSpec}
 use Rattle.info65.specs.declared.information.range.RangeType.{RangeType}
 use Rattle.info65.specs.declared.information.range.RangeType.TheVariants as role
+use Rattle.map65.specs.Roles.{is_role}
 use Rattle.reach65.specs.Entries.{word_at}
 use Rattle.reach65.specs.Pieces.{Ground, is_plain}
 use Rattle.reach65.specs.Survey.{Survey, is_routine}
@@ -62,16 +63,12 @@ AreRows w from (r ∷ later) =
     (from ≤ r.first) × ((a : ℕ) → from ≤ a → a < r.first → is_any_row w a ≡ false)
     × (r.first ≤ r.last) × IsRow w r.role r.first (r.last + 1) × AreRows w (r.last + 1) later
 
--- ---- tables of addresses
+-- ---- tables
 
-abbrev pub is_table : RangeType → Bool
-is_table role.AddrTable = true
-is_table _ = false
+-- the range is of the type, and has the address
+unfoldable pub is_in_table : RangeType → ℕ → RangeSpec → Bool
+is_in_table t a r = is_role r.role t && has_address r a
 
--- the range is a row of addresses, and has the address
-unfoldable pub is_in_table : ℕ → RangeSpec → Bool
-is_in_table a r = is_table r.role && has_address r a
-
--- a row of addresses has the address
-unfoldable pub is_of_table : List RangeSpec → ℕ → Bool
-is_of_table rows a = list_any (is_in_table a) rows
+-- a row of the type has the address
+unfoldable pub is_of_table : RangeType → List RangeSpec → ℕ → Bool
+is_of_table t rows a = list_any (is_in_table t a) rows

@@ -45,9 +45,9 @@ with_found info ranges labels = record info { ranges = info.ranges ++ ranges; na
 -- name: both are accepted, and say what the file says, with these ranges and names besides. The file may end within a comment: the text
 -- begins with one. The map may have more names than the file: those of include files.
 abbrev pub TextLaw : MapView → Type 0
-TextLaw m = (o : OptionsView) (file text : List ℕ) (info : InfoView) (marks taken words texts : List Bool) (pieces : List RangeSpec) (labels : List ℕ)
+TextLaw m = (o : OptionsView) (file text : List ℕ) (info : InfoView) (marks taken words returns texts : List Bool) (pieces : List RangeSpec) (labels : List ℕ)
     → information o file ≡ Ok info → m.info.ranges ≡ info.ranges → AreAmong info.names m.info.names → AreNames m.info.names
-    → IsPlaced m.image → AreMarkedBy (is_taken m marks) taken → ArePieces (record { image = m.image; taken = taken; words = words; texts = texts }) 0 pieces
+    → IsPlaced m.image → AreMarkedBy (is_taken m marks) taken → ArePieces (record { image = m.image; taken = taken; words = words; returns = returns; texts = texts }) 0 pieces
     → AreNewLabels m.info.names 0 labels
     → IsProposal m.image pieces labels text → length (file ++ text) ≤ 1_048_576
     → information o (file ++ text) ≡ Ok (with_found info pieces labels)

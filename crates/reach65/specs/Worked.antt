@@ -2,6 +2,7 @@
 -- make a row.
 use Rattle.std.specs.Prelude.{◌≡◌, ℕ, Bool, true, false, List, [], ◌∷◌, map, Option, Some, None}
 use Rattle.isa65.specs.declared.cpu.Cpu.TheVariants.{M6502, M65C02}
+use Rattle.info65.specs.declared.information.range.RangeSpec.{RangeSpec}
 use Rattle.info65.specs.declared.information.range.RangeType.{RangeType}
 use Rattle.info65.specs.declared.information.range.RangeType.TheVariants as role
 use Rattle.info65.specs.declared.tags.tag.Tag.{Tag}
@@ -63,11 +64,11 @@ fourth = false ∷ false ∷ false ∷ true ∷ []
 
 -- bytes at $0000, of which something speaks for the fourth
 abbrev pub ground_of : List ℕ → Ground
-ground_of l = record { image = record { start = 0; bytes = l }; taken = fourth; words = []; texts = [] }
+ground_of l = record { image = record { start = 0; bytes = l }; taken = fourth; words = []; returns = []; texts = [] }
 
 -- bytes at $0000, with routines at $0006 and $0007: which bytes something speaks for, and which a vector has
 abbrev pub words_of : List Bool → List Bool → List ℕ → Words
-words_of taken vectors bytes = record { within = record { image = map.image; taken = taken; words = vectors; texts = [] }; code = record { reached = two; code = two; gone_on = []; called = []; operands = []; taken = []; texts = [] } }
+words_of taken vectors bytes = record { within = record { image = map.image; taken = taken; words = vectors; returns = []; texts = [] }; code = record { reached = two; code = two; gone_on = []; called = []; operands = []; taken = []; texts = [] } }
   where
     map : MapView
     map = code_at 0 bytes
@@ -104,6 +105,10 @@ a_run = flow (code_at 0 (0xA9 ∷ 0x00 ∷ 0xAD ∷ 0x00 ∷ 0x00 ∷ 0x60 ∷ 0
 
 abbrev pub each_of_run : List Bool
 each_of_run = true ∷ false ∷ true ∷ false ∷ false ∷ true ∷ true ∷ []
+
+-- a row of addresses, and one of addresses less one
+abbrev pub two_rows : List RangeSpec
+two_rows = record { first = 2; last = 5; role = role.AddrTable } ∷ record { first = 8; last = 11; role = role.RtsTable } ∷ []
 
 -- ---- the examples
 
@@ -201,9 +206,6 @@ pub record WorkedCode : Type 0 where
   -- something speaks for the last byte, or a vector has it
   pub row_taken : is_row (words_of fourth [] six_and_seven) 0 0 ≡ false
   pub row_in_vector : is_row (words_of [] fourth six_and_seven) 0 0 ≡ false
-  -- the first and last address of a row of addresses, those beside it, and one of a row of addresses less one
-  pub tables :
-      map
-      (is_of_table
-      (record { first = 2; last = 5; role = role.AddrTable } ∷ record { first = 8; last = 11; role = role.RtsTable } ∷ []))
-      (1 ∷ 2 ∷ 5 ∷ 6 ∷ 8 ∷ []) ≡ false ∷ true ∷ true ∷ false ∷ false ∷ []
+  -- the first and last address of a row of addresses, those beside it, and those of a row of addresses less one
+  pub tables : map (is_of_table role.AddrTable two_rows) (1 ∷ 2 ∷ 5 ∷ 6 ∷ 8 ∷ []) ≡ false ∷ true ∷ true ∷ false ∷ false ∷ []
+  pub return_tables : map (is_of_table role.RtsTable two_rows) (2 ∷ 7 ∷ 8 ∷ 11 ∷ 12 ∷ []) ≡ false ∷ false ∷ true ∷ true ∷ false ∷ []

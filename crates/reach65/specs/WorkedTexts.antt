@@ -8,7 +8,7 @@ use Rattle.reach65.specs.declared.texts.Alphabet.TheVariants as alphabet
 
 -- bytes at $1000, for which nothing speaks
 abbrev pub free : List ℕ → Ground
-free bytes = record { image = record { start = 0x1000; bytes = bytes }; taken = []; words = []; texts = [] }
+free bytes = record { image = record { start = 0x1000; bytes = bytes }; taken = []; words = []; returns = []; texts = [] }
 
 -- how many characters the text has that begins with the first of them
 abbrev pub first_len : List ℕ → ℕ

@@ -31,7 +31,7 @@ pub use halves::halves_of;
 pub use labels::labels_of;
 pub use pairs::{Pair, Register, Store, pairs_of};
 pub use pieces::Ground;
-pub use rows::{Words, mark_tables};
+pub use rows::{Words, mark_tables, table_marks};
 pub use said::mark_said;
 pub use search::reached;
 pub use survey::Survey;

@@ -3,7 +3,7 @@
 ghost use Rattle.std.specs.Prelude.{◌≡◌, ◌≢◌, ◌+◌, ◌<◌, ◌≤◌, ℕ, IfNone, IfOk, IfSome, IsTrue, false, true, get_or, length, replicate, take};
 ghost use Rattle.map65.specs.ImageView.{byte_at, bytes_from, end_of, is_inside};
 ghost use Rattle.reach65.specs.Code.Cutting.{AreLens, IsTail, no_lens};
-ghost use Rattle.reach65.specs.Pieces.{ArePieces, IsKnown, IsPiece, IsStretch, LieIn, are_same, begins_text, chars_at, is_break, is_filler, is_free, is_open, is_plain, is_same, is_word, is_written, len_in, longer, text_len};
+ghost use Rattle.reach65.specs.Pieces.{ArePieces, IsKnown, IsPiece, IsStretch, LieIn, are_same, begins_text, chars_at, is_break, is_filler, is_free, is_open, is_plain, is_return, is_same, is_word, is_written, len_in, longer, text_len};
 ghost use Rattle.reach65.specs.Reached.{is_marked};
 ghost use Rattle.reach65.specs.Rows.{free_word};
 ghost use Rattle.reach65.specs.Taken.{is_given};
@@ -19,12 +19,14 @@ use std::marker::Model;
 /// The least number of equal bytes that are filler.
 const FILLER: usize = 16;
 
-/// An image, the addresses that something speaks for, those of words that are addresses, and where texts are known to begin.
+/// An image, the addresses that something speaks for, those of words that are addresses, those of words that are less one, and where
+/// texts are known to begin.
 #[derive(Drop)]
 pub struct Ground<'a, A: Allocator = Global> {
     image: &'a Image<A>,
     taken: &'a [bool],
     words: &'a [bool],
+    returns: &'a [bool],
     texts: &'a [bool],
 }
 
@@ -34,9 +36,9 @@ impl<'a, A: Allocator> Model for Ground<'a, A> {
 
     ghost Value = { Ground };
 
-    ghost view = { λ g. record { image = g.image.now; taken = g.taken.now; words = g.words.now; texts = g.texts.now } };
+    ghost view = { λ g. record { image = g.image.now; taken = g.taken.now; words = g.words.now; returns = g.returns.now; texts = g.texts.now } };
 
-    ghost invariant = { λ g. (length g.taken.now ≡ 65536) × (length g.words.now ≡ 65536) × (length g.texts.now ≡ 65536) };
+    ghost invariant = { λ g. (length g.taken.now ≡ 65536) × (length g.words.now ≡ 65536) × (length g.returns.now ≡ 65536) × (length g.texts.now ≡ 65536) };
 }
 
 /// This many lengths, all 0.
@@ -69,23 +71,26 @@ fn raise_to<A: Allocator>(lens: &mut Vec<usize, A>, address: usize, len: usize)
 }
 
 impl<'a, A: Allocator> Ground<'a, A> {
-    /// An image, and marks of the addresses that something speaks for, of those of words that are addresses, and of those where texts are
-    /// known to begin, one for each address from $0000 to $FFFF.
+    /// An image, and marks of the addresses that something speaks for, of those of words that are addresses and of words that are less
+    /// one, and of those where texts are known to begin, one for each address from $0000 to $FFFF.
     pub fn new(
         image: &'a Image<A>,
         taken: &'a [bool],
         words: &'a [bool],
+        returns: &'a [bool],
         texts: &'a [bool],
     ) -> Ground<'a, A>
         requires taken { length taken.now ≡ 65536 }
         requires words { length words.now ≡ 65536 }
+        requires returns { length returns.now ≡ 65536 }
         requires texts { length texts.now ≡ 65536 }
-        ensures { result ≡ record { image = image.now; taken = taken.now; words = words.now; texts = texts.now } }
+        ensures { result ≡ record { image = image.now; taken = taken.now; words = words.now; returns = returns.now; texts = texts.now } }
     {
         Ground {
             image,
             taken,
             words,
+            returns,
             texts,
         }
     }
@@ -124,6 +129,14 @@ impl<'a, A: Allocator> Ground<'a, A> {
         self.is_free(address) && self.words[address]
     }
 
+    /// Whether the address is a free one of a word that is less one.
+    #[tactic(auto, unfolding(crate::specs::Pieces::is_return))]
+    fn is_return(&self, address: usize) -> bool
+        ensures { result ≡ is_return self.now address }
+    {
+        self.is_free(address) && self.returns[address]
+    }
+
     /// Whether the address is a free one of no word.
     #[tactic(auto, unfolding(crate::specs::Pieces::is_plain))]
     fn is_plain(&self, address: usize) -> bool
@@ -131,7 +144,7 @@ impl<'a, A: Allocator> Ground<'a, A> {
         ensures low { IsTrue result → self.now.image.start ≤ address }
         ensures high { IsTrue result → address < end_of self.now.image }
     {
-        self.is_free(address) && !self.words[address]
+        self.is_free(address) && !(self.words[address] || self.returns[address])
     }
 
     /// Whether the byte of the first address stands at the second, which is plain.
@@ -284,6 +297,24 @@ impl<'a, A: Allocator> Ground<'a, A> {
         end
     }
 
+    /// Where the words that are less one end that have the address: the first address after it of none.
+    fn returns_end(&self, from: usize) -> usize
+        requires below { from < end_of self.now.image }
+        requires here { is_return self.now from ≡ true }
+        ensures low { from < result }
+        ensures high { result ≤ 65536 }
+        ensures inside { (a : ℕ) → from ≤ a → a < result → is_return self.now a ≡ true }
+        ensures after { is_return self.now result ≡ false }
+    {
+        let end = self.image_end();
+        'returns: for at in from + 1..end {
+            if !self.is_return(at) {
+                return at;
+            }
+        }
+        end
+    }
+
     /// Where the filler ends that begins at the address: the first address after it with another byte.
     fn filler_end(&self, from: usize) -> usize
         requires start { self.now.image.start ≤ from }
@@ -361,8 +392,8 @@ impl<'a, A: Allocator> Ground<'a, A> {
         if self.is_free(last) { last + 1 } else { last }
     }
 
-    /// Returns what is proposed for the addresses of the image that nothing speaks for: an ADDRTABLE for words that are addresses, a BYTETABLE
-    /// for each stretch of at least 16 equal bytes, a TEXTTABLE for each text of ASCII and each text that is known, a BYTETABLE for each other
+    /// Returns what is proposed for the addresses of the image that nothing speaks for: an ADDRTABLE for words that are addresses, an
+    /// RTSTABLE for words that are less one, a BYTETABLE for each stretch of at least 16 equal bytes, a TEXTTABLE for each text of ASCII and each text that is known, a BYTETABLE for each other
     /// text, and a BYTETABLE for each stretch between these. The ranges ascend. The time grows with the number of addresses. Fails only if an allocation failed.
     pub fn pieces<B: Allocator + Copy>(&self, alloc: B) -> Result<Vec<RangeSpec, B>, AllocError>
         ensures pieces { IfOk result (λ found. ArePieces self.now 0 found.items) }
@@ -478,6 +509,9 @@ impl<'a, 'g, A: Allocator> Texts<'a, 'g, A> {
         ground.image_end();
         if ground.is_word(first) {
             return (RangeType::AddrTable, ground.words_end(first));
+        }
+        if ground.is_return(first) {
+            return (RangeType::RtsTable, ground.returns_end(first));
         }
         if ground.is_filler(first) {
             return (RangeType::ByteTable, ground.filler_piece(first));

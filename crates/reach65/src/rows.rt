@@ -4,8 +4,9 @@ ghost use Rattle.std.specs.Prelude.{◌≡◌, ◌+◌, ◌<◌, ◌≤◌, ◌|
 ghost use Rattle.map65.specs.ImageView.{end_of};
 ghost use Rattle.reach65.specs.Rows.{AreRows, AreWords, IsRow, are_different, free_word, is_any_row, is_in_table, is_of_table, is_row, is_word};
 ghost use Rattle.reach65.specs.Reached.{is_marked};
+ghost use Rattle.reach65.specs.Taken.{AreMarkedBy};
 
-use crate::marks::mark_range;
+use crate::marks::{blank_marks, mark_range};
 use crate::pieces::Ground;
 use crate::survey::Survey;
 use info65::{RangeSpec, RangeType};
@@ -164,25 +165,39 @@ impl<'a, A: Allocator, B: Allocator> Words<'a, A, B> {
     }
 }
 
-/// Marks the addresses of the range, if it is a row of addresses.
+/// Marks the addresses of the range, if it is of the type.
 #[tactic(auto, unfolding(crate::specs::Rows::is_in_table))]
-fn mark_table<A: Allocator>(marks: &mut Vec<bool, A>, row: RangeSpec)
+fn mark_table<A: Allocator>(marks: &mut Vec<bool, A>, role: RangeType, row: RangeSpec)
     requires count { length marks.old.items ≡ 65536 }
     ensures count { length marks.new.items ≡ 65536 }
-    ensures each { (a : ℕ) → is_marked marks.new.items a ≡ (is_marked marks.old.items a || is_in_table a row) }
+    ensures each { (a : ℕ) → is_marked marks.new.items a ≡ (is_marked marks.old.items a || is_in_table role a row) }
 {
-    if row.role == RangeType::AddrTable {
+    if row.role == role {
         mark_range(marks, row);
     }
 }
 
-/// Marks the addresses of the rows of addresses among these rows.
-pub fn mark_tables<A: Allocator>(marks: &mut Vec<bool, A>, rows: &[RangeSpec])
+/// Marks the addresses of the rows of the type among these rows: there is a mark for each address from $0000 to $FFFF. Fails only if an
+/// allocation failed.
+pub fn table_marks<A: Allocator>(
+    alloc: A,
+    role: RangeType,
+    rows: &[RangeSpec],
+) -> Result<Vec<bool, A>, AllocError>
+    ensures { IfOk result (λ marks. AreMarkedBy (is_of_table role rows.now) marks.items) }
+{
+    let mut marks = blank_marks(alloc)?;
+    mark_tables(&mut marks, role, rows);
+    Ok(marks)
+}
+
+/// Marks the addresses of the rows of the type among these rows.
+pub fn mark_tables<A: Allocator>(marks: &mut Vec<bool, A>, role: RangeType, rows: &[RangeSpec])
     requires count { length marks.old.items ≡ 65536 }
     ensures count { length marks.new.items ≡ 65536 }
-    ensures each { (a : ℕ) → is_marked marks.new.items a ≡ (is_marked marks.old.items a || is_of_table rows.now a) }
+    ensures each { (a : ℕ) → is_marked marks.new.items a ≡ (is_marked marks.old.items a || is_of_table role rows.now a) }
 {
     'tables: for &row in rows {
-        mark_table(marks, row);
+        mark_table(marks, role, row);
     }
 }

@@ -155,15 +155,15 @@ survey_of taken = record { reached = one; code = one; gone_on = []; called = [];
     one : List Bool
     one = false ∷ true ∷ []
 
-likely_word : word_comments with_word (survey_of (true ∷ true ∷ [])) [] ≡ codes " the word at $0002 is $0001: AddrTable?" ∷ []
+likely_word : word_comments with_word (survey_of (true ∷ true ∷ [])) [] [] ≡ codes " the word at $0002 is $0001: AddrTable?" ∷ []
 unfolding free_word is_free is_meant is_plain is_routine word_comments word_comment name_text covering covering_below
 likely_word = refl
 
-taken_word : word_comments with_word (survey_of (true ∷ true ∷ false ∷ true ∷ [])) [] ≡ []
+taken_word : word_comments with_word (survey_of (true ∷ true ∷ false ∷ true ∷ [])) [] [] ≡ []
 unfolding free_word is_free is_meant is_plain is_routine word_comments
 taken_word = refl
 
-word_of_table : word_comments with_word (survey_of (true ∷ true ∷ [])) (false ∷ false ∷ true ∷ []) ≡ []
+word_of_table : word_comments with_word (survey_of (true ∷ true ∷ [])) (false ∷ false ∷ true ∷ []) [] ≡ []
 unfolding free_word is_free is_meant is_plain is_routine word_comments
 word_of_table = refl
 

@@ -97,5 +97,5 @@ counts-more f marks k a old new is before all failing = record {
       ∙ sym (count-more f.map (is_failing f marks t) k);
 }
 
-abbrev pub ground-of : ImageView → List Bool → List Bool → List Bool → Ground
-ground-of image taken words texts = record { image = image; taken = taken; words = words; texts = texts }
+abbrev pub ground-of : ImageView → List Bool → List Bool → List Bool → List Bool → Ground
+ground-of image taken words returns texts = record { image = image; taken = taken; words = words; returns = returns; texts = texts }

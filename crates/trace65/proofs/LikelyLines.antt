@@ -32,9 +32,9 @@ of-word m s a (Some w) are = by_test (is_meant m s w && has_two_bytes w)
     by_test true = (word-line m a w are, tt)
     by_test false = tt
 
-words-lines : (m : MapView) (s : Survey) (words : List Bool) → AreNames m.info.names → AreLines (word_comments m s words)
+words-lines : (m : MapView) (s : Survey) (words returns : List Bool) → AreNames m.info.names → AreLines (word_comments m s words returns)
 unfolding word_comments
-words-lines m s words are = all-lines (λ a. comments_of_word m s a (word_at m s words a)) (λ a. of-word m s a (word_at m s words a) are) (all_of m)
+words-lines m s words returns are = all-lines (λ a. comments_of_word m s a (word_at m s words returns a)) (λ a. of-word m s a (word_at m s words returns a) are) (all_of m)
 
 call-line : (failing calls t : ℕ) → failing ≤ 65536 → calls ≤ 65536 → is_line (call_comment failing calls t) ≡ true
 unfolding call_comment
@@ -63,8 +63,8 @@ calls-lines f marks placed =
     (omega (arith, placed.room, few-counted m (is_call m marks t) (length m.image.bytes))))
     (all_of m)
 
-pub likely-lines : (m : MapView) (s : Survey) (words marks : List Bool) (tags : List Tag) → IsPlaced m.image → AreNames m.info.names
-    → AreLines (word_comments m s words ++ call_comments (record { map = m; tags = tags }) marks)
-likely-lines m s words marks tags placed are =
+pub likely-lines : (m : MapView) (s : Survey) (words returns marks : List Bool) (tags : List Tag) → IsPlaced m.image → AreNames m.info.names
+    → AreLines (word_comments m s words returns ++ call_comments (record { map = m; tags = tags }) marks)
+likely-lines m s words returns marks tags placed are =
     let f : FlowView = record { map = m; tags = tags } in
-    lines-joined (word_comments m s words) (call_comments f marks) (words-lines m s words are) (calls-lines f marks placed)
+    lines-joined (word_comments m s words returns) (call_comments f marks) (words-lines m s words returns are) (calls-lines f marks placed)

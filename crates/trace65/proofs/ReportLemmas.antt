@@ -37,9 +37,9 @@ proposal m tags f sound =
             (misplaced-lines m f.survey.reached f.entries),
       );
       last_lines = lines-joined (move_comments m tags f) (likely_comments m tags f) (found-lines m tags f.pairs (last_wanted f.pairs f.variables) sound.names)
-          (likely-lines m f.survey f.words f.survey.reached tags sound.placed sound.names);
+          (likely-lines m f.survey f.words f.returns f.survey.reached tags sound.placed sound.names);
     }
 
 pub accepted : (m : MapView) (given : List ℕ) (plain : Bool) (tags : List Tag) (f : Findings) → IsSoundMap m → TextLaw m → AreFindings m given plain tags f → IsAccepted m f.ranges f.labels (report_text m tags f)
 accepted m given plain tags f sound law are o file info accepts same among small =
-    law o file (report_text m tags f) info f.survey.reached f.survey.taken f.words f.survey.texts f.ranges f.labels accepts same among sound.names sound.placed are.survey.taken are.ranges are.new (proposal m tags f sound) small
+    law o file (report_text m tags f) info f.survey.reached f.survey.taken f.words f.returns f.survey.texts f.ranges f.labels accepts same among sound.names sound.placed are.survey.taken are.ranges are.new (proposal m tags f sound) small

@@ -1,6 +1,7 @@
 -- What is found of an image.
 use Rattle.std.specs.Prelude.{◌≡◌, ◌++◌, ◌||◌, ℕ, Bool, true, false, List}
 use Rattle.info65.specs.declared.information.range.RangeSpec.{RangeSpec}
+use Rattle.info65.specs.declared.information.range.RangeType.TheVariants as role
 use Rattle.info65.specs.declared.tags.tag.Tag.{Tag}
 use Rattle.map65.specs.ImageView.{ImageView}
 use Rattle.map65.specs.MapView.{MapView}
@@ -21,12 +22,14 @@ use Rattle.reach65.specs.Vectors.{is_of_vector}
 use Rattle.reach65.specs.declared.pairs.Pair.{Pair}
 use Rattle.trace65.specs.Said.{entries_said}
 
--- The entries that are given, what reached instructions do with the addresses, and marks of words that are addresses. And what is proposed: ranges,
+-- The entries that are given, what reached instructions do with the addresses, and marks of words that are addresses and of words that are
+-- less one. And what is proposed: ranges,
 -- pairs of halves, variables right after the image, and labels.
 pub record Findings : Type 0 where
   pub entries : List ℕ
   pub survey : Survey
   pub words : List Bool
+  pub returns : List Bool
   pub ranges : List RangeSpec
   pub pairs : List Pair
   pub variables : List ℕ
@@ -44,21 +47,23 @@ pub record ArePairs (tags : List Tag) (survey : Survey) (pairs found : List Pair
   pub said : AreMarkedBy (is_said tags) used
   pub halves : AreHalves survey used pairs found
 
--- The words that are addresses: vectors that led to code, and rows of words beside them that are addresses of routines.
-pub record AreWordMarks (image : ImageView) (survey : Survey) (words : List Bool) : Type 0 where
+-- The words that are addresses: vectors that led to code, and rows of words beside them that are addresses of routines. And those of the rows
+-- that are such addresses less one.
+pub record AreWordMarks (image : ImageView) (survey : Survey) (words returns : List Bool) : Type 0 where
   pub vectors : List Bool
   pub of_vectors : AreMarkedBy (is_of_vector image survey.reached survey.taken) vectors
   pub rows : List RangeSpec
-  pub are_rows : AreRows (record { within = record { image = image; taken = survey.taken; words = vectors; texts = survey.texts }; code = survey }) 0 rows
-  pub each : AreMarkedBy (λ a. is_marked vectors a || is_of_table rows a) words
+  pub are_rows : AreRows (record { within = record { image = image; taken = survey.taken; words = vectors; returns = vectors; texts = survey.texts }; code = survey }) 0 rows
+  pub each : AreMarkedBy (λ a. is_marked vectors a || is_of_table role.AddrTable rows a) words
+  pub less : AreMarkedBy (is_of_table role.RtsTable rows) returns
 
 -- what is found from the entries that are given and those of the information file and the image, beside what its groups `#: ..` say
 pub record AreFindings (m : MapView) (given : List ℕ) (plain : Bool) (tags : List Tag) (f : Findings) : Type 0 where
   pub entries : f.entries ≡ given ++ entries_said tags
   pub reached : AreTraced (record { map = m; tags = tags }) f.entries plain f.survey.reached
   pub survey : AreSurvey (record { map = m; tags = tags }) f.survey
-  pub words : AreWordMarks m.image f.survey f.words
-  pub ranges : ArePieces (record { image = m.image; taken = f.survey.taken; words = f.words; texts = f.survey.texts }) 0 f.ranges
+  pub words : AreWordMarks m.image f.survey f.words f.returns
+  pub ranges : ArePieces (record { image = m.image; taken = f.survey.taken; words = f.words; returns = f.returns; texts = f.survey.texts }) 0 f.ranges
   pub pairs : ArePairs tags f.survey (pairs_of m f.survey.reached) f.pairs
   pub variables : f.variables ≡ variables_of m.image f.survey.operands
   pub labels : f.labels ≡ labels_of m.info.names f.pairs f.variables

@@ -51,13 +51,13 @@ abbrev pub comments_of_word : MapView → Survey → ℕ → Option ℕ → List
 comments_of_word m s a None = []
 comments_of_word m s a (Some w) = if is_meant m s w && has_two_bytes w then word_comment m a w ∷ [] else []
 
--- the word of two bytes that nothing speaks for and that are of no proposed table of addresses, where these marks say which are
-abbrev pub word_at : MapView → Survey → List Bool → ℕ → Option ℕ
-word_at m s words a = free_word (record { image = m.image; taken = s.taken; words = words; texts = s.texts }) a
+-- the word of two bytes that nothing speaks for and that are of no proposed table of addresses or of returns, where these marks say which are
+abbrev pub word_at : MapView → Survey → List Bool → List Bool → ℕ → Option ℕ
+word_at m s words returns a = free_word (record { image = m.image; taken = s.taken; words = words; returns = returns; texts = s.texts }) a
 
 -- one for each that is an address, in order
-unfoldable pub word_comments : MapView → Survey → List Bool → List (List ℕ)
-word_comments m s words = flat_map (λ a. comments_of_word m s a (word_at m s words a)) (all_of m)
+unfoldable pub word_comments : MapView → Survey → List Bool → List Bool → List (List ℕ)
+word_comments m s words returns = flat_map (λ a. comments_of_word m s a (word_at m s words returns a)) (all_of m)
 
 -- ---- calls
 

@@ -36,7 +36,7 @@ move_comments m tags f = pair_comments m f.pairs ++ new_after tags m.image (last
 
 -- what is only likely
 abbrev pub likely_comments : MapView → List Tag → Findings → List (List ℕ)
-likely_comments m tags f = word_comments m f.survey f.words ++ call_comments (record { map = m; tags = tags }) f.survey.reached
+likely_comments m tags f = word_comments m f.survey f.words f.returns ++ call_comments (record { map = m; tags = tags }) f.survey.reached
 
 -- those after the labels
 abbrev pub found_comments : MapView → List Tag → Findings → List (List ℕ)

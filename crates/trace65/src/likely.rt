@@ -68,21 +68,23 @@ fn put_likely(
     Ok(())
 }
 
-/// Appends a comment for each word that is likely an address: nothing speaks for its bytes, and these marks of words that are addresses are
-/// not set there.
+/// Appends a comment for each word that is likely an address: nothing speaks for its bytes, and these marks of words that are addresses,
+/// or less one, are not set there.
 #[tactic(auto, unfolding(crate::specs::Likely::word_comments))]
 pub fn put_words(
     out: &mut Vec<u8>,
     map: &Map<'_>,
     survey: &Survey,
     words: &[bool],
+    returns: &[bool],
 ) -> Result<(), AllocError>
-    requires { length words.now ≡ 65536 }
-    ensures { OnOk result (out.new.items ≡ out.old.items ++ flat_map comment_line (word_comments map.now survey.now words.now)) }
+    requires words { length words.now ≡ 65536 }
+    requires returns { length returns.now ≡ 65536 }
+    ensures { OnOk result (out.new.items ≡ out.old.items ++ flat_map comment_line (word_comments map.now survey.now words.now returns.now)) }
 {
     let image = map.image();
     let start = usize::from(image.start());
-    let ground = Ground::new(image, &survey.taken, words, &survey.texts);
+    let ground = Ground::new(image, &survey.taken, words, returns, &survey.texts);
     'words: for k in 0..image.bytes().len() {
         let at = start + k;
         put_likely(out, map, survey, at as u16, ground.word(at))?;

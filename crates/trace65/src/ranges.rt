@@ -110,6 +110,7 @@ fn type_text(role: RangeType) -> &'static str
     match role {
         RangeType::TextTable => "TextTable",
         RangeType::AddrTable => "AddrTable",
+        RangeType::RtsTable => "RtsTable",
         _ => "ByteTable",
     }
 }

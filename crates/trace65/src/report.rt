@@ -18,23 +18,24 @@ use crate::picture::{image_marks, put_counts, put_picture};
 use crate::ranges::put_ranges;
 use crate::request::Tracing;
 use crate::said::all_entries;
-use info65::{RangeSpec, Tag};
+use info65::{RangeSpec, RangeType, Tag};
 use map65::{Image, Map};
 use reach65::laws::text_law;
 use reach65::{
     Flow, Ground, Pair, Survey, Words, entries_of, follow, halves_of, labels_of, mark_said,
-    mark_tables, mark_vectors, pairs_of, plain_entries_of, reached, variables_of,
+    mark_tables, mark_vectors, pairs_of, plain_entries_of, reached, table_marks, variables_of,
 };
 use std::alloc::{AllocError, Global};
 use std::marker::Model;
 
-/// What is found of an image: the entries that are given, what reached instructions do with the addresses, marks of words that are addresses,
+/// What is found of an image: the entries that are given, what reached instructions do with the addresses, marks of words that are addresses or less one,
 /// and the ranges, the pairs of halves, the variables and the labels that are proposed.
 #[derive(Drop)]
 struct Findings {
     entries: Vec<u16>,
     survey: Survey,
     words: Vec<bool>,
+    returns: Vec<bool>,
     ranges: Vec<RangeSpec>,
     pairs: Vec<Pair>,
     variables: Vec<u16>,
@@ -50,6 +51,7 @@ impl Model for Findings {
       entries = f.entries.items;
       survey = f.survey;
       words = f.words.items;
+      returns = f.returns.items;
       ranges = f.ranges.items;
       pairs = f.pairs.items;
       variables = f.variables.items;
@@ -89,18 +91,24 @@ fn halves(
     Ok(found)
 }
 
-/// Marks of the words that are addresses: of vectors that led to code, and of rows of words that are addresses of routines.
-fn word_marks(alloc: Global, image: &Image, survey: &Survey) -> Result<Vec<bool>, AllocError>
-    ensures { IfOk result (λ words. AreWordMarks image.now survey.now words.items) }
+/// Marks of the words that are addresses: of vectors that led to code, and of rows of words that are addresses of routines. And marks of
+/// those of rows that are such addresses less one.
+fn word_marks(
+    alloc: Global,
+    image: &Image,
+    survey: &Survey,
+) -> Result<(Vec<bool>, Vec<bool>), AllocError>
+    ensures { IfOk result (λ found. AreWordMarks image.now survey.now found.0.items found.1.items) }
 {
     let mut words = mark_vectors(alloc, image, &survey.reached, &survey.taken)?;
     let rows = Words::new(
-        Ground::new(image, &survey.taken, &words, &survey.texts),
+        Ground::new(image, &survey.taken, &words, &words, &survey.texts),
         survey,
     )
     .rows(alloc)?;
-    mark_tables(&mut words, &rows);
-    Ok(words)
+    mark_tables(&mut words, RangeType::AddrTable, &rows);
+    let returns = table_marks(alloc, RangeType::RtsTable, &rows)?;
+    Ok((words, returns))
 }
 
 /// What is found from the entries that are given and those of the information file and the image.
@@ -118,8 +126,9 @@ fn search_image(
     let entries = all_entries(alloc, given, tags)?;
     let reached = reached_from(alloc, &flow, &entries, plain)?;
     let survey = Survey::of(alloc, &flow, reached)?;
-    let words = word_marks(alloc, map.image(), &survey)?;
-    let ranges = Ground::new(map.image(), &survey.taken, &words, &survey.texts).pieces(alloc)?;
+    let (words, returns) = word_marks(alloc, map.image(), &survey)?;
+    let ground = Ground::new(map.image(), &survey.taken, &words, &returns, &survey.texts);
+    let ranges = ground.pieces(alloc)?;
     let pairs = halves(alloc, &flow, &survey, tags)?;
     let variables = variables_of(alloc, map.image(), &survey.operands)?;
     let labels = labels_of(alloc, map.info(), &pairs, &variables)?;
@@ -127,6 +136,7 @@ fn search_image(
         entries,
         survey,
         words,
+        returns,
         ranges,
         pairs,
         variables,
@@ -217,11 +227,13 @@ fn put_likely(
     tags: &[Tag],
     found: &Findings,
 ) -> Result<(), AllocError>
-    requires { length found.now.words ≡ 65536 }
+    requires words { length found.now.words ≡ 65536 }
+    requires returns { length found.now.returns ≡ 65536 }
     ensures { OnOk result (out.new.items ≡ out.old.items ++ flat_map comment_line (likely_comments map.now tags.now found.now)) }
 {
     let words: &[bool] = &found.words;
-    put_words(out, map, &found.survey, words)?;
+    let returns: &[bool] = &found.returns;
+    put_words(out, map, &found.survey, words, returns)?;
     put_calls(out, alloc, &Flow::new(map, tags), &found.survey.reached)
 }
 
@@ -233,7 +245,8 @@ fn put_comments(
     tags: &[Tag],
     found: &Findings,
 ) -> Result<(), AllocError>
-    requires { length found.now.words ≡ 65536 }
+    requires words { length found.now.words ≡ 65536 }
+    requires returns { length found.now.returns ≡ 65536 }
     ensures { OnOk result (out.new.items ≡ out.old.items ++ flat_map comment_line (found_comments map.now tags.now found.now)) }
 {
     put_moves(out, map, tags, found)?;
@@ -251,6 +264,7 @@ fn put_report(
 ) -> Result<(), AllocError>
     requires inside { LieIn map.now.image found.now.ranges }
     requires words { length found.now.words ≡ 65536 }
+    requires returns { length found.now.returns ≡ 65536 }
     ensures { OnOk result (out.new.items ≡ out.old.items ++ report_text map.now tags.now found.now) }
 {
     put_head(out, map, found)?;

@@ -10,11 +10,11 @@ tables-init g c = (c.requires.count, λ a. sym (or-false _))
 
 pub tables-preserved : goal.tables-preserved
 unfolding is_of_table
-tables-preserved g c = (c.mark_table.ensures.count, λ a. any-next (is_in_table a) c.args.rows.now c.tables.row-index _ _ _ _ _ c.tables-test.true refl (c.mark_table.ensures.each a) (c.tables.invariant.1 a))
+tables-preserved g c = (c.mark_table.ensures.count, λ a. any-next (is_in_table c.args.role a) c.args.rows.now c.tables.row-index _ _ _ _ _ c.tables-test.true refl (c.mark_table.ensures.each a) (c.tables.invariant.1 a))
 
 pub returns-clause-each : goal.returns-clause-each
 unfolding is_of_table
-returns-clause-each g c = λ a. any-end (is_in_table a) c.args.rows.now c.tables.row-index _ _ c.tables-test.false (c.tables.invariant.1 a)
+returns-clause-each g c = λ a. any-end (is_in_table c.args.role a) c.args.rows.now c.tables.row-index _ _ c.tables-test.false (c.tables.invariant.1 a)
 
 pub mark_table-requires : goal.mark_table-requires
 mark_table-requires g c = record { count = c.tables.invariant.0 }

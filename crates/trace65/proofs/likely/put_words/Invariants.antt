@@ -6,4 +6,4 @@ use Rattle.trace65.proofs.likely.put_words.Given as goal
 
 abbrev pub invariant-words : goal.invariant-words
 invariant-words l =
-    l.out.items ≡ l.initial.out.items ++ flat_map comment_line (flat_map (λ a. comments_of_word l.map l.survey a (word_at l.map l.survey l.words a)) (first_of l.map l.k))
+    l.out.items ≡ l.initial.out.items ++ flat_map comment_line (flat_map (λ a. comments_of_word l.map l.survey a (word_at l.map l.survey l.words l.returns a)) (first_of l.map l.k))
