@@ -7,4 +7,3 @@ pub mod NamedCells
 pub mod Preparing
 pub mod Refusals
 pub mod SegmentReentry
-pub mod WrittenOps

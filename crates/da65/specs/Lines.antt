@@ -7,7 +7,7 @@ use Rattle.map65.specs.Roles.{is_skip, role_of}
 use Rattle.da65.specs.BaseNames.{names_of}
 use Rattle.da65.specs.Comments.{comment_at}
 use Rattle.da65.specs.Groups.{IsGroupPlace, group_bytes, group_len, groups_from, is_skip_range}
-use Rattle.da65.specs.Listing.{ListingLine, assignment_line, comments, constants, ending_lines, forwards, group_line, group_lines, has_constant_line, has_separator, line_text, listing, plain, segment_lines, statement_lines, with_empty_line}
+use Rattle.da65.specs.Listing.{ListingLine, assignment_line, comments, constants, ending_lines, forwards, group_line, group_lines, has_constant_line, has_empty_line, has_separator, line_text, listing, plain, segment_lines, statement_lines, with_empty_line}
 use Rattle.da65.specs.Marks.{has_marks}
 use Rattle.da65.specs.Segments.{segment_before}
 use Rattle.map65.specs.Segments.{segment_at}
@@ -18,6 +18,7 @@ use Rattle.da65.specs.declared.listing.place.ListingPlace.TheVariants.{Title, Af
 use Rattle.da65.specs.declared.listing.style.Style.{Style}
 use Rattle.stmt65.specs.Printable.{MayBeLabelled}
 use Rattle.stmt65.specs.Views as view
+use Rattle.stmt65.specs.Views.{StatementView}
 
 -- the lines of the groups from the k-th byte on
 unfoldable pub groups_left : MapView → ℕ → List ListingLine
@@ -158,7 +159,16 @@ IsAssignmentNext m v text next = IsNext m (assignment_line (names_of m) v ∷ co
 abbrev pub IsNextIn : MapView → ℕ → List ListingLine → List ℕ → ListingPlace → Type 0
 IsNextIn m k left text next = IsNext m left text next (segment_at m (m.image.start + k))
 
--- the text is that of its statement, after this label if there is one
+-- this is the statement of that group
+abbrev pub IsStatementOf : MapView → ℕ → StatementView → Type 0
+IsStatementOf m k s = s ≡ statement_at m (m.image.start + k)
+
+-- the text is that of its statement, after this label if there is one; `ends`: an empty line follows
+pub record IsStatementLine (m : MapView) (k : ℕ) (label : Option (List ℕ)) (text : List ℕ) (ends : Bool) : Type 0 where
+  pub text_is : text ≡ line_text (style_of m.info.settings) (group_line label (statement_at m (m.image.start + k)) (m.image.start + k) (group_bytes m (m.image.start + k)))
+  pub ends_is : ends ≡ has_empty_line (style_of m.info.settings) (statement_at m (m.image.start + k))
+
+-- the text is that of its statement, and the place from which the lines after it are left
 abbrev pub IsStatementNext : MapView → ℕ → Option (List ℕ) → List ℕ → ListingPlace → Type 0
 IsStatementNext m k label text next = IsNextIn m k (labelled_left m k label) text next
 

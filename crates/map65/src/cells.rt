@@ -2,7 +2,8 @@
 //!
 //! From the lowest bit on: four bits for the code of the role, three for the length, one for a name, one for a border.
 
-ghost use Rattle.std.specs.Prelude.{◌≡◌, ◌<◌, ℕ, IfOk, slice_index, vec_len};
+ghost use Rattle.std.specs.Prelude.{◌≡◌, ◌≢◌, ◌<◌, ℕ, IfOk, Some, slice_index, vec_len};
+ghost use Rattle.std.specs.Bool.{OnTrue, OnFalse};
 ghost use Rattle.map65.specs.Code.Cells.{are_one_run, cell_of, coded, is_named, has_border, is_wide_cell, len_in_cell, role_in_cell, with_name, with_border, with_len};
 ghost use Rattle.map65.specs.Cells.{code_of};
 
@@ -76,6 +77,15 @@ pub fn role_in(cell: u16) -> Option<RangeType>
     ensures { result ≡ role_in_cell cell }
 {
     coded(cell % LENGTH)
+}
+
+/// Returns whether the role that a cell holds is CODE. It is asked for each line, and needs no other role.
+#[tactic(auto, unfolding(crate::specs::Code::Cells::coded, crate::specs::Code::Cells::role_in_cell))]
+pub fn is_code(cell: u16) -> bool
+    ensures code { OnTrue result (role_in_cell cell ≡ Some RangeType.Code) }
+    ensures other { OnFalse result (role_in_cell cell ≢ Some RangeType.Code) }
+{
+    cell % LENGTH == 1
 }
 
 /// Returns the length of an item that a cell holds.

@@ -1,6 +1,7 @@
 //! The map of an image.
 
-ghost use Rattle.std.specs.Prelude.{◌≡◌, ◌+◌, ◌-◌, ◌/◌, ◌%◌, ◌<◌, ◌≤◌, ℕ, IfOk, IfSome, length, option_map, slice_index};
+ghost use Rattle.std.specs.Prelude.{◌≡◌, ◌≢◌, ◌+◌, ◌-◌, ◌/◌, ◌%◌, ◌<◌, ◌≤◌, ℕ, IfOk, IfSome, Some, length, option_map, slice_index};
+ghost use Rattle.std.specs.Bool.{OnTrue, OnFalse};
 ghost use Rattle.info65.specs.Code.Names.{given_seen};
 ghost use Rattle.info65.specs.Names.{covering, default_name};
 ghost use Rattle.map65.specs.Code.Cells.{IsBuilt, is_named, len_in_cell, role_in_cell};
@@ -13,7 +14,7 @@ ghost use Rattle.map65.specs.Pieces.{is_in_run};
 ghost use Rattle.map65.specs.Roles.{role_at};
 ghost use Rattle.map65.specs.Segments.{is_border, segment_at};
 
-use crate::cells::{are_one_run, blank_cells, is_named, len_in, role_in};
+use crate::cells::{are_one_run, blank_cells, is_code, is_named, len_in, role_in};
 use crate::image::{ADDRESSES, Image};
 use crate::marking::{mark_items, mark_roles};
 use crate::name::{NameBuf, NameKind, Place, put_default, put_text};
@@ -87,6 +88,14 @@ impl<'a, A: Allocator> Map<'a, A> {
         ensures { result ≡ role_at self.now address }
     {
         role_in(self.cell(address))
+    }
+
+    /// Returns whether the role of an address is CODE.
+    pub fn is_code(&self, address: u16) -> bool
+        ensures code { OnTrue result (role_at self.now address ≡ Some RangeType.Code) }
+        ensures other { OnFalse result (role_at self.now address ≢ Some RangeType.Code) }
+    {
+        is_code(self.cell(address))
     }
 
     /// Returns the length of the item that begins at the address, and 0 if none does.

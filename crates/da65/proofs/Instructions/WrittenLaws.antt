@@ -56,23 +56,6 @@ of_each P n next bytes each (row.Two k l) long = go (operand_expr n k next 1 byt
     go (Some e) None h g = tt
     go (Some e) (Some f) h g = (h, g)
 
--- ---- whether there are operands
-
-pub one_some : (o : Option ExprView) → is_some (option_map (λ e. view.one e) o) ≡ is_some o
-one_some None = refl
-one_some (Some e) = refl
-
-pub both_some : (o u : Option ExprView) → is_some (both o u) ≡ (is_some o && is_some u)
-both_some None u = refl
-both_some (Some e) None = refl
-both_some (Some e) (Some f) = refl
-
-pub is_one : (o : Option ExprView) → is_some (option_map (λ e. view.one e) o) ≡ true → is_some o ≡ true
-is_one o h = sym (one_some o) ∙ h
-
-pub are_both : (o u : Option ExprView) → is_some (both o u) ≡ true → (is_some o ≡ true) × (is_some u ≡ true)
-are_both o u h = and_parts (is_some o) (is_some u) (sym (both_some o u) ∙ h)
-
 -- ---- `a:` where it is needed
 
 -- the mnemonic has the zero-page mode that is written alike, and an assembler would take it for this operand

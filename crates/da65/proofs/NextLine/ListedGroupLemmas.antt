@@ -1,25 +1,34 @@
 -- The groups that the code lists, and their statements.
-use Rattle.std.proofs.Common.{◌≡◌, ◌∙◌, ℕ, ◌+◌, ◌<◌, ◌≤◌, List, length, refl, ap, sym, subst, arith}
+use Rattle.std.proofs.Common.{◌≡◌, ◌∙◌, ◌⊎◌, inl, inr, ℕ, ◌+◌, ◌<◌, ◌≤◌, List, length, Option, Some, None, true, refl, ap, sym, subst, arith}
+use Rattle.std.specs.Prelude.{is_some}
+use Rattle.std.specs.Option.{option_map}
 use Rattle.std.proofs.lemmas.List.{length-take}
-use Rattle.isa65.specs.Cpu.{table_of}
-use Rattle.isa65.specs.Mode.{len_of}
-use Rattle.isa65.specs.Opcodes.{Table}
-use Rattle.isa65.specs.declared.cpu.Cpu.{Cpu}
+use Rattle.isa65.specs.Mode.{len_of, row_len, size_of}
+use Rattle.isa65.specs.declared.op.Op.{Op}
+use Rattle.isa65.specs.declared.row.OperandKind.{OperandKind}
+use Rattle.isa65.specs.declared.row.Row.{Row}
+use Rattle.isa65.specs.declared.row.Row.TheVariants as row
 use Rattle.info65.specs.declared.information.range.RangeType.{RangeType}
 use Rattle.info65.specs.declared.information.range.RangeType.TheVariants.{Code}
-use Rattle.map65.specs.ImageView.{IsPlaced}
+use Rattle.map65.specs.ImageView.{IsPlaced, is_inside}
+use Rattle.map65.proofs.Public.{inside-if}
 use Rattle.map65.specs.MapView.{MapView, opcodes}
-use Rattle.stmt65.specs.Views.{StatementView}
+use Rattle.map65.specs.Roles.{role_of}
+use Rattle.stmt65.specs.Views as view
+use Rattle.stmt65.specs.Views.{ExprView, OperandsView, StatementView}
 use Rattle.da65.specs.BaseNames.{Names, names_of}
-use Rattle.da65.specs.Code.ListedGroups.{IsGroupIn}
+use Rattle.da65.specs.Code.ListedGroups.{IsGroupIn, IsInstructionIn, WritesOne, WritesTwo}
 use Rattle.da65.specs.Instructions.{instruction_in}
+use Rattle.da65.specs.Lines.{IsStatementOf}
 use Rattle.da65.specs.Shapes.{IsGroupOf}
-use Rattle.da65.specs.Statements.{statement_at, statement_for, statement_in}
+use Rattle.da65.specs.Statements.{is_forced, operand_expr, operands_of, row_operands, statement_for, statement_in}
 use Rattle.da65.specs.declared.listing.group.Group.{Group}
 use Rattle.da65.proofs.Groups.GroupLemmas.{group-fits, group-some}
 use Rattle.da65.proofs.Groups.ShapeLemmas.{group-shape}
 use Rattle.isa65.proofs.ModeLaws.{len-small}
 use Rattle.da65.proofs.Statements.EachStatement.{of_group}
+use Rattle.da65.proofs.Statements.Reassembly.{as-instruction, undefined, unreached}
+use Rattle.da65.proofs.Statements.StandsLaws.{begins_with}
 use Rattle.map65.specs.Items.{code_size}
 
 pub has-bytes : (m : MapView) (g : Group) → IsGroupIn m g → 0 < length g.bytes.now
@@ -28,9 +37,13 @@ has-bytes m g is = omega (arith, is.len_is, group-some m g.index is.start.place 
 pub in-space : (m : MapView) (g : Group) → IsPlaced m.image → IsGroupIn m g → g.address + length g.bytes.now ≤ 65536
 in-space m g placed is = omega (arith, is.address_is, is.len_is, group-fits m g.index is.start.place is.start.inside is.start.shown, placed.room)
 
+-- its first byte lies in the image
+pub is-inside : (m : MapView) (g : Group) → IsGroupIn m g → is_inside m.image g.address ≡ true
+is-inside m g is = inside-if m g.address (omega (arith, is.address_is)) (omega (arith, is.address_is, is.start.inside))
+
 -- they are those of its role
-pub of-role : (m : MapView) (cpu : Cpu) (g : Group) → cpu ≡ m.info.settings.cpu → IsGroupIn m g → IsGroupOf (table_of cpu) g.role g.bytes.now
-of-role m cpu g same is = rw (same, is.role_is, is.bytes_are) (group-shape m g.index is.start.place is.start.inside is.start.shown)
+pub of-role : (m : MapView) (g : Group) → IsGroupIn m g → IsGroupOf (opcodes m) (role_of m.info g.address) g.bytes.now
+of-role m g is = rw (is.address_is, is.bytes_are) (group-shape m g.index is.start.place is.start.inside is.start.shown)
 
 -- they are few, whatever statement they have
 pub is-short : (m : MapView) (g : Group) → IsGroupIn m g → length g.bytes.now ≤ 16
@@ -46,20 +59,78 @@ is-short m g is =
       nowhere = λ two e. omega (arith, two);
       return = λ b two other e. omega (arith, two);
     })
-    g.role (of-role m m.info.settings.cpu g refl is)
+    (role_of m.info g.address) (of-role m g is)
+
+-- its statement, by its own address and bytes
+pub statement-is : (m : MapView) (g : Group) (s : StatementView) → IsGroupIn m g
+    → s ≡ statement_for (names_of m) (opcodes m) (role_of m.info g.address) g.address g.bytes.now → IsStatementOf m g.index s
+statement-is m g s is told = told ∙ rw (is.address_is, is.bytes_are) refl
 
 -- ---- code
 
 -- an item of code is an instruction, or one byte
-pub code-item : (m : MapView) (cpu : Cpu) (g : Group) → cpu ≡ m.info.settings.cpu → g.role ≡ Code → IsGroupIn m g → code_size (instruction_in (table_of cpu) g.bytes.now) ≡ length g.bytes.now
-code-item m cpu g same code is = subst (λ (r : RangeType). IsGroupOf (table_of cpu) r g.bytes.now) code (of-role m cpu g same is)
+code-item : (m : MapView) (g : Group) → IsGroupIn m g → role_of m.info g.address ≡ Code → code_size (instruction_in (opcodes m) g.bytes.now) ≡ length g.bytes.now
+code-item m g is code = subst (λ (r : RangeType). IsGroupOf (opcodes m) r g.bytes.now) code (of-role m g is)
 
--- the statement of code is that of a group of its role
-pub code-for : (n : Names) (t : Table) (r : RangeType) (a : ℕ) (bytes : List ℕ) (s : StatementView) → r ≡ Code → s ≡ statement_in n t a bytes → s ≡ statement_for n t r a bytes
+code-is : (m : MapView) (g : Group) (s : StatementView) → IsGroupIn m g → role_of m.info g.address ≡ Code
+    → s ≡ statement_in (names_of m) (opcodes m) g.address g.bytes.now → IsStatementOf m g.index s
 unfolding statement_for
-code-for n t r a bytes s is told = told ∙ ap (λ (r : RangeType). statement_for n t r a bytes) (sym is)
+code-is m g s is code told =
+    statement-is m g s is (told ∙ ap (λ (r : RangeType). statement_for (names_of m) (opcodes m) r g.address g.bytes.now) (sym code))
 
--- its statement, by the map and the opcodes that the code has
-pub statement-is : (n m : MapView) (cpu : Cpu) (g : Group) (s : StatementView) → n ≡ m → cpu ≡ m.info.settings.cpu → IsGroupIn m g
-    → s ≡ statement_for (names_of n) (table_of cpu) g.role g.address g.bytes.now → s ≡ statement_at m (m.image.start + g.index)
-statement-is n m cpu g s same of is told = told ∙ rw (same, of, is.role_is, is.address_is, is.bytes_are) refl
+-- one that is no instruction is written as its bytes
+pub no-instruction : (m : MapView) (g : Group) → IsGroupIn m g → role_of m.info g.address ≡ Code → instruction_in (opcodes m) g.bytes.now ≡ None
+    → IsStatementOf m g.index (view.bytes g.bytes.now)
+no-instruction m g is code none =
+    code-is m g _ is code (sym (undefined (names_of m) (opcodes m) g.address g.bytes.now none (code-item m g is code)))
+
+-- and so is one whose operands can't be written
+pub no-operands : (m : MapView) (g : Group) (op : Op) → IsInstructionIn m g op → None ≡ operands_of (names_of m) op.mode g.address g.bytes.now
+    → IsStatementOf m g.index (view.bytes g.bytes.now)
+no-operands m g op is none =
+    code-is m g _ is.group is.code
+    (sym (unreached (names_of m) (opcodes m) g.address g.bytes.now op is.begins (ap is_some none) (code-item m g is.group is.code)))
+
+-- any other is written as its instruction
+pub with-operands : (m : MapView) (g : Group) (op : Op) (os : OperandsView) → IsInstructionIn m g op
+    → Some os ≡ operands_of (names_of m) op.mode g.address g.bytes.now → IsStatementOf m g.index (view.instr op (is_forced (opcodes m) op g.bytes.now) os)
+with-operands m g op os is has = code-is m g _ is.group is.code (as-instruction (names_of m) (opcodes m) g.address g.bytes.now op os is.begins has)
+
+-- it has all of its bytes
+pub is-long : (m : MapView) (g : Group) (op : Op) → IsInstructionIn m g op → len_of op.mode ≤ length g.bytes.now
+is-long m g op is = (begins_with (opcodes m) g.bytes.now op is.begins).long
+
+-- ---- operands
+
+-- a row without an operand has none
+pub bare : (n : Names) (r : Row) (next : ℕ) (bytes : List ℕ) → (r ≡ row.Implied) ⊎ (r ≡ row.Accumulator) → Some view.none ≡ row_operands n r next bytes
+bare n r next bytes (inl is) = rw is refl
+bare n r next bytes (inr is) = rw is refl
+
+-- a row with one operand has that one
+pub one-operand : (n : Names) (r : Row) (kind : OperandKind) (next : ℕ) (bytes : List ℕ) (o : Option ExprView) → WritesOne r kind
+    → o ≡ operand_expr n kind next 1 bytes → option_map (λ e. view.one e) o ≡ row_operands n r next bytes
+one-operand n (row.One p k) kind next bytes o same is = rw (same, is) refl
+one-operand n row.Implied kind next bytes o same is = absurd same
+one-operand n row.Accumulator kind next bytes o same is = absurd same
+one-operand n (row.Two k l) kind next bytes o same is = absurd same
+
+pub one-len : (r : Row) (kind : OperandKind) → WritesOne r kind → 1 + size_of kind ≡ row_len r
+one-len (row.One p k) kind same = rw same refl
+one-len row.Implied kind same = absurd same
+one-len row.Accumulator kind same = absurd same
+one-len (row.Two k l) kind same = absurd same
+
+-- and one with two has those two
+pub two-operands : (n : Names) (r : Row) (first second : OperandKind) (next : ℕ) (bytes : List ℕ) → WritesTwo r first second
+    → row_operands n (row.Two first second) next bytes ≡ row_operands n r next bytes
+two-operands n (row.Two k l) first second next bytes same = rw (same.0, same.1) refl
+two-operands n row.Implied first second next bytes same = absurd same
+two-operands n row.Accumulator first second next bytes same = absurd same
+two-operands n (row.One p k) first second next bytes same = absurd same
+
+pub two-len : (r : Row) (first second : OperandKind) → WritesTwo r first second → row_len (row.Two first second) ≡ row_len r
+two-len (row.Two k l) first second same = rw (same.0, same.1) refl
+two-len row.Implied first second same = absurd same
+two-len row.Accumulator first second same = absurd same
+two-len (row.One p k) first second same = absurd same

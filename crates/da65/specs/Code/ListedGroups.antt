@@ -1,9 +1,15 @@
 -- The groups that the code lists.
-use Rattle.std.specs.Prelude.{◌≡◌, ◌+◌, length}
-use Rattle.map65.specs.MapView.{MapView}
+use Rattle.std.specs.Prelude.{◌≡◌, ◌+◌, Some, length}
+use Rattle.isa65.specs.declared.op.Op.{Op}
+use Rattle.isa65.specs.declared.row.OperandKind.{OperandKind}
+use Rattle.isa65.specs.declared.row.Row.{Row}
+use Rattle.isa65.specs.declared.row.Row.TheVariants as row
+use Rattle.info65.specs.declared.information.range.RangeType.TheVariants.{Code}
+use Rattle.map65.specs.MapView.{MapView, opcodes}
 use Rattle.map65.specs.Roles.{role_of}
 use Rattle.da65.specs.Groups.{group_bytes, group_len}
 use Rattle.stmt65.specs.Printable.{IsPrintable}
+use Rattle.da65.specs.Instructions.{instruction_in}
 use Rattle.da65.specs.Lines.{IsGroupStart}
 use Rattle.da65.specs.Statements.{statement_at}
 use Rattle.da65.specs.declared.listing.group.Group.{Group}
@@ -12,7 +18,22 @@ use Rattle.da65.specs.declared.listing.group.Group.{Group}
 pub record IsGroupIn (m : MapView) (g : Group) : Type 0 where
   pub start : IsGroupStart m g.index
   pub address_is : g.address ≡ m.image.start + g.index
-  pub role_is : g.role ≡ role_of m.info (m.image.start + g.index)
   pub bytes_are : g.bytes.now ≡ group_bytes m (m.image.start + g.index)
   pub len_is : length g.bytes.now ≡ group_len m (m.image.start + g.index)
   pub printable : IsPrintable (statement_at m (m.image.start + g.index))
+
+-- the group of the map is an item of code that begins with this instruction
+pub record IsInstructionIn (m : MapView) (g : Group) (op : Op) : Type 0 where
+  pub group : IsGroupIn m g
+  pub code : role_of m.info g.address ≡ Code
+  pub begins : instruction_in (opcodes m) g.bytes.now ≡ Some op
+
+-- the row writes one operand, of this kind
+abbrev pub WritesOne : Row → OperandKind → Type 0
+WritesOne (row.One pattern k) kind = k ≡ kind
+WritesOne _ kind = ⊥
+
+-- the row writes two operands, of these kinds
+abbrev pub WritesTwo : Row → OperandKind → OperandKind → Type 0
+WritesTwo (row.Two k l) first second = (k ≡ first) × (l ≡ second)
+WritesTwo _ first second = ⊥

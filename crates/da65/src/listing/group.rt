@@ -1,7 +1,5 @@
 //! The group that a line lists.
 
-use info65::RangeType;
-
 /// The group that a line lists: bytes of one role that follow each other.
 #[derive(Clone, Copy)]
 pub struct Group<'a> {
@@ -9,8 +7,6 @@ pub struct Group<'a> {
     pub index: usize,
     /// The address of its first byte.
     pub address: u16,
-    /// What its bytes are.
-    pub role: RangeType,
     /// Its bytes, 1 to 16.
     pub bytes: &'a [u8],
 }

@@ -3,15 +3,18 @@
 ghost use Rattle.std.specs.Prelude.{◌≡◌, ◌≢◌, ◌+◌, ◌-◌, ◌<◌, ◌≤◌, IfSome, None, Some, length};
 ghost use Rattle.std.specs.Option.{option_copied};
 ghost use Rattle.std.specs.Bool.{OnTrue};
-ghost use Rattle.stmt65.specs.Code.StatementViews.{statement_seen};
+ghost use Rattle.isa65.specs.Mode.{len_of, row_of};
+ghost use Rattle.stmt65.specs.Code.StatementViews.{operands_seen, statement_seen};
 ghost use Rattle.stmt65.specs.Printable.{IsNameLong};
+ghost use Rattle.stmt65.specs.Views as view;
 ghost use Rattle.map65.specs.ImageView.{AreBytes};
+ghost use Rattle.map65.specs.Roles.{role_of};
 ghost use Rattle.da65.specs.BaseNames.{is_base, names_of};
-ghost use Rattle.da65.specs.Code.ListedGroups.{IsGroupIn};
+ghost use Rattle.da65.specs.Code.ListedGroups.{IsGroupIn, IsInstructionIn, WritesOne, WritesTwo};
 ghost use Rattle.da65.specs.Groups.{group_len};
-ghost use Rattle.da65.specs.Lines.{IsFirstFrom, IsGroupStart, IsInGroup, IsLabelNext, IsNextIn, IsStatementNext, MayFollow, group_left};
+ghost use Rattle.da65.specs.Lines.{IsFirstFrom, IsGroupStart, IsInGroup, IsLabelNext, IsNextIn, IsStatementLine, IsStatementNext, IsStatementOf, MayFollow, group_left};
 ghost use Rattle.da65.specs.Listing.{forward_line, forwards, label_at, line_text};
-ghost use Rattle.da65.specs.Statements.{statement_at};
+ghost use Rattle.da65.specs.Statements.{operands_of};
 ghost use Rattle.da65.specs.Style.{style_of};
 
 use crate::listing::base_names::put_base;
@@ -20,12 +23,15 @@ use crate::listing::line_groups::{group_len, role_inside};
 use crate::listing::listed_image::ListedImage;
 use crate::listing::place::ListingPlace;
 use crate::listing::statement_line::{put_plain, put_statement};
-use crate::listing::statements::{OperandNames, instruction, table_statement, written_op};
+use crate::listing::statements::{
+    OperandNames, instruction_in, operand_expr, table_statement, two_operands, written_size,
+};
 use crate::listing::style::has_empty_line;
 use info65::RangeType;
+use isa65::{Op, OperandKind, Row};
 use map65::NameBuf;
 use std::alloc::Allocator;
-use stmt65::{Line, Statement};
+use stmt65::{Line, Operands, Statement};
 
 /// Replaces the buffer by the forward line of the address in the group that begins at `first`, if the address is
 /// defined by name. The buffer for the name has a stack frame of its own.
@@ -93,20 +99,18 @@ pub fn group_at<'a, A: Allocator>(listed: &ListedImage<'a, A>, index: usize) -> 
 {
     let map = listed.map();
     let address = listed.address(index);
-    let role = role_inside(map, address);
-    let len = group_len(map, role, address as usize);
+    let len = group_len(map, address);
     let (_, rest) = listed.bytes().split_at(index);
     let (bytes, _) = rest.split_at(len);
     are_bytes(bytes);
     Group {
         index,
         address,
-        role,
         bytes,
     }
 }
 
-/// Replaces the buffer by this statement of a group, after this label if there is one, and returns the next place.
+/// Replaces the buffer by this statement of a group, after this label if there is one, and returns whether an empty line follows.
 #[inline(always)]
 fn put_group_statement<A: Allocator>(
     out: &mut Line,
@@ -114,24 +118,18 @@ fn put_group_statement<A: Allocator>(
     group: Group<'_>,
     label: Option<&[u8]>,
     statement: &Statement<'_>,
-) -> ListingPlace
+) -> bool
     requires group { IsGroupIn listed.now group }
-    requires statement { statement_seen statement.now ≡ statement_at listed.now (listed.now.image.start + group.index) }
+    requires statement { IsStatementOf listed.now group.index (statement_seen statement.now) }
     requires label { MayFollow listed.now group.index (option_copied label) }
-    ensures { IsStatementNext listed.now group.entry.index (option_copied label.entry) out.new.items result }
+    ensures { IsStatementLine listed.now group.entry.index (option_copied label.entry) out.new.items result }
 {
     let style = listed.style();
     put_statement(out, style, label, statement, group.address, group.bytes);
-    let index = group.index + group.bytes.len();
-    if has_empty_line(style, statement) {
-        ListingPlace::Ending { index }
-    } else {
-        ListingPlace::Group { index }
-    }
+    has_empty_line(style, statement)
 }
 
-/// Replaces the buffer by the line of a table, after this label if there is one, and returns the next place. It has a stack frame
-/// of its own, so that lines of code are made in a small one.
+/// The same of a line of a table. It has a stack frame of its own, so that lines of code are made in a small one.
 #[inline(never)]
 fn put_table_line<A: Allocator>(
     out: &mut Line,
@@ -139,17 +137,118 @@ fn put_table_line<A: Allocator>(
     names: &mut OperandNames,
     group: Group<'_>,
     label: Option<&[u8]>,
-) -> ListingPlace
-    requires table { group.role ≢ RangeType.Code }
+) -> bool
+    requires table { role_of listed.now.info group.address ≢ RangeType.Code }
     requires group { IsGroupIn listed.now group }
     requires label { MayFollow listed.now group.index (option_copied label) }
-    ensures { IsStatementNext listed.now group.entry.index (option_copied label.entry) out.new.items result }
+    ensures { IsStatementLine listed.now group.entry.index (option_copied label.entry) out.new.items result }
 {
-    let statement = table_statement(listed.map(), group.role, group.bytes, names);
+    let map = listed.map();
+    let role = role_inside(map, group.address);
+    let statement = table_statement(map, role, group.bytes, names);
     put_group_statement(out, listed, group, label, &statement)
 }
 
-/// Replaces the buffer by the line of an item of code, after this label if there is one, and returns the next place.
+/// The same of an item of code that is written as its bytes.
+#[inline(never)]
+fn put_bytes_line<A: Allocator>(
+    out: &mut Line,
+    listed: &ListedImage<'_, A>,
+    group: Group<'_>,
+    label: Option<&[u8]>,
+) -> bool
+    requires group { IsGroupIn listed.now group }
+    requires bytes { IsStatementOf listed.now group.index (view.bytes group.bytes.now) }
+    requires label { MayFollow listed.now group.index (option_copied label) }
+    ensures { IsStatementLine listed.now group.entry.index (option_copied label.entry) out.new.items result }
+{
+    put_group_statement(out, listed, group, label, &Statement::Bytes(group.bytes))
+}
+
+/// The same of an item of code that is written as this instruction, with these operands.
+#[inline(always)]
+fn put_instruction<A: Allocator>(
+    out: &mut Line,
+    listed: &ListedImage<'_, A>,
+    group: Group<'_>,
+    label: Option<&[u8]>,
+    op: Op,
+    operands: Operands<'_>,
+) -> bool
+    requires item { IsInstructionIn listed.now group op }
+    requires operands { Some (operands_seen operands) ≡ operands_of (names_of listed.now) op.mode group.address group.bytes.now }
+    requires label { MayFollow listed.now group.index (option_copied label) }
+    ensures { IsStatementLine listed.now group.entry.index (option_copied label.entry) out.new.items result }
+{
+    let size = written_size(listed.opcodes(), op, group.bytes);
+    let statement = Statement::Instr { op, size, operands };
+    put_group_statement(out, listed, group, label, &statement)
+}
+
+/// The address after an item of code that is this instruction.
+#[inline(always)]
+fn address_after(group: Group<'_>, op: Op) -> u32
+    ensures { result ≡ group.entry.address + len_of op.mode }
+{
+    u32::from(group.address) + u32::from(op.mode.len())
+}
+
+/// The same of an item of code that is this instruction, with an operand of this kind. If the target of the operand lies outside the
+/// address space, its bytes are written.
+#[inline(never)]
+fn put_with_operand<A: Allocator>(
+    out: &mut Line,
+    listed: &ListedImage<'_, A>,
+    names: &mut OperandNames,
+    group: Group<'_>,
+    label: Option<&[u8]>,
+    op: Op,
+    kind: OperandKind,
+) -> bool
+    requires item { IsInstructionIn listed.now group op }
+    requires one { WritesOne (row_of op.mode) kind }
+    requires label { MayFollow listed.now group.index (option_copied label) }
+    ensures { IsStatementLine listed.now group.entry.index (option_copied label.entry) out.new.items result }
+{
+    let next = address_after(group, op);
+    let name = &mut names.first;
+    match operand_expr(listed.map(), kind, next, 1, group.bytes, name) {
+        Some(expr) => put_instruction(out, listed, group, label, op, Operands::One(expr)),
+        None => put_bytes_line(out, listed, group, label),
+    }
+}
+
+/// The same with two operands, of these kinds.
+#[inline(never)]
+fn put_with_operands<A: Allocator>(
+    out: &mut Line,
+    listed: &ListedImage<'_, A>,
+    names: &mut OperandNames,
+    group: Group<'_>,
+    label: Option<&[u8]>,
+    op: Op,
+    first: OperandKind,
+    second: OperandKind,
+) -> bool
+    requires item { IsInstructionIn listed.now group op }
+    requires two { WritesTwo (row_of op.mode) first second }
+    requires label { MayFollow listed.now group.index (option_copied label) }
+    ensures { IsStatementLine listed.now group.entry.index (option_copied label.entry) out.new.items result }
+{
+    match two_operands(
+        listed.map(),
+        first,
+        second,
+        address_after(group, op),
+        group.bytes,
+        names,
+    ) {
+        Some(operands) => put_instruction(out, listed, group, label, op, operands),
+        None => put_bytes_line(out, listed, group, label),
+    }
+}
+
+/// The same of an item of code.
 #[inline(always)]
 fn put_code_line<A: Allocator>(
     out: &mut Line,
@@ -157,23 +256,44 @@ fn put_code_line<A: Allocator>(
     names: &mut OperandNames,
     group: Group<'_>,
     label: Option<&[u8]>,
-) -> ListingPlace
-    requires code { group.role ≡ RangeType.Code }
+) -> bool
+    requires code { role_of listed.now.info group.address ≡ RangeType.Code }
     requires group { IsGroupIn listed.now group }
     requires label { MayFollow listed.now group.index (option_copied label) }
-    ensures { IsStatementNext listed.now group.entry.index (option_copied label.entry) out.new.items result }
+    ensures { IsStatementLine listed.now group.entry.index (option_copied label.entry) out.new.items result }
 {
-    let map = listed.map();
-    let opcodes = listed.opcodes();
-    match written_op(opcodes, group.address, group.bytes) {
-        Some(op) => {
-            let statement = instruction(opcodes, map, op, group.address, group.bytes, names);
-            put_group_statement(out, listed, group, label, &statement)
+    let Some(op) = instruction_in(listed.opcodes(), group.bytes) else {
+        return put_bytes_line(out, listed, group, label);
+    };
+    // Most instructions of some programs have no operand. Their line is made here, and no room for one is blanked.
+    match op.mode.row() {
+        Row::Implied | Row::Accumulator => {
+            put_instruction(out, listed, group, label, op, Operands::None)
         }
-        None => {
-            let statement = Statement::Bytes(group.bytes);
-            put_group_statement(out, listed, group, label, &statement)
+        Row::One(_, kind) => put_with_operand(out, listed, names, group, label, op, kind),
+        Row::Two(first, second) => {
+            put_with_operands(out, listed, names, group, label, op, first, second)
         }
+    }
+}
+
+/// Replaces the buffer by the statement of a group, after this label if there is one, and returns whether an empty line follows.
+#[inline(always)]
+fn put_group_line<A: Allocator>(
+    out: &mut Line,
+    listed: &ListedImage<'_, A>,
+    names: &mut OperandNames,
+    group: Group<'_>,
+    label: Option<&[u8]>,
+) -> bool
+    requires group { IsGroupIn listed.now group }
+    requires label { MayFollow listed.now group.index (option_copied label) }
+    ensures { IsStatementLine listed.now group.entry.index (option_copied label.entry) out.new.items result }
+{
+    if listed.map().is_code(group.address) {
+        put_code_line(out, listed, names, group, label)
+    } else {
+        put_table_line(out, listed, names, group, label)
     }
 }
 
@@ -190,9 +310,12 @@ fn put_group<A: Allocator>(
     requires label { MayFollow listed.now group.index (option_copied label) }
     ensures { IsStatementNext listed.now group.entry.index (option_copied label.entry) out.new.items result }
 {
-    match group.role {
-        RangeType::Code => put_code_line(out, listed, names, group, label),
-        _ => put_table_line(out, listed, names, group, label),
+    let ends = put_group_line(out, listed, names, group, label);
+    let index = group.index + group.bytes.len();
+    if ends {
+        ListingPlace::Ending { index }
+    } else {
+        ListingPlace::Group { index }
     }
 }
 

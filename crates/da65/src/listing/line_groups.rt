@@ -104,36 +104,32 @@ fn limit_at<A: Allocator>(map: &Map<'_, A>, role: RangeType, address: usize) -> 
     ensures limit { result ≡ limit_at map.now address }
     ensures some { 1 ≤ result }
 {
-    match role {
-        RangeType::Code => 1,
-        _ => {
-            if is_whole(map, role, address) {
-                limit_of(role)
-            } else {
-                1
-            }
-        }
+    if is_whole(map, role, address) {
+        limit_of(role)
+    } else {
+        1
     }
 }
 
-/// How many bytes the group has that begins with the item at an address of this role: that item, and
-/// those that go on, as many as the line takes. Allocates nothing.
-#[inline]
-#[tactic(auto, using(crate::proofs::Groups::StepLemmas::group_one), unfolding(crate::specs::Groups::group_len))]
-pub fn group_len<A: Allocator>(map: &Map<'_, A>, role: RangeType, address: usize) -> usize
+/// How many bytes the group has that begins with the item at an address of the image: that item, and those that go on, as many as
+/// the line takes. Allocates nothing.
+#[inline(always)]
+pub fn group_len<A: Allocator>(map: &Map<'_, A>, address: u16) -> usize
     requires placed { IsPlaced map.now.image }
     requires names { AreNames map.now.info.names }
-    requires role { role_of map.now.info address ≡ role }
+    requires inside { is_inside map.now.image address ≡ true }
     requires begins { 0 < item_len map.now address }
     ensures len { result ≡ group_len map.now address }
     ensures fits { address + result ≤ end_of map.now.image }
 {
-    let first = item_len(map, address);
-    let limit = limit_at(map, role, address);
-    if limit == 1 {
+    let first = usize::from(map.item_len(address));
+    // Most items are of code, and each of them stands alone.
+    if map.is_code(address) {
         return first;
     }
-    first + more_at(map, limit - 1, address + first)
+    let at = usize::from(address);
+    let limit = limit_at(map, role_inside(map, address), at);
+    first + more_at(map, limit - 1, at + first)
 }
 
 /// The role of an address of the image.

@@ -161,8 +161,8 @@ fn put_constants<'a, A: Allocator>(
 }
 
 /// Replaces the buffer by the line at a place, and returns the place of the next one. `segment` is that of the place, and becomes that
-/// of the next place. It has a frame of its own, so that the frame of most lines is small.
-#[inline(never)]
+/// of the next place.
+#[inline(always)]
 fn put_next<'a, A: Allocator>(
     out: &mut Line,
     listed: &ListedImage<'a, A>,
@@ -258,6 +258,18 @@ impl<'a, A: Allocator> Lines<'a, A> {
                 return true;
             }
         }
+        self.next_other(out)
+    }
+
+    /// The same wherever the place is. It has a stack frame of its own, so that that of most lines is small.
+    #[inline(never)]
+    #[tactic(auto, using(crate::proofs::NextLine::NextLemmas::next_lines))]
+    fn next_other(&mut self, out: &mut Line) -> bool
+        ensures next { OnTrue result (self.old ≡ out.new.items ∷ self.new) }
+        ensures end { OnFalse result (self.old ≡ []) }
+        ensures still { OnFalse result (self.new ≡ []) }
+        ensures empty { OnFalse result (out.new.items ≡ []) }
+    {
         match put_next(
             out,
             &self.listed,

@@ -1,6 +1,6 @@
 //! The statement of a group.
 
-ghost use Rattle.std.specs.Prelude.{◌≡◌, ◌≢◌, ◌+◌, ◌*◌, ◌<◌, ◌≤◌, ℕ, [], Some, is_some, length, slice_index, true};
+ghost use Rattle.std.specs.Prelude.{◌≡◌, ◌≢◌, ◌+◌, ◌*◌, ◌<◌, ◌≤◌, ℕ, [], length, option_map, slice_index};
 ghost use Rattle.info65.specs.Names.{AreNames};
 ghost use Rattle.isa65.specs.Mode.{len_of, row_len, size_of};
 ghost use Rattle.isa65.specs.Opcodes.{Table};
@@ -8,15 +8,14 @@ ghost use Rattle.isa65.specs.declared.row.Row.TheVariants.{Two};
 ghost use Rattle.map65.specs.Targets.{entry_of, target_of};
 ghost use Rattle.stmt65.specs.SourceLine.{is_absolute};
 ghost use Rattle.stmt65.specs.Code.StatementViews.{expr_seen, operands_seen, statement_seen};
-ghost use Rattle.da65.specs.BaseNames.{Names, names_of};
-ghost use Rattle.da65.specs.Code.WrittenOps.{IsWrittenOp};
+ghost use Rattle.da65.specs.BaseNames.{names_of};
 ghost use Rattle.da65.specs.Instructions.{instruction_in};
 ghost use Rattle.da65.specs.Shapes.{IsGroupOf};
-ghost use Rattle.da65.specs.Statements.{address_entry, is_forced, numbers, operand_expr, operands_of, return_entry, row_operands, statement_for, statement_in};
+ghost use Rattle.da65.specs.Statements.{address_entry, is_forced, numbers, operand_expr, return_entry, row_operands, statement_for};
 
 use crate::listing::base_names::{address_expr, target, zero_page_expr};
 use info65::{Entry, RangeType};
-use isa65::{ByteOrder, Mode, Op, OpcodeSet, OperandKind, Row};
+use isa65::{ByteOrder, Op, OpcodeSet, OperandKind, Row};
 use map65::{Map, NameBuf, entry_of, target_of, word_of};
 use std::alloc::Allocator;
 use stmt65::{AddressSize, Expr, Operands, Statement};
@@ -24,8 +23,8 @@ use stmt65::{AddressSize, Expr, Operands, Statement};
 /// The buffers for the names in the operands of a statement.
 #[derive(Drop)]
 pub struct OperandNames {
-    first: NameBuf,
-    second: NameBuf,
+    pub first: NameBuf,
+    pub second: NameBuf,
 }
 
 impl OperandNames {
@@ -42,61 +41,12 @@ impl OperandNames {
 /// they end before the instruction does.
 #[inline(always)]
 #[tactic(auto, unfolding(crate::specs::Instructions::instruction_in))]
-fn instruction_in<S: OpcodeSet>(set: &S, bytes: &[u8]) -> Option<Op>
+pub fn instruction_in<S: OpcodeSet>(set: &S, bytes: &[u8]) -> Option<Op>
     ensures { result ≡ instruction_in (S.table set.now) bytes.now }
 {
     let (first, _) = bytes.split_first()?;
     let op = set.decode(*first)?;
     if op.mode.len() as usize <= bytes.len() {
-        Some(op)
-    } else {
-        None
-    }
-}
-
-/// Whether an operand of this kind, whose bytes begin at an index, has an expression: the target of a distance may lie outside the
-/// address space.
-#[inline(always)]
-fn has_expr(kind: OperandKind, next: u32, at: usize, bytes: &[u8]) -> bool
-    requires all { at + size_of kind ≤ length bytes.now }
-    requires room { next ≤ 65536 }
-    ensures { (names : Names) → result ≡ is_some (operand_expr names kind next at bytes.now) }
-{
-    match kind {
-        OperandKind::Distance => target_of(next, bytes[at]).is_some(),
-        OperandKind::Byte | OperandKind::ZeroPage | OperandKind::Word => true,
-    }
-}
-
-/// Whether the target of an instruction in this mode at this address lies in the address space, if it has one, so that each operand has
-/// an expression.
-#[inline(always)]
-#[tactic(auto, using(crate::proofs::Instructions::WrittenLaws::one_some, crate::proofs::Instructions::WrittenLaws::both_some), unfolding(crate::specs::Statements::operands_of))]
-fn is_in_reach(mode: Mode, address: u16, bytes: &[u8]) -> bool
-    requires all { len_of mode ≤ length bytes.now }
-    requires room { address + length bytes.now ≤ 65536 }
-    ensures { (names : Names) → result ≡ is_some (operands_of names mode address bytes.now) }
-{
-    let next = u32::from(address) + u32::from(mode.len());
-    match mode.row() {
-        Row::Implied | Row::Accumulator => true,
-        Row::One(_, kind) => has_expr(kind, next, 1, bytes),
-        Row::Two(first, second) => {
-            has_expr(first, next, 1, bytes)
-                && has_expr(second, next, 1 + usize::from(first.size()), bytes)
-        }
-    }
-}
-
-/// The instruction that an item of code at this address is written as. None if its opcode is undefined, or if the target of the
-/// instruction lies outside the address space: then its bytes are written.
-#[inline(always)]
-pub fn written_op<S: OpcodeSet>(set: &S, address: u16, bytes: &[u8]) -> Option<Op>
-    requires { address + length bytes.now ≤ 65536 }
-    ensures { IsWrittenOp (S.table set.now) address bytes.now result }
-{
-    let op = instruction_in(set, bytes)?;
-    if is_in_reach(op.mode, address, bytes) {
         Some(op)
     } else {
         None
@@ -111,84 +61,49 @@ fn word_at(bytes: &[u8], at: usize) -> u16
     u16::from(bytes[at]) + 256 * u16::from(bytes[at + 1])
 }
 
-/// The operand of this kind whose bytes begin at an index; `next` is the address after the instruction.
-#[inline(never)]
-fn operand_expr<'n, A: Allocator>(
+/// The operand of this kind whose bytes begin at an index; `next` is the address after the instruction. None if its target lies outside
+/// the address space.
+#[inline(always)]
+pub fn operand_expr<'n, A: Allocator>(
     map: &Map<'_, A>,
     kind: OperandKind,
     next: u32,
     at: usize,
     bytes: &[u8],
     name: &'n mut NameBuf,
-) -> Expr<'n>
+) -> Option<Expr<'n>>
     requires names { AreNames map.now.info.names }
     requires all { at + size_of kind ≤ length bytes.now }
     requires room { next ≤ 65536 }
-    requires inside { is_some (operand_expr (names_of map.now) kind next at bytes.now) ≡ true }
-    ensures { Some (expr_seen result) ≡ operand_expr (names_of map.now) kind next at bytes.now }
+    ensures { option_map expr_seen result ≡ operand_expr (names_of map.now) kind next at bytes.now }
 {
     match kind {
-        OperandKind::Byte => Expr::Number(u16::from(bytes[at])),
-        OperandKind::ZeroPage => zero_page_expr(map, bytes[at], name),
-        OperandKind::Word => address_expr(map, word_at(bytes, at), name),
-        OperandKind::Distance => address_expr(map, target_of(next, bytes[at]).unwrap(), name),
+        OperandKind::Byte => Some(Expr::Number(u16::from(bytes[at]))),
+        OperandKind::ZeroPage => Some(zero_page_expr(map, bytes[at], name)),
+        OperandKind::Word => Some(address_expr(map, word_at(bytes, at), name)),
+        OperandKind::Distance => Some(address_expr(map, target_of(next, bytes[at])?, name)),
     }
 }
 
-/// Two operands, of these kinds.
-#[inline(never)]
-#[tactic(auto, using(crate::proofs::Instructions::WrittenLaws::are_both))]
-fn two_operands<'n, A: Allocator>(
+/// Two operands, of these kinds: none where an expression of them is none.
+#[inline(always)]
+pub fn two_operands<'n, A: Allocator>(
     map: &Map<'_, A>,
     first: OperandKind,
     second: OperandKind,
     next: u32,
     bytes: &[u8],
     names: &'n mut OperandNames,
-) -> Operands<'n>
+) -> Option<Operands<'n>>
     requires names { AreNames map.now.info.names }
     requires all { row_len (Two first second) ≤ length bytes.now }
     requires room { next ≤ 65536 }
-    requires inside { is_some (row_operands (names_of map.now) (Two first second) next bytes.now) ≡ true }
-    ensures { Some (operands_seen result) ≡ row_operands (names_of map.now) (Two first second) next bytes.now }
+    ensures { option_map operands_seen result ≡ row_operands (names_of map.now) (Two first second) next bytes.now }
 {
     let at = 1 + usize::from(first.size());
-    let tested = operand_expr(map, first, next, 1, bytes, &mut names.first);
-    Operands::Two(
-        tested,
-        operand_expr(map, second, next, at, bytes, &mut names.second),
-    )
-}
-
-/// The operands of an instruction in this mode at this address, with the names of their addresses.
-#[inline(always)]
-#[tactic(auto, using(crate::proofs::Instructions::WrittenLaws::is_one), unfolding(crate::specs::Statements::operands_of))]
-fn operands_of<'n, A: Allocator>(
-    map: &Map<'_, A>,
-    mode: Mode,
-    address: u16,
-    bytes: &[u8],
-    names: &'n mut OperandNames,
-) -> Operands<'n>
-    requires names { AreNames map.now.info.names }
-    requires all { len_of mode ≤ length bytes.now }
-    requires room { address + length bytes.now ≤ 65536 }
-    requires inside { is_some (operands_of (names_of map.now) mode address bytes.now) ≡ true }
-    ensures { Some (operands_seen result) ≡ operands_of (names_of map.now) mode address bytes.now }
-{
-    let next = u32::from(address) + u32::from(mode.len());
-    match mode.row() {
-        Row::Implied | Row::Accumulator => Operands::None,
-        Row::One(_, kind) => Operands::One(operand_expr(
-            map,
-            kind,
-            next,
-            1,
-            bytes,
-            &mut names.first,
-        )),
-        Row::Two(first, second) => two_operands(map, first, second, next, bytes, names),
-    }
+    let tested = operand_expr(map, first, next, 1, bytes, &mut names.first)?;
+    let target = operand_expr(map, second, next, at, bytes, &mut names.second)?;
+    Some(Operands::Two(tested, target))
 }
 
 /// Whether `a:` stands before the operand: an assembler would take the zero-page mode without it.
@@ -204,7 +119,7 @@ fn is_forced<S: OpcodeSet>(set: &S, op: Op, bytes: &[u8]) -> bool
 }
 
 /// The size that is written before the operand.
-fn written_size<S: OpcodeSet>(set: &S, op: Op, bytes: &[u8]) -> AddressSize
+pub fn written_size<S: OpcodeSet>(set: &S, op: Op, bytes: &[u8]) -> AddressSize
     requires { len_of op.mode ≤ length bytes.now }
     ensures { is_absolute result ≡ is_forced (S.table set.now) op bytes.now }
 {
@@ -212,28 +127,6 @@ fn written_size<S: OpcodeSet>(set: &S, op: Op, bytes: &[u8]) -> AddressSize
         AddressSize::Absolute
     } else {
         AddressSize::Automatic
-    }
-}
-
-/// The statement of an item of code that is written as this instruction.
-#[inline(always)]
-pub fn instruction<'a, S: OpcodeSet, A: Allocator>(
-    set: &S,
-    map: &Map<'_, A>,
-    op: Op,
-    address: u16,
-    bytes: &[u8],
-    names: &'a mut OperandNames,
-) -> Statement<'a>
-    requires names { AreNames map.now.info.names }
-    requires room { address + length bytes.now ≤ 65536 }
-    requires written { IsWrittenOp (S.table set.now) address bytes.now (Some op) }
-    ensures { statement_seen result ≡ statement_in (names_of map.now) (S.table set.now) address bytes.now }
-{
-    Statement::Instr {
-        op,
-        size: written_size(set, op, bytes),
-        operands: operands_of(map, op.mode, address, bytes, names),
     }
 }
 

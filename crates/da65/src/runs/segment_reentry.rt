@@ -7,7 +7,7 @@ ghost use Rattle.da65.specs.SegmentReentry.{is_entered_again};
 ghost use Rattle.map65.specs.Pieces.{is_in_run};
 ghost use Rattle.map65.specs.Segments.{segment_at};
 
-use crate::listing::line_groups::{group_len, is_skipped, role_inside};
+use crate::listing::line_groups::{group_len, is_skipped};
 use crate::runs::key_set::KeySet;
 use map65::Map;
 use std::alloc::Allocator;
@@ -125,7 +125,7 @@ pub fn is_entered_again<A: Allocator>(map: &Map<'_, A>) -> bool
             if entered.add(segment, segment.or(code)) {
                 return true;
             }
-            at += group_len(map, role_inside(map, address), start + at);
+            at += group_len(map, address);
         }
     }
     false

@@ -1,6 +1,5 @@
 use Rattle.std.proofs.Common.{◌≡◌, ◌∙◌, ◌+◌, ℕ, ap, arith, drop, length, length-drop, sym, take}
 use Rattle.map65.specs.MapView.{MapView}
-use Rattle.map65.specs.Roles.{role_of}
 use Rattle.da65.specs.Groups.{group_bytes, group_len}
 use Rattle.da65.proofs.Groups.GroupLemmas.{begins-true, group-fits, item-begins}
 use Rattle.da65.proofs.Groups.ShapeLemmas.{group-index}
@@ -32,7 +31,6 @@ returns-clause-group g c =
     record {
       start = c.requires;
       address_is = c.address-address.ensures;
-      role_is = c.role_inside-role.ensures ∙ ap (λ (m : MapView). role_of m.info c.address-address.result) c.map-map.ensures.map ∙ ap (role_of c.args.listed.now.info) c.address-address.ensures;
       bytes_are = bytes;
       len_is = c.split_at-2.ensures.front_len ∙ len;
       printable = (statement_prints _ _ (rw c.map-map.ensures.map at c.map-map.ensures.names) (rw c.map-map.ensures.map at c.map-map.ensures.placed) (rw bytes at c.are_bytes.ensures) (begins-true _ _ c.requires.inside c.requires.shown c.requires.place.group)).printable;

@@ -1,16 +1,20 @@
-use Rattle.std.proofs.Common.{sym}
-use Rattle.da65.proofs.NextLine.ListedGroupLemmas.{code-for, code-item, in-space, statement-is}
+use Rattle.std.proofs.Common.{◌≡◌, ◌+◌, None, rules}
+use Rattle.isa65.specs.Mode.{len_of, row_of}
+use Rattle.map65.specs.MapView.{opcodes}
+use Rattle.da65.specs.BaseNames.{names_of}
+use Rattle.da65.specs.Instructions.{instruction_in}
+use Rattle.da65.specs.Statements.{operands_of}
+use Rattle.da65.proofs.NextLine.ListedGroupLemmas.{bare, no-instruction}
 use Rattle.da65.proofs.listing.group_lines.put_code_line.Goals as goal
 
-pub written_op-requires : goal.written_op-requires
-written_op-requires g c = in-space c.args.listed.now _ (rw (← c.map-map.ensures.map) c.map-map.ensures.placed) c.requires.group
+pub put_bytes_line-requires-clause-bytes : goal.put_bytes_line-requires-clause-bytes
+put_bytes_line-requires-clause-bytes g c =
+    let none : instruction_in (opcodes c.args.listed.now) c.args.group.bytes.now ≡ None = search rules in
+    no-instruction c.args.listed.now c.args.group c.requires.group c.requires.code none
 
-pub put_group_statement-requires-clause-statement : goal.put_group_statement-requires-clause-statement
-put_group_statement-requires-clause-statement g c =
-    statement-is _ c.args.listed.now _ c.args.group _ c.map-map.ensures.map c.opcodes-opcodes.ensures c.requires.group
-    (code-for _ _ c.args.group.role _ _ _ c.requires.code c.instruction-statement.ensures)
-
-pub put_group_statement-requires-in-None-clause-statement : goal.put_group_statement-requires-in-None-clause-statement
-put_group_statement-requires-in-None-clause-statement g c =
-    statement-is _ c.args.listed.now _ c.args.group _ c.map-map.ensures.map c.opcodes-opcodes.ensures c.requires.group
-    (code-for _ _ c.args.group.role _ _ _ c.requires.code (sym (c.in-None.ensures _ (code-item c.args.listed.now _ c.args.group c.opcodes-opcodes.ensures c.requires.code c.requires.group))))
+pub put_instruction-requires-clause-operands : goal.put_instruction-requires-clause-operands
+unfolding operands_of
+put_instruction-requires-clause-operands g c =
+    let op = c.in-Some.op in
+    let next = c.args.group.address + len_of op.mode in
+    bare (names_of c.args.listed.now) (row_of op.mode) next c.args.group.bytes.now (rw (c.row.ensures) at c.in-Implied.is)
