@@ -215,16 +215,16 @@ printf '\n%-44s %12s %12s %8s\n' 'instructions for a listing' 'as65' 'ca65, ld65
 "$program" -S 0 random.bin -o random.s
 "$program" -S 0 nop.bin -o nop.s
 "$program" -S 0 -i mixed.info mixed.bin -o mixed.s
-assembles 'random bytes' 29.0 random.s
-assembles 'nop' 19.5 nop.s
-assembles "mixed bytes, $(wc -l <mixed.info) ranges" 26.3 mixed.s
+assembles 'random bytes' 26.2 random.s
+assembles 'nop' 19.4 nop.s
+assembles "mixed bytes, $(wc -l <mixed.info) ranges" 24.2 mixed.s
 # What people write when they edit, and the shortest listing.
 awk 'BEGIN { for (n = 0; n < 8000; n++) printf "n%d: lda #<n%d\n ldx #>n%d\n", n, n * 7919 % 8000, n * 7919 % 8000 }' >halves.s
 awk 'BEGIN { for (n = 0; n < 3000; n++) printf "n%d := %d\n", n, 8192 + n
     for (n = 0; n < 3000; n++) printf n % 8 ? ",n%d" : "\n .lobytes n%d", n * 7919 % 3000; print "" }' >lobytes.s
 printf 'here:   lda     #$01\n        sta     $10\n        jmp     here\n' >three.s
 { yes '        .setcpu "6502"' | head -n 10000; echo '        rts'; } >cpus.s
-assembles '8,000 pairs of halves' 35.5 halves.s
+assembles '8,000 pairs of halves' 26.8 halves.s
 assembles 'low bytes of 3,000 names' 35.8 lobytes.s
 assembles 'three lines' 48.2 three.s
 assembles '10,000 lines that set the same CPU' 76.0 cpus.s
@@ -235,11 +235,11 @@ awk 'BEGIN { for (n = 0; n < 8000; n++) printf "LABEL { ADDR $%04X; NAME \"n%d\"
 awk 'BEGIN { for (n = 0; n < 8000; n++) printf "#: HALVES { LOW $%04X; HIGH $%04X; };\n", 4 * n + 1, 4 * n + 3 }' >pairs.info
 awk 'NR % 10 == 1' pairs.info >few.info
 printf '\n%-44s %12s %12s %8s\n' 'instructions for a listing' 'name65' 'as65' 'ratio'
-names 'three lines' 130.1 three.s
-names 'random bytes' 108.7 random.s
-names 'random bytes, used names' 155.9 random.s --used
-names 'a tenth of 8,000 pairs' 229.6 numbers.s -i few.info
-names '8,000 pairs' 405.2 numbers.s -i pairs.info
+names 'three lines' 130.2 three.s
+names 'random bytes' 111.4 random.s
+names 'random bytes, used names' 163.6 random.s --used
+names 'a tenth of 8,000 pairs' 181.5 numbers.s -i few.info
+names '8,000 pairs' 268.1 numbers.s -i pairs.info
 printf '\n%-44s %12s %12s\n' 'instructions for a line' '64 KiB' '128 KiB'
 lengthens 'a line that is one word' 1 n
 lengthens 'a long number after a half' 0 'x1 := 1\n .byte <x1,'

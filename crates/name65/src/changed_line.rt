@@ -1,110 +1,50 @@
 //! What stands in the place of a line that a group touches.
 
-use crate::complaint::{Complaint, Refusal};
+use crate::complaint::Refusal;
 use crate::constant_line::{moved, put_kept};
 use crate::marks::is_marked;
+use crate::operands::{Operands, keep_free};
 use crate::plan::{PlacedLine, Plan};
-use crate::rewriting::{Operand, put_immediate, put_table};
-use crate::wishes::{Wish, Wished, Wishes};
-use std::alloc::{AllocError, Global};
-use stmt65::{Datum, Directive, Form, Operation, SourceLine, Value, read_line};
+use crate::rewriting::{put_operands, put_table};
+use std::alloc::AllocError;
+use stmt65::{SourceLine, read_line};
 
-/// The wish can't be followed where it is.
-fn no_number<T>(wished: Wished<'_>, address: u64) -> Result<T, Refusal> {
-    let address = address.min(0xFFFF) as u16;
-    Err(Refusal::Group(wished.line, Complaint::NoNumber(address)))
+/// How the operands of a line are written, and from which place on.
+#[derive(Clone, Copy)]
+enum Form {
+    /// After `#`.
+    Immediate(usize),
+    /// In a list after `.byte` or `.word`, each of which gives so many bytes, with the place of the directive.
+    List(u64, usize, usize),
+    /// Otherwise.
+    Other,
 }
 
-/// Refuses a wish for one of so many bytes from an address on.
-fn keep_free(wishes: &Wishes<'_>, from: u64, count: u64) -> Result<(), Refusal> {
-    for address in from..from.saturating_add(count) {
-        if let Some(wished) = wishes.at(address) {
-            return no_number(wished, address);
-        }
-    }
-    Ok(())
-}
-
-/// What stands in the place of a number of a byte.
-fn byte_operand<'t>(wishes: &Wishes<'t>, address: u64) -> Result<Operand<'t>, Refusal> {
-    match wishes.at(address) {
-        None => Ok(Operand::Kept),
-        Some(
-            Wished {
-                wish: Wish::Half(half, name),
-                ..
-            },
-        ) => Ok(Operand::Half(half, name)),
-        Some(wished) => no_number(wished, address),
+/// Whether a line says this directive, in any letter case, at a place.
+fn has_word(line: &[u8], from: usize, word: &[u8]) -> bool {
+    match line.get(from..from.saturating_add(word.len())) {
+        Some(found) => found.eq_ignore_ascii_case(word),
+        None => false,
     }
 }
 
-/// What stands in the place of a number of a word.
-fn word_operand<'t>(wishes: &Wishes<'t>, address: u64) -> Result<Operand<'t>, Refusal> {
-    match wishes.at(address) {
-        None => {
-            keep_free(wishes, address.saturating_add(1), 1)?;
-            Ok(Operand::Kept)
-        }
-        Some(
-            Wished {
-                wish: Wish::Difference(name, other),
-                ..
-            },
-        ) => Ok(Operand::Difference(name, other)),
-        Some(wished) => no_number(wished, address),
+/// A `#` or a directive stands before all else that has such a byte.
+fn form_of(line: &[u8]) -> Form {
+    let Some(at) = line
+        .iter()
+        .position(|byte| matches!(*byte, b'#' | b'.' | b';'))
+    else {
+        return Form::Other;
+    };
+    if line[at] == b'#' {
+        Form::Immediate(at + 1)
+    } else if has_word(line, at, b".byte") {
+        Form::List(1, at, at.saturating_add(5))
+    } else if has_word(line, at, b".word") {
+        Form::List(2, at, at.saturating_add(5))
+    } else {
+        Form::Other
     }
-}
-
-/// What stands in the place of the operands of a `.byte` at an address.
-fn byte_operands<'t>(
-    alloc: Global,
-    wishes: &Wishes<'t>,
-    at: u64,
-    data: &[Datum<'_>],
-) -> Result<Vec<Operand<'t>>, Refusal> {
-    let mut operands = Vec::new(alloc);
-    let mut address = at;
-    for datum in data {
-        let (count, operand) = match datum {
-            Datum::Number(_) => (1, byte_operand(wishes, address)?),
-            Datum::String(text) => {
-                let count = text.len() as u64;
-                keep_free(wishes, address, count)?;
-                (count, Operand::Kept)
-            }
-            Datum::Value(_) | Datum::Half(..) => {
-                keep_free(wishes, address, 1)?;
-                (1, Operand::Kept)
-            }
-        };
-        operands.push(operand)?;
-        address = address.saturating_add(count);
-    }
-    Ok(operands)
-}
-
-/// What stands in the place of the operands of a `.word` at an address.
-fn word_operands<'t>(
-    alloc: Global,
-    wishes: &Wishes<'t>,
-    at: u64,
-    values: &[Value<'_>],
-) -> Result<Vec<Operand<'t>>, Refusal> {
-    let mut operands = Vec::new(alloc);
-    let mut address = at;
-    for value in values {
-        let operand = match value {
-            Value::Number(_) => word_operand(wishes, address)?,
-            _ => {
-                keep_free(wishes, address, 2)?;
-                Operand::Kept
-            }
-        };
-        operands.push(operand)?;
-        address = address.saturating_add(2);
-    }
-    Ok(operands)
 }
 
 /// Appends what stands in the place of a line that gives bytes.
@@ -112,29 +52,24 @@ fn put_operation(
     out: &mut Vec<u8>,
     plan: &Plan<'_, '_>,
     placed: &PlacedLine<'_>,
-    operation: &Operation<'_>,
 ) -> Result<(), Refusal> {
-    let wishes = plan.wishes;
-    match operation {
-        Operation::Instr(_, Form::Immediate(Value::Number(_))) => {
-            keep_free(wishes, placed.at, 1)?;
-            let operand = byte_operand(wishes, placed.at.saturating_add(1))?;
-            put_immediate(out, placed.line, operand)?;
+    let PlacedLine { line, at, end, .. } = *placed;
+    match form_of(line) {
+        Form::Immediate(from) => {
+            keep_free(plan.wishes, at, 1)?;
+            put_operands(
+                out,
+                Operands::new(plan.wishes, line, from, at.saturating_add(1), 1),
+            )
         }
-        Operation::Data(data) => {
-            let operands = byte_operands(plan.alloc, wishes, placed.at, data)?;
-            put_table(out, placed.line, &operands)?;
+        Form::List(size, word, from) => {
+            put_table(out, Operands::new(plan.wishes, line, from, at, size), word)
         }
-        Operation::Values(Directive::Word, values) => {
-            let operands = word_operands(plan.alloc, wishes, placed.at, values)?;
-            put_table(out, placed.line, &operands)?;
-        }
-        _ => {
-            keep_free(wishes, placed.at, placed.end.saturating_sub(placed.at))?;
-            put_kept(out, placed.line)?;
+        Form::Other => {
+            keep_free(plan.wishes, at, end.saturating_sub(at))?;
+            Ok(put_kept(out, line)?)
         }
     }
-    Ok(())
 }
 
 /// How far the constant line of a name with this value moves from the end of the bytes, if it moves.
@@ -170,12 +105,12 @@ pub fn put_changed(
     plan: &Plan<'_, '_>,
     placed: &PlacedLine<'_>,
 ) -> Result<(), Refusal> {
+    if placed.at < placed.end {
+        return put_operation(out, plan, placed);
+    }
     match read_line(plan.alloc, placed.language, placed.line)? {
         Some(SourceLine::Assignment(name, n)) => {
             put_constant(out, tail, plan, placed.line, (name, n.value()))?;
-        }
-        Some(SourceLine::Statement { operation, .. }) => {
-            put_operation(out, plan, placed, &operation)?;
         }
         _ => put_kept(out, placed.line)?,
     }

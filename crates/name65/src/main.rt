@@ -16,6 +16,7 @@ mod information;
 mod marks;
 mod named_text;
 mod names;
+mod operands;
 mod plan;
 mod request;
 mod rewriting;

@@ -9,7 +9,7 @@ use crate::changes::changed_text;
 use crate::failure::Failure;
 use info65::Tag;
 use std::alloc::{AllocError, Global};
-use stmt65::{AsmFaultKind, Assembly, Source, assemble_lines, assemble_source};
+use stmt65::{AsmFaultKind, Assembly, Source, assemble_known, assemble_lines, assemble_source};
 
 /// What the listing of this name means.
 fn assembled<'t, 'b>(
@@ -28,20 +28,24 @@ fn assembled<'t, 'b>(
     }
 }
 
-/// Whether a text in the place of that of the source means the same bytes as it does.
-fn means(
+/// Whether a text in the place of that of the source means the same bytes as it does. Mostly it defines the same names in the same order.
+fn means<'t>(
     alloc: Global,
-    source: &Source<'_, '_, '_>,
-    bytes: &[u8],
+    source: &Source<'t, '_, '_>,
+    assembly: &Assembly<'t, '_, Global>,
     text: &[u8],
 ) -> Result<bool, AllocError>
-    requires { source_meaning source.now ≡ Ok bytes.now }
-    ensures { IfOk result (λ same. IsTrue same → meaning_in source.now.language source.now.layout.now source.now.start text.now ≡ Ok bytes.now) }
+    requires { source_meaning source.now ≡ Ok assembly.now.bytes.items }
+    ensures { IfOk result (λ same. IsTrue same → meaning_in source.now.language source.now.layout.now source.now.start text.now ≡ Ok assembly.now.bytes.items) }
 {
     if text == source.text {
         return Ok(true);
     }
     let named = Source { text, ..*source };
+    let bytes = assembly.bytes.as_slice();
+    if let Some(found) = assemble_known(&alloc, &named, &assembly.names)? {
+        return Ok(found.as_slice() == bytes);
+    }
     match assemble_source(alloc, &named) {
         Ok(found) => Ok(found.as_slice() == bytes),
         Err(fault) if fault.kind == AsmFaultKind::Memory => Err(AllocError),
@@ -66,7 +70,7 @@ pub fn named_text(
 {
     let assembly = assembled(&alloc, name, source)?;
     let text = changed_text(alloc, source, &assembly, tags, used)?;
-    if !means(alloc, source, &assembly.bytes, &text)? {
+    if !means(alloc, source, &assembly, &text)? {
         return Err(Failure::Changed);
     }
     Ok(text)

@@ -1,19 +1,10 @@
 //! Writes a line anew, with other operands. Its columns stay where the new operands fit.
 
-use crate::spans::{Spans, is_blank};
+use crate::complaint::Refusal;
+use crate::operands::{Operand, Operands};
+use crate::spans::{Span, is_blank};
 use std::alloc::AllocError;
 use stmt65::Half;
-
-/// What stands in the place of an operand.
-#[derive(Clone, Copy)]
-pub enum Operand<'t> {
-    /// The operand itself.
-    Kept,
-    /// `<NAME` or `>NAME`.
-    Half(Half, &'t [u8]),
-    /// `TO - FROM`.
-    Difference(&'t [u8], &'t [u8]),
-}
 
 /// Appends the bytes of a line between two places.
 fn put_part(out: &mut Vec<u8>, line: &[u8], from: usize, to: usize) -> Result<(), AllocError> {
@@ -51,12 +42,11 @@ fn sign_of(half: Half) -> &'static [u8] {
 fn put_operand(
     out: &mut Vec<u8>,
     line: &[u8],
-    from: usize,
-    to: usize,
+    span: Span,
     operand: Operand<'_>,
 ) -> Result<(), AllocError> {
     match operand {
-        Operand::Kept => put_part(out, line, from, to),
+        Operand::Kept => put_part(out, line, span.from, span.to),
         Operand::Half(half, name) => {
             out.extend_from_slice(sign_of(half))?;
             out.extend_from_slice(name)
@@ -69,119 +59,75 @@ fn put_operand(
     }
 }
 
-/// Appends the operands of a line from a place on, these in the place of those that it has, and the rest of the line.
-fn put_operands(
-    out: &mut Vec<u8>,
-    line: &[u8],
-    from: usize,
-    operands: &[Operand<'_>],
-) -> Result<(), AllocError> {
-    let mut spans = Spans::new(line, from);
-    let mut copied = from;
-    for operand in operands {
-        if let Some(span) = spans.next() {
-            put_part(out, line, copied, span.from)?;
-            put_operand(out, line, span.from, span.to, *operand)?;
-            copied = span.to;
-        }
+/// Appends a line, and what stands in the places of its operands.
+pub fn put_operands(out: &mut Vec<u8>, mut operands: Operands<'_, '_, '_>) -> Result<(), Refusal> {
+    let line = operands.line;
+    let mut copied = 0;
+    for _ in 0..=line.len() {
+        let Some((span, operand)) = operands.next()? else {
+            break;
+        };
+        put_part(out, line, copied, span.from)?;
+        put_operand(out, line, span, operand)?;
+        copied = span.to;
     }
-    put_rest(out, line, copied)
-}
-
-/// Which half all of the operands are, if they are halves of one kind.
-fn common_half(operands: &[Operand<'_>]) -> Option<Half> {
-    let mut found = None;
-    for operand in operands {
-        match (operand, found) {
-            (Operand::Half(half, _), None) => found = Some(*half),
-            (Operand::Half(half, _), Some(first)) if *half == first => {}
-            _ => return None,
-        }
-    }
-    found
-}
-
-/// Appends the names of these halves with commas between them.
-fn put_names(out: &mut Vec<u8>, operands: &[Operand<'_>]) -> Result<(), AllocError> {
-    let mut separator: &[u8] = b"";
-    for operand in operands {
-        if let Operand::Half(_, name) = operand {
-            out.extend_from_slice(separator)?;
-            out.extend_from_slice(name)?;
-            separator = b",";
-        }
-    }
+    put_rest(out, line, copied)?;
+    out.push(b'\n')?;
     Ok(())
 }
 
-/// The line of a `.byte`, which ends at `word`, with halves of one kind: `.lobytes` or `.hibytes`.
+/// Which half stands in the places of all operands, if halves of one kind do.
+fn common_half(mut operands: Operands<'_, '_, '_>) -> Result<Option<Half>, Refusal> {
+    let mut found = None;
+    for _ in 0..=operands.line.len() {
+        match (operands.next()?, found) {
+            (None, _) => return Ok(found),
+            (Some((_, Operand::Half(half, _))), None) => found = Some(half),
+            (Some((_, Operand::Half(half, _))), Some(first)) if half == first => {}
+            _ => return Ok(None),
+        }
+    }
+    Ok(found)
+}
+
+/// Appends the line of a `.byte`, which stands at a place, with halves of one kind: `.lobytes` or `.hibytes`.
 fn put_halves(
     out: &mut Vec<u8>,
-    line: &[u8],
+    mut operands: Operands<'_, '_, '_>,
     word: usize,
     half: Half,
-    operands: &[Operand<'_>],
-) -> Result<(), AllocError> {
-    let mut spans = Spans::new(line, word);
-    let Some(first) = spans.next() else {
-        return Ok(());
-    };
-    let mut last = first;
-    for _ in 1..operands.len() {
-        last = spans.next().unwrap_or(last);
-    }
-    put_part(out, line, 0, word.saturating_sub(b".byte".len()))?;
+) -> Result<(), Refusal> {
+    let line = operands.line;
+    put_part(out, line, 0, word)?;
     out.extend_from_slice(match half {
         Half::Low => b".lobytes",
         Half::High => b".hibytes",
     })?;
-    put_gap(out, first.from)?;
-    put_names(out, operands)?;
-    put_rest(out, line, last.to)
-}
-
-/// The place after the first such byte.
-fn place_after(line: &[u8], byte: u8) -> usize {
-    match line.iter().position(|other| *other == byte) {
-        Some(at) => at + 1,
-        None => line.len(),
+    let mut copied = None;
+    for _ in 0..=line.len() {
+        let Some((span, Operand::Half(_, name))) = operands.next()? else {
+            break;
+        };
+        match copied {
+            None => put_gap(out, span.from)?,
+            Some(_) => out.push(b',')?,
+        }
+        out.extend_from_slice(name)?;
+        copied = Some(span.to);
     }
-}
-
-/// Appends the line of an instruction whose operand `#E` becomes this one.
-pub fn put_immediate(
-    out: &mut Vec<u8>,
-    line: &[u8],
-    operand: Operand<'_>,
-) -> Result<(), AllocError> {
-    let from = place_after(line, b'#');
-    put_part(out, line, 0, from)?;
-    put_operands(out, line, from, &[operand])?;
+    put_rest(out, line, copied.unwrap_or(line.len()))?;
     out.push(b'\n')?;
     Ok(())
 }
 
-/// Appends the line of a directive whose operands become these. A `.byte` that has halves of one kind alone becomes `.lobytes` or `.hibytes`.
+/// Appends the line of a directive, which stands at a place. A `.byte` that gets halves of one kind alone becomes `.lobytes` or `.hibytes`.
 pub fn put_table(
     out: &mut Vec<u8>,
-    line: &[u8],
-    operands: &[Operand<'_>],
-) -> Result<(), AllocError> {
-    let dot = place_after(line, b'.');
-    let letters = line.get(dot..).unwrap_or(&[]);
-    let word = dot.saturating_add(
-        letters
-            .iter()
-            .take_while(|byte| byte.is_ascii_alphabetic())
-            .count(),
-    );
-    match common_half(operands) {
-        Some(half) => put_halves(out, line, word, half, operands)?,
-        None => {
-            put_part(out, line, 0, word)?;
-            put_operands(out, line, word, operands)?;
-        }
+    operands: Operands<'_, '_, '_>,
+    word: usize,
+) -> Result<(), Refusal> {
+    match common_half(operands)? {
+        Some(half) => put_halves(out, operands, word, half),
+        None => put_operands(out, operands),
     }
-    out.push(b'\n')?;
-    Ok(())
 }

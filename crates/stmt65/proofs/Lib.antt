@@ -24,6 +24,7 @@ mod CodingLemmas
 mod CutLemmas
 mod HeldLemmas
 mod PassLaws
+mod KnownLaws
 mod TextLemmas
 mod AddressLemmas
 mod ModeLemmas

@@ -17,7 +17,7 @@ use Rattle.isa65.specs.Opcodes.{encoded}
 use Rattle.stmt65.specs.SourceLine.{Value, Form, Empty, Accumulator, Immediate, ImmediateHalf, Direct, DirectX, DirectY, Two, Indirect, IndirectX, IndirectY}
 use Rattle.stmt65.specs.declared.source_line.AddressSize.TheVariants.{Absolute, Automatic}
 use Rattle.stmt65.specs.Symbols.{Definition, has_zero_page_size}
-use Rattle.stmt65.specs.Coding.{State, Fragment, Fixed, ZeroPage, Oversized, fragment_len, word_operand, Distance, Way, zero_page, by_size, ways, first_way, coding, coding_len}
+use Rattle.stmt65.specs.Coding.{Fragment, Fixed, ZeroPage, Oversized, fragment_len, word_operand, Distance, Way, zero_page, by_size, ways, first_way, coding, coding_len}
 use Rattle.stmt65.specs.Forms.{form_text, form_values}
 use Rattle.stmt65.proofs.Cases.{by_option, by_test}
 use Rattle.stmt65.specs.ModeLaws.{has_prefix, IsModeOf, IsWay, EachWay, WaysAreModes, is_way, ModesAreWays, HasMode, is_short, mode_fragments, TakesMode, TakesModes, LacksForm, NeedsMode}

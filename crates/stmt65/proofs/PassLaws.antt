@@ -1,6 +1,6 @@
 -- What a pass has done, line after line.
-use Rattle.std.proofs.Common.{◌≡◌, ℕ, Bool, true, false, ltb, ◌+◌, ◌≤◌, List, [], ◌∷◌, ◌++◌, length, map, take, drop, get_or, ◌<◌, arith, length-append, Option, Some, None, refl, sym, ap, ◌∙◌, append_assoc, subst}
-use Rattle.std.specs.Prelude.{Result, Ok, Err, ◌&&◌, is_some, IfNone}
+use Rattle.std.proofs.Common.{◌≡◌, ℕ, true, ltb, ◌+◌, ◌≤◌, List, [], ◌∷◌, ◌++◌, length, take, drop, get_or, ◌<◌, arith, length-append, Option, Some, None, refl, sym, ap, ◌∙◌, append_assoc, subst}
+use Rattle.std.specs.Prelude.{Result, Ok, Err, is_some, IfNone}
 use Rattle.std.specs.List.{list_all, flat_map}
 use Rattle.std.proofs.lemmas.Bool.{and_parts}
 use Rattle.std.proofs.lemmas.List.{append-nil, drop-append-le, drop_all, drop_more, length-drop, take-append-le, take_all, take_at}
@@ -21,12 +21,12 @@ use Rattle.stmt65.specs.Reading.{reading_of}
 use Rattle.stmt65.specs.Symbols.{Definition, find_name, value_in, is_known, word_in}
 use Rattle.stmt65.specs.declared.language.Language.{Language}
 use Rattle.stmt65.specs.Layout.{Layout}
-use Rattle.stmt65.specs.Coding.{State, Fragment, Fixed, Single, ZeroPage, Oversized, Entry, Distance, HalfOf, Fill, entry_in, is_fragment_known, fragment_fits, fragment_bytes}
+use Rattle.stmt65.specs.Coding.{State, Fragment, Fixed, Oversized, Fill, entry_in, is_fragment_known, fragment_fits, fragment_bytes}
 use Rattle.stmt65.specs.Meaning.{bytes_of, fault_of, fragments_of, initial, is_undefined, is_out_of_range, next_of, readings, unless, with_front}
 use Rattle.stmt65.specs.Code.SourceLineViews.{source_of}
 use Rattle.stmt65.specs.Code.MeaningViews.{IsPlaced, defined_in, fragments_in, held_after, held_final}
 use Rattle.stmt65.specs.Code.Held.{held}
-use Rattle.stmt65.specs.Code.LateViews.{Codes, GoesOn, IsIdle, IsMarked, IsOf, IsPassed, IsSound, Takes, coded_late, fault_at, fault_or, fault_past, fronts, held_coded, late_state, state_in, work_of}
+use Rattle.stmt65.specs.Code.LateViews.{Codes, GoesOn, IsIdle, IsOf, IsPassed, IsSound, Takes, coded_late, fault_at, fault_or, fault_past, fronts, held_coded, late_state, state_in, work_of}
 use Rattle.stmt65.proofs.Cases.{by_option, by_test}
 use Rattle.stmt65.proofs.HeldLemmas.{fragments-placed, meaning_held, none_fits, past-held}
 
@@ -121,7 +121,7 @@ bytes_early all more s source e h = rw e (alike s.above more (next_of s source) 
 
 -- ---- what is in front
 
-front-front : (a b : List ℕ) (m : Result (List ℕ) AsmFault) → with_front a (with_front b m) ≡ with_front (a ++ b) m
+pub front-front : (a b : List ℕ) (m : Result (List ℕ) AsmFault) → with_front a (with_front b m) ≡ with_front (a ++ b) m
 front-front a b (Ok bytes) = ap (λ (l : List ℕ). Ok l) (sym (append_assoc a b bytes))
 front-front a b (Err f) = refl
 
@@ -129,7 +129,7 @@ pub front-nil : (m : Result (List ℕ) AsmFault) → with_front [] m ≡ m
 front-nil (Ok bytes) = refl
 front-nil (Err f) = refl
 
-front-end : (bytes : List ℕ) → with_front bytes (Ok []) ≡ Ok bytes
+pub front-end : (bytes : List ℕ) → with_front bytes (Ok []) ≡ Ok bytes
 front-end bytes = ap (λ (l : List ℕ). Ok l) (append-nil bytes)
 
 -- ---- late lines

@@ -1,5 +1,5 @@
 -- The table of names keeps its index.
-use Rattle.std.proofs.Common.{◌≡◌, ℕ, zero, suc, Bool, true, false, cond, ◌<◌, ◌≤◌, List, [], ◌∷◌, ◌++◌, length, map, take, Option, Some, None, refl, sym, ap, ◌∙◌, arith, length-append, Bor}
+use Rattle.std.proofs.Common.{◌≡◌, ℕ, zero, suc, Bool, true, false, cond, ◌+◌, ◌<◌, ◌≤◌, List, [], ◌∷◌, ◌++◌, length, map, take, Option, Some, None, refl, sym, ap, ◌∙◌, arith, length-append, Bor}
 use Rattle.std.specs.Prelude.{is_some}
 use Rattle.std.specs.Option.{option_map, option_or}
 use Rattle.std.specs.List.{slice_get}
@@ -62,6 +62,13 @@ find_none q ds n o e f = sym (missed q ds n (λ j g. absurd cc))
 pub ruleset finds = (find_within, find_past, find_none)
 
 -- ---- one more definition
+
+pub next_taken : (ds : List Definition) (n : ℕ) (d : Definition) → slice_get ds n ≡ Some d → take (n + 1) ds ≡ take n ds ++ d ∷ []
+next_taken [] n d e = absurd cc
+next_taken (x ∷ ds) zero d e = cc
+next_taken (x ∷ ds) (suc n) d e =
+    let more : suc n + 1 ≡ suc (n + 1) = omega arith in
+    rw more (ap (λ (l : List Definition). x ∷ l) (next_taken ds n d e))
 
 abbrev or_here : Option ℕ → Bool → ℕ → Option ℕ
 or_here None named n = cond named (Some n) None

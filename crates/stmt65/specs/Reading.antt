@@ -1,7 +1,7 @@
 -- What a line says, by its parts, as the reader goes: each step is decided by the next part.
 --
 -- A line of a repair can say all that one of a listing can, and more: each row that has more asks for the language.
-use Rattle.std.specs.Prelude.{ℕ, zero, suc, Bool, true, false, List, [], ◌∷◌, length, map, drop, codes, ◌==◌, if◌then◌else◌, Option, Some, None, option_and_then}
+use Rattle.std.specs.Prelude.{ℕ, zero, suc, Bool, true, false, List, [], ◌∷◌, length, drop, codes, ◌==◌, if◌then◌else◌, Option, Some, None, option_and_then}
 use Rattle.std.specs.Str.{bytes_eq}
 use Rattle.isa65.specs.Mnemonic.{mnemonic_named}
 use Rattle.isa65.specs.declared.mnemonic.Mnemonic.{Mnemonic}

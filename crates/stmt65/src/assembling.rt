@@ -8,6 +8,7 @@ mod emit;
 mod entries;
 pub(crate) mod fault;
 mod fragment_bytes;
+pub(crate) mod known;
 pub(crate) mod late;
 pub(crate) mod layout;
 mod line_faults;

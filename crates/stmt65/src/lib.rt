@@ -14,6 +14,7 @@
 //! goes over the lines once, for the names (`symbols`) and the bytes (`coding`, `emit`); what waits for a name below it (`late`)
 //! is coded after that. [`assemble_source`] does it in
 //! either language, with segments that begin where a [`Layout`] says.
+//! [`assemble_known`] assembles a text whose names are known before, in one pass.
 //! [`line_addresses`] returns the address after each line, which says which line gave a byte, and [`Definitions`] the
 //! value of an expression by all names of a text.
 //!
@@ -33,6 +34,7 @@ pub use assembling::addresses::{Assembly, assemble_lines, line_addresses};
 pub use assembling::assembler::{Source, assemble, assemble_source};
 pub use assembling::definitions::Definitions;
 pub use assembling::fault::{AsmFault, AsmFaultKind};
+pub use assembling::known::assemble_known;
 pub use assembling::layout::Layout;
 pub use assembling::symbols::{Definition, Symbols};
 pub use directive::Directive;

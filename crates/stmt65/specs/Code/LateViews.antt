@@ -28,6 +28,11 @@ unfoldable pub held_coded : List Definition → ℕ → State → List (Option S
 held_coded all n s [] = Ok []
 held_coded all n s (l ∷ ls) = unless n (fault_of all s l) (with_front (bytes_of all s l) (held_coded all (n + 1) (held_after s l) ls))
 
+-- a line whose bytes are added without a fault, and the state below it
+pub record Follows (all : List Definition) (s below : State) (source : SourceLine) (old new : List ℕ) : Type 0 where
+  pub codes : Codes None all s source old new
+  pub state : below ≡ held_after s (Some source)
+
 -- ---- late lines
 
 -- what stands above a late line

@@ -1,19 +1,17 @@
 -- What the assembler's values stand for.
-use Rattle.std.specs.Prelude.{◌≡◌, ℕ, ◌+◌, ◌≤◌, ◌++◌, List, [], ◌∷◌, length, map, take, Option, Some, None, IfNone, unwrap_or}
+use Rattle.std.specs.Prelude.{◌≡◌, ◌++◌, List, [], ◌∷◌, map, Option, Some, None, unwrap_or}
 use Rattle.std.specs.Option.{option_map, option_to_list}
 use Rattle.stmt65.specs.declared.assembling.coding.Coded.{Coded as CodeCoded}
 use Rattle.stmt65.specs.declared.assembling.symbols.Definition.{Definition as CodeDefinition}
 use Rattle.stmt65.specs.declared.assembling.state.State.{State as CodeState}
 use Rattle.stmt65.specs.declared.assembling.state.Placed.{Placed}
-use Rattle.stmt65.specs.declared.assembling.assembler.Pass.{Pass}
-use Rattle.stmt65.specs.declared.assembling.fault.AsmFaultKind.{AsmFaultKind}
 use Rattle.stmt65.specs.SourceLine.{SourceLine}
 use Rattle.stmt65.specs.Symbols.{Definition}
 use Rattle.stmt65.specs.Code.SymbolViews.{definition_of}
 use Rattle.stmt65.specs.Coding.{State, Fragment, coding}
 use Rattle.stmt65.specs.Code.CodingViews.{coded_of}
 use Rattle.stmt65.specs.Code.Held.{held}
-use Rattle.stmt65.specs.Meaning.{after, bytes_of, next_of, cpu_after, operation_in, defined_by, is_past_start}
+use Rattle.stmt65.specs.Meaning.{next_of, cpu_after, operation_in, defined_by, is_past_start}
 
 -- ---- a line
 

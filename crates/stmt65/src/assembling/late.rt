@@ -70,7 +70,15 @@ fn put_placed<A: Allocator + Clone, B: Allocator>(
 
 /// Adds the bytes of a line in its state, or finds its lowest fault.
 #[tactic(auto, using(crate::proofs::HeldLemmas::codes))]
-fn code_placed<'t, 'n, 'a, L: Allocator + Clone, A: Allocator + Clone, B: Allocator, C: Allocator>(
+pub fn code_placed<
+    't,
+    'n,
+    'a,
+    L: Allocator + Clone,
+    A: Allocator + Clone,
+    B: Allocator,
+    C: Allocator,
+>(
     all: &Names<'t, 'n, A>,
     state: &State<'_, '_, L>,
     above: &Names<'t, 'n, A>,

@@ -157,8 +157,16 @@ pub fn select(opcodes: &mut EncodeTable, cpu: Option<Cpu>)
         return;
     };
     if cpu != opcodes.cpu() {
-        *opcodes = EncodeTable::new(cpu);
+        table(opcodes, cpu);
     }
+}
+
+/// Tables the opcodes of a CPU. A function of its own, since the table takes 3 KiB of the stack, which are cleared whenever it is entered.
+#[inline(never)]
+fn table(opcodes: &mut EncodeTable, cpu: Cpu)
+    ensures { opcodes.new ≡ cpu }
+{
+    *opcodes = EncodeTable::new(cpu);
 }
 
 /// Selects the CPU that the line sets. An unknown one leaves the opcodes as they were.

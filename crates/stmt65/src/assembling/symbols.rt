@@ -140,7 +140,7 @@ impl<'a, A: Allocator + Clone> Symbols<'a, A> {
     }
 
     /// The definition at a place.
-    fn at(&self, place: usize) -> Option<Definition<'a>>
+    pub fn at(&self, place: usize) -> Option<Definition<'a>>
         ensures { option_map definition_of result ≡ slice_get self.now place }
     {
         self.definitions.get(place).copied()

@@ -1,4 +1,4 @@
-use Rattle.std.proofs.Common.{◌++◌, ◌∷◌, ◌∙◌, [], ℕ, List, ap, arith}
+use Rattle.std.proofs.Common.{◌++◌, ◌∙◌, ℕ, List, ap, arith}
 use Rattle.stmt65.specs.Meaning.{readings}
 use Rattle.stmt65.specs.Coding.{State}
 use Rattle.stmt65.specs.Sources.{source_readings}

@@ -1,4 +1,4 @@
-use Rattle.std.proofs.Common.{◌∙◌, ◌<◌, arith}
+use Rattle.std.proofs.Common.{◌∙◌}
 use Rattle.stmt65.specs.Definitions.{definitions_of}
 use Rattle.stmt65.specs.Sources.{source_readings}
 use Rattle.stmt65.proofs.HeldLemmas.{definitions_held}
