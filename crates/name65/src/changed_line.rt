@@ -2,7 +2,7 @@
 
 use crate::complaint::Refusal;
 use crate::constant_line::{moved, put_kept};
-use crate::marks::is_marked;
+use crate::constants::{Fate, fate_of};
 use crate::operands::{Operands, keep_free};
 use crate::plan::{PlacedLine, Plan};
 use crate::rewriting::{put_operands, put_table};
@@ -72,15 +72,6 @@ fn put_operation(
     }
 }
 
-/// How far the constant line of a name with this value moves from the end of the bytes, if it moves.
-fn distance_of(plan: &Plan<'_, '_>, value: u64) -> Option<u64> {
-    if is_marked(plan.marks, value) {
-        value.checked_sub(plan.wishes.end())
-    } else {
-        None
-    }
-}
-
 /// Appends what stands in the place of the constant line of a name with this value. A line that moves is appended to the tail.
 fn put_constant(
     out: &mut Vec<u8>,
@@ -89,12 +80,10 @@ fn put_constant(
     line: &[u8],
     (name, value): (&[u8], u64),
 ) -> Result<(), AllocError> {
-    if plan.wishes.is_left_out(name) {
-        return Ok(());
-    }
-    match distance_of(plan, value) {
-        Some(distance) => tail.extend_from_slice(&moved(plan.alloc, line, distance)?),
-        None => put_kept(out, line),
+    match fate_of(plan, name, value) {
+        Fate::Kept => put_kept(out, line),
+        Fate::LeftOut => Ok(()),
+        Fate::Moved(distance) => tail.extend_from_slice(&moved(plan.alloc, line, distance)?),
     }
 }
 

@@ -7,12 +7,13 @@ ghost use Rattle.name65.specs.NamedText.{AreLines, IsNamed, line_text, touches};
 
 use crate::changed_line::put_changed;
 use crate::complaint::Refusal;
+use crate::constants::names_after;
 use crate::marks::{is_marked, mark_named};
 use crate::plan::{PlacedLine, Plan};
 use crate::wishes::Wishes;
 use info65::Tag;
 use std::alloc::{AllocError, Global};
-use stmt65::{Assembly, Source, SourceLine, read_line};
+use stmt65::{Assembly, Source, SourceLine, Symbols, read_line};
 use text65::first_line;
 
 /// The first marks, as many as there are of so many, and the others.
@@ -120,28 +121,36 @@ fn put_lines(
     Ok(())
 }
 
+/// A text by names, and the names that it defines, unless they are those of the text that it was.
+#[derive(Drop)]
+pub struct Changed<'t, 'b> {
+    pub text: Vec<u8>,
+    pub names: Option<Symbols<'t, &'b Global>>,
+}
+
 /// The text in the place of one that means this.
-pub fn changed_text<'t>(
-    alloc: Global,
+pub fn changed_text<'t, 'b>(
+    alloc: &'b Global,
     source: &Source<'t, '_, '_>,
     assembly: &Assembly<'t, '_, Global>,
     tags: &[Tag],
     used: bool,
-) -> Result<Vec<u8>, Refusal>
+) -> Result<Changed<'t, 'b>, Refusal>
     requires { assembly.now.ends.items ≡ source_addresses source.now }
-    ensures { IfOk result (λ text. IsNamed source.now tags.now used text.items) }
+    ensures { IfOk result (λ changed. IsNamed source.now tags.now used changed.text.items) }
 {
-    let marks = mark_named(alloc, tags)?;
-    let wishes = Wishes::new(alloc, source, assembly, tags, used)?;
+    let marks = mark_named(*alloc, tags)?;
+    let wishes = Wishes::new(*alloc, source, assembly, tags, used)?;
     let plan = Plan {
-        alloc,
+        alloc: *alloc,
         marks: &marks,
         used,
         wishes: &wishes,
     };
-    let mut text = Vec::new(alloc);
-    let mut tail = Vec::new(alloc);
+    let mut text = Vec::new(*alloc);
+    let mut tail = Vec::new(*alloc);
     put_lines(&mut text, &mut tail, &plan, source, &assembly.ends)?;
     text.extend_from_slice(&tail)?;
-    Ok(text)
+    let names = names_after(alloc, &plan, assembly.names.definitions())?;
+    Ok(Changed { text, names })
 }

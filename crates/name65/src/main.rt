@@ -11,6 +11,7 @@ mod changes;
 mod command;
 mod complaint;
 mod constant_line;
+mod constants;
 mod failure;
 mod information;
 mod marks;

@@ -9,7 +9,7 @@ use crate::changes::changed_text;
 use crate::failure::Failure;
 use info65::Tag;
 use std::alloc::{AllocError, Global};
-use stmt65::{AsmFaultKind, Assembly, Source, assemble_known, assemble_lines, assemble_source};
+use stmt65::{AsmFaultKind, Assembly, Source, Symbols, assemble_known, assemble_lines};
 
 /// What the listing of this name means.
 fn assembled<'t, 'b>(
@@ -28,28 +28,23 @@ fn assembled<'t, 'b>(
     }
 }
 
-/// Whether a text in the place of that of the source means the same bytes as it does. Mostly it defines the same names in the same order.
-fn means<'t>(
+/// Whether a text in the place of that of the source, which defines these names, means these bytes, as that does.
+fn means(
     alloc: Global,
-    source: &Source<'t, '_, '_>,
-    assembly: &Assembly<'t, '_, Global>,
+    source: &Source<'_, '_, '_>,
+    bytes: &[u8],
+    names: &Symbols<'_, &Global>,
     text: &[u8],
 ) -> Result<bool, AllocError>
-    requires { source_meaning source.now ≡ Ok assembly.now.bytes.items }
-    ensures { IfOk result (λ same. IsTrue same → meaning_in source.now.language source.now.layout.now source.now.start text.now ≡ Ok assembly.now.bytes.items) }
+    requires { source_meaning source.now ≡ Ok bytes.now }
+    ensures { IfOk result (λ same. IsTrue same → meaning_in source.now.language source.now.layout.now source.now.start text.now ≡ Ok bytes.now) }
 {
     if text == source.text {
         return Ok(true);
     }
-    let named = Source { text, ..*source };
-    let bytes = assembly.bytes.as_slice();
-    if let Some(found) = assemble_known(&alloc, &named, &assembly.names)? {
-        return Ok(found.as_slice() == bytes);
-    }
-    match assemble_source(alloc, &named) {
-        Ok(found) => Ok(found.as_slice() == bytes),
-        Err(fault) if fault.kind == AsmFaultKind::Memory => Err(AllocError),
-        Err(_) => Ok(false),
+    match assemble_known(&alloc, &Source { text, ..*source }, names)? {
+        Some(found) => Ok(found.as_slice() == bytes),
+        None => Ok(false),
     }
 }
 
@@ -69,9 +64,10 @@ pub fn named_text(
     ensures fault { IfErr result (Reports name.now source.now) }
 {
     let assembly = assembled(&alloc, name, source)?;
-    let text = changed_text(alloc, source, &assembly, tags, used)?;
-    if !means(alloc, source, &assembly, &text)? {
+    let changed = changed_text(&alloc, source, &assembly, tags, used)?;
+    let names = changed.names.as_ref().unwrap_or(&assembly.names);
+    if !means(alloc, source, &assembly.bytes, names, &changed.text)? {
         return Err(Failure::Changed);
     }
-    Ok(text)
+    Ok(changed.text)
 }

@@ -1,0 +1,66 @@
+//! What becomes of constant lines, and of the names that a text defines with them.
+
+use crate::marks::is_marked;
+use crate::plan::Plan;
+use std::alloc::{AllocError, Global};
+use stmt65::{Definition, Symbols};
+
+/// What becomes of the constant line of a name.
+#[derive(Clone, Copy)]
+pub enum Fate {
+    Kept,
+    /// No line uses the name.
+    LeftOut,
+    /// It stands after the last line, where its value is this far from the end of the bytes.
+    Moved(u64),
+}
+
+/// What becomes of the constant line of a name with this value.
+pub fn fate_of(plan: &Plan<'_, '_>, name: &[u8], value: u64) -> Fate {
+    if plan.wishes.is_left_out(name) {
+        return Fate::LeftOut;
+    }
+    if !is_marked(plan.marks, value) {
+        return Fate::Kept;
+    }
+    match value.checked_sub(plan.wishes.end()) {
+        Some(distance) => Fate::Moved(distance),
+        None => Fate::Kept,
+    }
+}
+
+/// What becomes of a definition: of all but constant lines nothing.
+fn fate(plan: &Plan<'_, '_>, definition: Definition<'_>) -> Fate {
+    if definition.constant {
+        fate_of(plan, definition.name, definition.value)
+    } else {
+        Fate::Kept
+    }
+}
+
+/// The definitions of a text as its text by names has them, or `None` if that has the same.
+pub fn names_after<'t, 'b>(
+    alloc: &'b Global,
+    plan: &Plan<'_, '_>,
+    definitions: &[Definition<'t>],
+) -> Result<Option<Symbols<'t, &'b Global>>, AllocError> {
+    if definitions
+        .iter()
+        .all(|definition| matches!(fate(plan, *definition), Fate::Kept))
+    {
+        return Ok(None);
+    }
+    let mut names = Symbols::new(alloc)?;
+    for definition in definitions {
+        if matches!(fate(plan, *definition), Fate::Kept) {
+            names.define(*definition)?;
+        }
+    }
+    for definition in definitions {
+        if matches!(fate(plan, *definition), Fate::Moved(_)) {
+            let constant = false;
+            names.define(Definition { constant, ..*definition })?;
+        }
+    }
+    Ok(Some(names))
+}
