@@ -181,7 +181,7 @@ done
 if [ "${CA65-}" = skip ]; then
     echo 'name65: programs at two addresses are left out, since CA65=skip is set'
 else
-    for name in halves row filler variables routine; do
+    for name in halves row returns filler variables routine; do
         moves "$name"
     done
     # The guide's way: an instruction at the beginning of the monitor, whose filler goes, gives what its source with it gives.

@@ -280,6 +280,38 @@ image refers.bin '\x04\x10\x09\x10\xea\xea\xea\x60\xffHELLO'
 image refers.info 'RANGE { START $1000; END $1003; TYPE AddrTable; };\n'
 proposes 'a table leads to sound beginnings alone' '1008-1008 ByteTable;1009-100D TextTable;' -S 0x1000 -i refers.info refers.bin
 
+# ---- rows of words that lead on
+
+# rts; an undefined opcode; the words $1007 and $100C; an undefined opcode; inx three times, rts; an undefined opcode; iny three times, rts
+image leads.bin '\x60\xff\x07\x10\x0c\x10\xff\xe8\xe8\xe8\x60\xff\xc8\xc8\xc8\x60'
+proposes 'two words that lead to sound beginnings' '1001-1001 ByteTable;1002-1005 AddrTable;1006-1006 ByteTable;100B-100B ByteTable;' -S 0x1000 leads.bin
+proposes 'plainly they are bytes' '1001-100F ByteTable;' -S 0x1000 --plain leads.bin
+image row.info 'RANGE { START $1004; END $1004; TYPE ByteTable; };\n'
+proposes 'with a byte in a range' '1001-1003 ByteTable;1005-100F ByteTable;' -S 0x1000 -i row.info leads.bin
+image single.bin '\x60\xff\x07\x10\xff\xff\xff\xe8\xe8\xe8\x60'
+proposes 'one word alone' '1001-100A ByteTable;' -S 0x1000 single.bin
+image same.bin '\x60\xff\x07\x10\x07\x10\xff\xe8\xe8\xe8\x60'
+proposes 'two equal words' '1001-100A ByteTable;' -S 0x1000 same.bin
+# three instructions, and two
+image short.bin '\x60\xff\x07\x10\x0b\x10\xff\xe8\xe8\x60\xff\xc8\xc8\x60'
+proposes 'three instructions are enough in a row' '1001-1001 ByteTable;1002-1005 AddrTable;1006-1006 ByteTable;100A-100A ByteTable;' -S 0x1000 short.bin
+image short.bin '\x60\xff\x07\x10\x0b\x10\xff\xe8\xe8\x60\xff\xc8\x60'
+proposes 'two are not' '1001-100C ByteTable;' -S 0x1000 short.bin
+# nop; nop; rts; an undefined opcode; the words $1001 and $1009; an undefined opcode; inx three times, rts
+image entered.bin '\xea\xea\x60\xff\x01\x10\x09\x10\xff\xe8\xe8\xe8\x60'
+proposes 'a word beside that of any reached instruction' '1003-1008 ByteTable;' -S 0x1000 entered.bin
+# the same words less one: the nop before $1001 goes on to it
+image less.bin '\xea\xea\x60\xff\x00\x10\x08\x10\xff\xe8\xe8\xe8\x60'
+proposes 'words less one beside that of code which runs into it' '1003-100C ByteTable;' -S 0x1000 less.bin
+image less.bin '\x60\xea\x60\xff\x00\x10\x08\x10\xff\xe8\xe8\xe8\x60'
+proposes 'words less one' '1003-1003 ByteTable;1004-1007 RtsTable;1008-1008 ByteTable;' -S 0x1000 --entry 0x1001 less.bin
+# three words, of which the first leads to nothing
+image third.bin '\x60\xff\xff\x10\x09\x10\x0e\x10\xff\xe8\xe8\xe8\x60\xff\xc8\xc8\xc8\x60'
+proposes 'a row begins where words lead on' '1001-1003 ByteTable;1004-1007 AddrTable;1008-1008 ByteTable;100D-100D ByteTable;' -S 0x1000 third.bin
+# a table that leads to code with a second table, and this to the rest
+image tables.bin '\x60\xff\x07\x10\x0c\x10\xff\xe8\xe8\xe8\x60\xff\xc8\xc8\xc8\x60\xff\x16\x10\x07\x10\xff\xca\xca\xca\x60'
+proposes 'a table leads on to another one' '1001-1001 ByteTable;1002-1005 AddrTable;1006-1006 ByteTable;100B-100B ByteTable;1010-1010 ByteTable;1011-1014 AddrTable;1015-1015 ByteTable;' -S 0x1000 tables.bin
+
 # ---- filler
 
 # filler COUNT BYTE: that many of the byte, in octal.
@@ -566,6 +598,8 @@ comes_back 'a likely address' 0x1000 named.bin -i named.info
 comes_back 'a likely text behind a call' 0x1000 inline.bin
 comes_back 'a row of words' 0x1000 rows.bin --entry 0x1007,0x100b
 comes_back 'a row before the vectors' 0xFFF4 rows_end.bin
+comes_back 'a row that leads on' 0x1000 tables.bin
+comes_back 'a row of words less one' 0x1000 less.bin --entry 0x1001
 for cpu in 6502 65SC02 65C02; do
     for seed in 1 2 3 4 5; do
         image random.bin "$(awk -v seed="$seed$cpu" 'BEGIN {
@@ -631,6 +665,8 @@ else
     moves halves 0x2345 's/#\$0D/#<L100D/; s/#\$10/#>L100D/' ''
     shows row 0x1000
     moves row 0x2345 '' ''
+    shows returns 0x1000
+    moves returns 0x2345 '' ''
     # The code moves by eight bytes: a line of filler goes.
     shows vectors 0xFFC0
     moves vectors 0xFFC0 's/^LFFC0:/        .res 8,$EA\n&/; 0,/$FF,$FF,$FF,$FF/ { //d }' '' -D GAP=8
