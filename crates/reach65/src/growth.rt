@@ -8,8 +8,9 @@ ghost use Rattle.reach65.specs.Growth.{AreWordsOf, IsCandidate, IsFollowed, MayJ
 use crate::entries::pointers_of;
 use crate::flow::Flow;
 use crate::pairs::{Pair, put_pairs_at};
-use crate::row_words::{RowWords, given_marks, hopeful_marks};
+use crate::row_words::RowWords;
 use crate::search::{Search, search_from};
+use crate::sound::has_code;
 use map65::ADDRESSES;
 use std::alloc::{AllocError, Allocator, Global};
 use std::marker::Model;
@@ -164,7 +165,7 @@ fn try_candidate<A: Allocator + Copy, B: Allocator>(
     requires { IsDone flow.now search.old }
     ensures { OnOk result (IsGrown flow.now search.old search.new) }
 {
-    if search.is_marked(candidate.address) {
+    if search.is_marked(candidate.address) || PATIENCE < search.wasted() {
         return Ok(());
     }
     if is_candidate(alloc, flow, search.marks(), candidate)? {
@@ -193,15 +194,16 @@ fn join_tables<A: Allocator + Copy, B: Allocator>(
     Ok(())
 }
 
-/// Adds a candidate, unless it is reached.
-fn put_candidate<A: Allocator>(
+/// Adds a candidate, unless a reached instruction has its address: it would share a byte with that.
+fn put_candidate<A: Allocator, B: Allocator>(
     found: &mut Vec<Candidate, A>,
+    flow: &Flow<'_, '_, B>,
     marks: &[bool],
     candidate: Candidate,
 ) -> Result<(), AllocError>
     requires { length marks.now ≡ 65536 }
 {
-    if !marks[usize::from(candidate.address)] {
+    if !has_code(flow, marks, candidate.address) {
         found.push(candidate)?;
     }
     Ok(())
@@ -221,7 +223,7 @@ fn put_candidates_of<A: Allocator, B: Allocator>(
     put_pairs_at(pairs, flow, marks, usize::from(reason))?;
     for &pair in pairs.as_slice() {
         let address = pair.address;
-        put_candidate(found, marks, Candidate { address, reason })?;
+        put_candidate(found, flow, marks, Candidate { address, reason })?;
     }
     let Some(op) = flow.instruction_at(reason) else {
         return Ok(());
@@ -230,7 +232,7 @@ fn put_candidates_of<A: Allocator, B: Allocator>(
         return Ok(());
     };
     match u16::try_from(end) {
-        Ok(address) => put_candidate(found, marks, Candidate { address, reason }),
+        Ok(address) => put_candidate(found, flow, marks, Candidate { address, reason }),
         Err(_) => Ok(()),
     }
 }
@@ -282,9 +284,7 @@ fn grow_rows<A: Allocator + Copy, B: Allocator>(
     requires { IsDone flow.now search.old }
     ensures { OnOk result (IsGrown flow.now search.old search.new) }
 {
-    let given = given_marks(alloc, flow.map().info().ranges())?;
-    let hopeful = hopeful_marks(alloc, flow, search.marks())?;
-    let words = RowWords::new(flow, given, hopeful);
+    let words = RowWords::of(alloc, flow, search.marks())?;
     'scans: for _scan in 0..SCANS {
         let fresh = words.join_rows(alloc, search)?;
         if fresh.is_empty() {

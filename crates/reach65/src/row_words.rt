@@ -9,22 +9,24 @@ ghost use Rattle.reach65.specs.Growth.{AreBeside, AreWordsOf, IsWordOf};
 ghost use Rattle.reach65.specs.Taken.{AreMarkedBy, is_given, is_taken};
 
 use crate::entries::word_at;
-use crate::flow::Flow;
+use crate::flow::{Flow, is_last};
 use crate::growth::join;
 use crate::marks::{blank_marks, mark_ranges};
 use crate::search::{IN_ROW, Search};
-use crate::sound::{has_code, is_fine_op};
+use crate::sound::has_code;
 use info65::RangeSpec;
-use isa65::Op;
+use isa65::{Mnemonic, Op};
 use map65::is_inside;
 use std::alloc::{AllocError, Allocator, Global};
 use std::marker::Model;
 
-/// What instructions lead to, marks of what the ranges of the information file have, and of where code may begin.
+/// Where instructions lead, and marks: of what the ranges of the information file have, of what no reached instruction had when the search for
+/// rows began, and of where code may begin.
 #[derive(Drop)]
 pub struct RowWords<'a, 'f, 'm, A: Allocator = Global, B: Allocator = Global> {
     flow: &'a Flow<'f, 'm, A>,
     given: Vec<bool, B>,
+    free: Vec<bool, B>,
     hopeful: Vec<bool, B>,
 }
 
@@ -37,12 +39,12 @@ impl<'a, 'f, 'm, A: Allocator, B: Allocator> Model for RowWords<'a, 'f, 'm, A, B
 
     ghost view = { λ w. w.flow.now };
 
-    ghost invariant = { λ w. AreMarkedBy (is_given w.flow.now.map.info.ranges) w.given.items × (length w.hopeful.items ≡ 65536) };
+    ghost invariant = { λ w. AreMarkedBy (is_given w.flow.now.map.info.ranges) w.given.items × (length w.free.items ≡ 65536) × (length w.hopeful.items ≡ 65536) };
 }
 
 // ---- where code may begin
 
-/// Whether the mark of the address is set, if there is an address after this one.
+/// Whether the mark of the address is set, if there is one after this one.
 fn is_hopeful_after(marks: &[bool], address: u16, later: Option<u16>) -> bool
     requires { length marks.now ≡ 65536 }
 {
@@ -52,43 +54,34 @@ fn is_hopeful_after(marks: &[bool], address: u16, later: Option<u16>) -> bool
     }
 }
 
-/// Whether the instruction of the address is fine, and those after it that it leads to have marks.
+/// Whether code may go on from the instruction of the address: to those after it, as these marks say, or where it ends.
 fn is_hopeful_op<A: Allocator>(flow: &Flow<'_, '_, A>, marks: &[bool], address: u16, op: Op) -> bool
     requires count { length marks.now ≡ 65536 }
     requires low { flow.now.map.image.start ≤ address }
     requires high { address < end_of flow.now.map.image }
     requires whole { address + len_of op.mode ≤ end_of flow.now.map.image }
 {
-    is_fine_op(flow, address, op)
-        && is_hopeful_after(marks, address, flow.next_of(address, op))
+    if op.mnemonic == Mnemonic::Brk {
+        return false;
+    }
+    let next = flow.next_of(address, op);
+    (next.is_some() || is_last(op.mnemonic))
+        && is_hopeful_after(marks, address, next)
         && is_hopeful_after(marks, address, flow.goal_by(address, op))
 }
 
-/// Whether code may begin at the address.
-fn is_hopeful<A: Allocator>(
-    flow: &Flow<'_, '_, A>,
-    reached: &[bool],
-    marks: &[bool],
-    address: u16,
-) -> bool
-    requires reached { length reached.now ≡ 65536 }
-    requires count { length marks.now ≡ 65536 }
+/// Whether code may begin at the address, which no reached instruction has.
+fn is_hopeful<A: Allocator>(flow: &Flow<'_, '_, A>, marks: &[bool], address: u16) -> bool
+    requires { length marks.now ≡ 65536 }
 {
-    if reached[usize::from(address)] {
-        return true;
-    }
-    if has_code(flow, reached, address) {
-        return false;
-    }
     match flow.instruction_at(address) {
         Some(op) => is_hopeful_op(flow, marks, address, op),
         None => false,
     }
 }
 
-/// Marks where code may begin: a reached instruction, or one that is fine as all after it are that it leads to. It saves trials: few
-/// bytes of data lead to the end of a routine.
-pub fn hopeful_marks<A: Allocator, B: Allocator>(
+/// Marks the addresses of the image that no reached instruction has.
+fn free_marks<A: Allocator, B: Allocator>(
     alloc: A,
     flow: &Flow<'_, '_, B>,
     reached: &[bool],
@@ -99,17 +92,40 @@ pub fn hopeful_marks<A: Allocator, B: Allocator>(
     let mut marks = blank_marks(alloc)?;
     let image = flow.map().image();
     let start = usize::from(image.start());
+    'free: for k in 0..image.bytes().len() {
+        let at = start + k;
+        let free = !reached[at] && !has_code(flow, reached, at as u16);
+        marks[at] = free;
+    }
+    Ok(marks)
+}
+
+/// Marks where code may begin: a reached instruction, or one from which all goes on to others that may be code, as far as that is known
+/// from the instructions after it. It saves trials, and no more: few bytes of data lead to the end of a routine.
+fn hopeful_marks<A: Allocator, B: Allocator>(
+    alloc: A,
+    flow: &Flow<'_, '_, B>,
+    reached: &[bool],
+    free: &[bool],
+) -> Result<Vec<bool, A>, AllocError>
+    requires reached { length reached.now ≡ 65536 }
+    requires free { length free.now ≡ 65536 }
+    ensures { IfOk result (λ marks. length marks.items ≡ 65536) }
+{
+    let mut marks = blank_marks(alloc)?;
+    let image = flow.map().image();
+    let start = usize::from(image.start());
     let mut at = start + image.bytes().len();
     'back: while start < at {
         at -= 1;
-        let mark = is_hopeful(flow, reached, &marks, at as u16);
+        let mark = reached[at] || (free[at] && is_hopeful(flow, &marks, at as u16));
         marks[at] = mark;
     }
     Ok(marks)
 }
 
 /// Marks the addresses of these ranges. There is a mark for each address from $0000 to $FFFF.
-pub fn given_marks<A: Allocator>(alloc: A, ranges: &[RangeSpec]) -> Result<Vec<bool, A>, AllocError>
+fn given_marks<A: Allocator>(alloc: A, ranges: &[RangeSpec]) -> Result<Vec<bool, A>, AllocError>
     ensures { IfOk result (λ marks. AreMarkedBy (is_given ranges.now) marks.items) }
 {
     let mut marks = blank_marks(alloc)?;
@@ -120,22 +136,26 @@ pub fn given_marks<A: Allocator>(alloc: A, ranges: &[RangeSpec]) -> Result<Vec<b
 // ---- words
 
 impl<'a, 'f, 'm, A: Allocator, B: Allocator> RowWords<'a, 'f, 'm, A, B> {
-    /// What these instructions lead to; `given` has the marks of what the ranges of the information file have, and `hopeful` those of
-    /// where code may begin, one for each address from $0000 to $FFFF.
-    pub fn new(
+    /// Looks for rows beside what is reached. Fails only if an allocation failed.
+    pub fn of(
+        alloc: B,
         flow: &'a Flow<'f, 'm, A>,
-        given: Vec<bool, B>,
-        hopeful: Vec<bool, B>,
-    ) -> RowWords<'a, 'f, 'm, A, B>
-        requires given { AreMarkedBy (is_given flow.now.map.info.ranges) given.items }
-        requires hopeful { length hopeful.items ≡ 65536 }
-        ensures { result ≡ flow.now }
+        reached: &[bool],
+    ) -> Result<RowWords<'a, 'f, 'm, A, B>, AllocError>
+    where
+        B: Copy,
+        requires { length reached.now ≡ 65536 }
+        ensures { IfOk result (λ words. words ≡ flow.now) }
     {
-        RowWords {
+        let given = given_marks(alloc, flow.map().info().ranges())?;
+        let free = free_marks(alloc, flow, reached)?;
+        let hopeful = hopeful_marks(alloc, flow, reached, &free)?;
+        Ok(RowWords {
             flow,
             given,
+            free,
             hopeful,
-        }
+        })
     }
 
     /// Whether nothing speaks for the address.
@@ -267,6 +287,37 @@ impl<'a, 'f, 'm, A: Allocator, B: Allocator> RowWords<'a, 'f, 'm, A, B> {
         Ok(())
     }
 
+    /// Whether the word at the address may lead to code, itself or as one less.
+    fn is_worth(&self, at: usize) -> bool
+        requires { at < 65536 }
+    {
+        let image = self.flow.map().image();
+        if !self.free[at] || !is_inside(image, at) || !is_inside(image, at + 1) {
+            return false;
+        }
+        let word = usize::from(word_at(image, at as u16));
+        self.hopeful[word] || (word < 0xFFFF && self.hopeful[word + 1])
+    }
+
+    /// Adds the addresses of the word at the address, and of the next one, to the entries, if they are in a row, and sound beginnings.
+    #[tactic(auto, using(crate::proofs::GrowthLemmas::grown_same, crate::proofs::GrowthLemmas::grown_then))]
+    fn join_at<C: Allocator>(
+        &self,
+        search: &mut Search<C>,
+        fresh: &mut Vec<u16, C>,
+        at: usize,
+    ) -> Result<(), AllocError>
+        requires done { IsDone self.now search.old }
+        requires room { at < 65536 }
+        ensures { OnOk result (IsGrown self.now search.old search.new) }
+    {
+        if !self.is_worth(at) {
+            return Ok(());
+        }
+        self.join_words(search, fresh, 0, at)?;
+        self.join_words(search, fresh, 1, at)
+    }
+
     /// Adds the sound beginnings among the words of rows to the entries. Returns what is reached from them.
     #[tactic(auto, using(crate::proofs::GrowthLemmas::grown_same, crate::proofs::GrowthLemmas::grown_then))]
     pub fn join_rows<C: Allocator + Copy>(
@@ -281,8 +332,7 @@ impl<'a, 'f, 'm, A: Allocator, B: Allocator> RowWords<'a, 'f, 'm, A, B> {
         let image = self.flow.map().image();
         let start = usize::from(image.start());
         'rows: for k in 0..image.bytes().len() {
-            self.join_words(search, &mut fresh, 0, start + k)?;
-            self.join_words(search, &mut fresh, 1, start + k)?;
+            self.join_at(search, &mut fresh, start + k)?;
         }
         Ok(fresh)
     }
