@@ -300,6 +300,16 @@ one_stream_twice() {
             esac
         done
     done
+    # A plain file may be both, and a folder is no stream.
+    begin
+    name[info]=in/t.s
+    go
+    refuses 'a plain file that is two inputs' 'info:1: something else expected'
+    begin
+    mkdir in/folder
+    name[info]=in/folder name[listing]=in/folder
+    go
+    refuses 'a folder that is two inputs' 'cannot read in/folder'
 }
 
 # ---- where the output goes
@@ -353,6 +363,15 @@ own_outputs() {
         done
     done
     case $run in as65 | name65) ;; *) return ;; esac
+    # Only a plain file can't be both.
+    begin
+    input=$main
+    rename /dev/null
+    out=none
+    command_line
+    "$program" "${words[@]}" >/dev/null 2>stderr
+    status=$?
+    says 'a device is the output and the input' $trouble '@: no bytes'
     # One number on two devices is not one file.
     ! has_shim || {
         begin

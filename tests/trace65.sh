@@ -246,6 +246,7 @@ misplaced 'an entry of the file and ranges' \
 image within.info '#: ENTRY { ADDR $1001; };\n'
 misplaced 'an entry of the file inside an instruction' 'entry $1001 is inside the instruction at $1000;' -S 0x1000 -i within.info \
     operand.bin
+misplaced 'and with --plain' 'entry $1001 is inside the instruction at $1000;' --plain -S 0x1000 -i within.info operand.bin
 { head -c $((1048576 - 26)) /dev/zero | tr '\0' '#'; printf '\n%s' '#: ENTRY { ADDR $1006; };'; } >large.info
 misplaced 'an entry at the end of the largest file' 'entry $1006 is outside the image;' -S 0x1000 -i large.info operand.bin
 image wrong.info 'RANGE { START $0F00; END $1000; TYPE Code; };\nRANGE { START $1004; END $2000; TYPE Code; };\n'
