@@ -285,7 +285,8 @@ proposes 'a table leads to sound beginnings alone' '1008-1008 ByteTable;1009-100
 
 # rts; an undefined opcode; the words $1007 and $100C; an undefined opcode; inx three times, rts; an undefined opcode; iny three times, rts
 image leads.bin '\x60\xff\x07\x10\x0c\x10\xff\xe8\xe8\xe8\x60\xff\xc8\xc8\xc8\x60'
-proposes 'two words that lead to sound beginnings' '1001-1001 ByteTable;1002-1005 AddrTable;1006-1006 ByteTable;100B-100B ByteTable;' -S 0x1000 leads.bin
+proposes 'two words that lead to sound beginnings' '1001-1001 ByteTable;1002-1005 AddrTable;1006-1006 ByteTable;100B-100B ByteTable;' \
+    -S 0x1000 leads.bin
 proposes 'plainly they are bytes' '1001-100F ByteTable;' -S 0x1000 --plain leads.bin
 image row.info 'RANGE { START $1004; END $1004; TYPE ByteTable; };\n'
 proposes 'with a byte in a range' '1001-1003 ByteTable;1005-100F ByteTable;' -S 0x1000 -i row.info leads.bin
@@ -295,7 +296,8 @@ image same.bin '\x60\xff\x07\x10\x07\x10\xff\xe8\xe8\xe8\x60'
 proposes 'two equal words' '1001-100A ByteTable;' -S 0x1000 same.bin
 # three instructions, and two
 image short.bin '\x60\xff\x07\x10\x0b\x10\xff\xe8\xe8\x60\xff\xc8\xc8\x60'
-proposes 'three instructions are enough in a row' '1001-1001 ByteTable;1002-1005 AddrTable;1006-1006 ByteTable;100A-100A ByteTable;' -S 0x1000 short.bin
+proposes 'three instructions are enough in a row' '1001-1001 ByteTable;1002-1005 AddrTable;1006-1006 ByteTable;100A-100A ByteTable;' \
+    -S 0x1000 short.bin
 image short.bin '\x60\xff\x07\x10\x0b\x10\xff\xe8\xe8\x60\xff\xc8\x60'
 proposes 'two are not' '1001-100C ByteTable;' -S 0x1000 short.bin
 # nop; nop; rts; an undefined opcode; the words $1001 and $1009; an undefined opcode; inx three times, rts
@@ -308,10 +310,13 @@ image less.bin '\x60\xea\x60\xff\x00\x10\x08\x10\xff\xe8\xe8\xe8\x60'
 proposes 'words less one' '1003-1003 ByteTable;1004-1007 RtsTable;1008-1008 ByteTable;' -S 0x1000 --entry 0x1001 less.bin
 # three words, of which the first leads to nothing
 image third.bin '\x60\xff\xff\x10\x09\x10\x0e\x10\xff\xe8\xe8\xe8\x60\xff\xc8\xc8\xc8\x60'
-proposes 'a row begins where words lead on' '1001-1003 ByteTable;1004-1007 AddrTable;1008-1008 ByteTable;100D-100D ByteTable;' -S 0x1000 third.bin
+proposes 'a row begins where words lead on' '1001-1003 ByteTable;1004-1007 AddrTable;1008-1008 ByteTable;100D-100D ByteTable;' \
+    -S 0x1000 third.bin
 # a table that leads to code with a second table, and this to the rest
 image tables.bin '\x60\xff\x07\x10\x0c\x10\xff\xe8\xe8\xe8\x60\xff\xc8\xc8\xc8\x60\xff\x16\x10\x07\x10\xff\xca\xca\xca\x60'
-proposes 'a table leads on to another one' '1001-1001 ByteTable;1002-1005 AddrTable;1006-1006 ByteTable;100B-100B ByteTable;1010-1010 ByteTable;1011-1014 AddrTable;1015-1015 ByteTable;' -S 0x1000 tables.bin
+proposes 'a table leads on to another one' \
+    '1001-1001 ByteTable;1002-1005 AddrTable;1006-1006 ByteTable;100B-100B ByteTable;1010-1010 ByteTable;'\
+'1011-1014 AddrTable;1015-1015 ByteTable;' -S 0x1000 tables.bin
 
 # ---- filler
 

@@ -38,7 +38,6 @@ name65 Failure::from 3
 name65 Refusal::from 2
 name65 assembled 2
 name65 failure_of 2
-name65 means 2
 relist Failure::from 2
 stmt65 AsmFault::from 1
 stmt65 Symbols::define 2
