@@ -30,7 +30,7 @@ pub fn fate_of(plan: &Plan<'_, '_>, name: &[u8], value: u64) -> Fate {
 }
 
 /// What becomes of a definition: of all but constant lines nothing.
-fn fate(plan: &Plan<'_, '_>, definition: Definition<'_>) -> Fate {
+fn becomes(plan: &Plan<'_, '_>, definition: Definition<'_>) -> Fate {
     if definition.constant {
         fate_of(plan, definition.name, definition.value)
     } else {
@@ -46,18 +46,18 @@ pub fn names_after<'t, 'b>(
 ) -> Result<Option<Symbols<'t, &'b Global>>, AllocError> {
     if definitions
         .iter()
-        .all(|definition| matches!(fate(plan, *definition), Fate::Kept))
+        .all(|definition| matches!(becomes(plan, *definition), Fate::Kept))
     {
         return Ok(None);
     }
     let mut names = Symbols::new(alloc)?;
     for definition in definitions {
-        if matches!(fate(plan, *definition), Fate::Kept) {
+        if matches!(becomes(plan, *definition), Fate::Kept) {
             names.define(*definition)?;
         }
     }
     for definition in definitions {
-        if matches!(fate(plan, *definition), Fate::Moved(_)) {
+        if matches!(becomes(plan, *definition), Fate::Moved(_)) {
             let constant = false;
             names.define(Definition { constant, ..*definition })?;
         }
