@@ -178,17 +178,17 @@ printf '%-44s %12s %12s %8s\n' 'instructions for 64 KiB' 'here' 'cc65' 'ratio'
 for cpu in "${cpus[@]}"; do
     compares "random bytes, $cpu" "${random[$cpu]}" -S 0 --cpu "$cpu" random.bin
 done
-compares 'nop' 35.2 -S 0 nop.bin
-compares 'mixed bytes, without ranges' 25.1 -S 0 mixed.bin
-compares "mixed bytes, $(wc -l <mixed.info) ranges" 25.2 -S 0 -i mixed.info mixed.bin
-compares 'a byte table' 17.6 -S 0 -i table.info nop.bin
-compares 'a byte table in 1,024 segments' 28.0 -S 0 -i segments.info nop.bin
+compares 'nop' 27.3 -S 0 nop.bin
+compares 'mixed bytes, without ranges' 24.4 -S 0 mixed.bin
+compares "mixed bytes, $(wc -l <mixed.info) ranges" 24.8 -S 0 -i mixed.info mixed.bin
+compares 'a byte table' 17.3 -S 0 -i table.info nop.bin
+compares 'a byte table in 1,024 segments' 26.5 -S 0 -i segments.info nop.bin
 grep SEGMENT segments.info >borders.info
 echo 'SEGMENT { START $1000; END $1001; NAME "S"; };' >segment.info
 echo 'LABEL { ADDR $1000; NAME "entry"; COMMENT "the entry"; };' >comment.info
-compares 'nop, one segment of two bytes' 39.0 -S 0 -i segment.info nop.bin
-compares 'nop, one name with a comment' 38.9 -S 0 -i comment.info nop.bin
-compares 'nop, 1,024 segments' 46.7 -S 0 -i borders.info nop.bin
+compares 'nop, one segment of two bytes' 30.9 -S 0 -i segment.info nop.bin
+compares 'nop, one name with a comment' 30.5 -S 0 -i comment.info nop.bin
+compares 'nop, 1,024 segments' 37.9 -S 0 -i borders.info nop.bin
 
 # What people run: a few bytes, a few tables and names. What is done once whatever there is shows most. (cc65's has no SIZE.)
 printf '%s\n' 'GLOBAL { STARTADDR $F000; };' \
@@ -200,9 +200,9 @@ printf '%s\n' 'GLOBAL { STARTADDR $F000; };' \
     'LABEL { ADDR $FFD2; NAME "CHROUT"; };' >hello.info
 echo 'LABEL { ADDR $1000; NAME "entry"; };' >label.info
 printf '\xea' >one.bin
-compares 'one byte' 33.5 -S 0 one.bin
-compares '44 bytes with five tables and three names' 54.5 -i hello.info "$root/examples/hello.bin"
-compares '1 KiB with one label' 35.9 -S 0 -i label.info kilobyte.bin
+compares 'one byte' 33.4 -S 0 one.bin
+compares '44 bytes with five tables and three names' 38.3 -i hello.info "$root/examples/hello.bin"
+compares '1 KiB with one label' 27.2 -S 0 -i label.info kilobyte.bin
 includes 16 1 10 >small.info
 compares '1 KiB with 16 include files of a line' 42.7 -S 0 -i small.info kilobyte.bin
 includes 16 4096 230 >large.info

@@ -19,7 +19,7 @@ use Rattle.info65.specs.declared.syntax.attribute.GroupKind.{GroupKind}
 use Rattle.info65.specs.declared.syntax.attribute.GroupKind.TheVariants as kind
 use Rattle.info65.specs.Code.Index.{AreRanged, IsFoundAt, IsIndex, StandsIn, any_in, numbered, stands_by, text_at}
 use Rattle.info65.specs.Code.Names.{given_seen}
-use Rattle.info65.specs.Code.Numbers.{IsSet, NumbersView}
+use Rattle.info65.specs.Code.Numbers.{NumbersView, number_at}
 use Rattle.info65.specs.Code.Texts.{AddsText, TextsView}
 use Rattle.info65.specs.Labels.{is_at, is_elsewhere, label_in, name_fault, name_part, named_at, names_from, names_said, range_name}
 use Rattle.info65.specs.Names.{blank_name, is_reserved}
@@ -195,10 +195,10 @@ numbered_map f xs zero = refl
 numbered_map f xs (suc k) = sym (slice_get-map f xs k)
 
 -- what the code finds
-pub found_is : (items : List Given) (numbers : List ℕ) (a : ℕ) (o : Option Given) → IsFoundAt (map given_seen items) numbers a → o ≡ numbered items (get_or numbers a 0) → named_at (map given_seen items) a ≡ option_map given_seen o
-found_is items numbers a o i is = sym i.is ∙ sym (numbered_map given_seen items (get_or numbers a 0)) ∙ ap (option_map given_seen) (sym is)
+pub found_is : (items : List Given) (numbers : List NumbersView) (a : ℕ) (o : Option Given) → IsFoundAt (map given_seen items) numbers a → o ≡ numbered items (number_at numbers a) → named_at (map given_seen items) a ≡ option_map given_seen o
+found_is items numbers a o i is = sym i.is ∙ sym (numbered_map given_seen items (number_at numbers a)) ∙ ap (option_map given_seen) (sym is)
 
-pub taken_found : (items : List Given) (numbers : List ℕ) (a : ℕ) → IsFoundAt (map given_seen items) numbers a → is_some (numbered items (get_or numbers a 0)) ≡ list_any (is_at a) (map given_seen items)
+pub taken_found : (items : List Given) (numbers : List NumbersView) (a : ℕ) → IsFoundAt (map given_seen items) numbers a → is_some (numbered items (number_at numbers a)) ≡ list_any (is_at a) (map given_seen items)
 taken_found items numbers a i = sym (some_map given_seen _) ∙ ap is_some (sym (found_is items numbers a _ i refl)) ∙ sym (taken_is (map given_seen items) a)
 
 some_numbered : (names : List NameView) (k : ℕ) → (k ≡ 0 → ⊥) → k ≤ length names → (m : NameView) × (numbered names k ≡ Some m)
@@ -237,26 +237,25 @@ text_added names texts told n t i new (inr (inr (off, same, also))) =
     }
 
 -- and an address
-address_added : (names : List NameView) (numbers more : List ℕ) (n : NameView) (a : ℕ) → IsFoundAt names numbers a → IsNew names n
-    → get_or more a 0 ≡ (if n.address == a then length names + 1 else get_or numbers a 0) → IsFoundAt (names ++ n ∷ []) more a
+address_added : (names : List NameView) (numbers more : List NumbersView) (n : NameView) (a : ℕ) → IsFoundAt names numbers a → IsNew names n
+    → number_at more a ≡ (if n.address == a then length names + 1 else number_at numbers a) → IsFoundAt (names ++ n ∷ []) more a
 unfolding named_at
 address_added names numbers more n a i new here = grind (arith, length-append, by_test, cond-true, eqb-true, no_find, numbered_last, find_more, numbered_more, find_same)
 
-pub name_added : (names : List NameView) (numbers more : NumbersView) (texts told : TextsView) (n : NameView) → IsIndex names numbers texts → name_fault names n ≡ None
-    → more.count ≡ numbers.count → IsSet n.address (length names + 1) numbers.cells more.cells
+pub name_added : (names : List NameView) (numbers more : List NumbersView) (texts told : TextsView) (n : NameView) → IsIndex names numbers texts → name_fault names n ≡ None
+    → ((a : ℕ) → number_at more a ≡ (if n.address == a then length names + 1 else number_at numbers a))
     → ((t : List ℕ) → AddsText texts n.text n.address (length names + 1) told t) → IsIndex (names ++ n ∷ []) more told
-name_added names numbers more texts told n i fine count here there =
+name_added names numbers more texts told n i fine here there =
     let new = no_fault names n fine in
     record {
-      long = count ∙ i.long;
       distinct = all_pairs_push (λ (x y : NameView). x.text ≢ y.text) names n i.distinct (new_text names n new);
-      addresses = λ a. address_added names numbers.cells more.cells n a (i.addresses a) new (here a);
+      addresses = λ a. address_added names numbers more n a (i.addresses a) new (here a);
       texts = λ t. text_added names texts told n t (i.texts t) new (there t);
     }
 
-pub no_index : (numbers : NumbersView) (texts : TextsView) → numbers.count ≡ 0x1_0000 → numbers.cells ≡ [] → ((t : List ℕ) → texts.slotted t ≡ 0) → ((t : List ℕ) → texts.others t ≡ None) → IsIndex [] numbers texts
+pub no_index : (numbers : List NumbersView) (texts : TextsView) → numbers ≡ [] → ((t : List ℕ) → texts.slotted t ≡ 0) → ((t : List ℕ) → texts.others t ≡ None) → IsIndex [] numbers texts
 unfolding named_at
-no_index numbers texts long none empty lone = grind arith
+no_index numbers texts none empty lone = grind arith
 
 -- ---- no ranges
 

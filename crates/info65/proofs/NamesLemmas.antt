@@ -14,6 +14,7 @@ use Rattle.std.proofs.lemmas.Slice.Eq.{bytes_eq-Decides}
 use Rattle.std.specs.Str.{bytes_eq}
 use Rattle.info65.specs.Code.Index.{IsFoundAt, numbered, text_at}
 use Rattle.info65.specs.Code.Names.{given_seen}
+use Rattle.info65.specs.Code.Numbers.{NumbersView, number_at}
 use Rattle.text65.specs.Names.{has_name_form}
 use Rattle.info65.specs.Attributes.{form_of}
 use Rattle.info65.specs.Closing.{closing_fault, optional_name_fault}
@@ -100,28 +101,20 @@ names_passed f m (suc n) none =
     ∙ append-nil (names_from f 0 (m + n)) ∙ names_passed f m n (λ b low high. none b low (omega (arith, high)))
 
 -- the names up to an address and those of the address
-pub names_next : (items : List Given) (numbers : List ℕ) (a : ℕ) (o : Option Given) → IsFoundAt (map given_seen items) numbers a → o ≡ numbered items (get_or numbers a 0)
+pub names_next : (items : List Given) (numbers : List NumbersView) (a : ℕ) (o : Option Given) → IsFoundAt (map given_seen items) numbers a → o ≡ numbered items (number_at numbers a)
     → names_from (named_at (map given_seen items)) 0 (a + 1) ≡ names_from (named_at (map given_seen items)) 0 a ++ option_to_list (option_map given_seen o)
 names_next items numbers a o i is = grind (arith, names_last, found_is)
 
-given_at : (items : List Given) (k : ℕ) (x : NameView) → k < length (map given_seen items) → get_or (map given_seen items) k x ≡ x → (d : Given) × (k < length items) × (given_seen (get_or items k d) ≡ x)
-given_at [] k x low is = absurd (omega (arith, low))
-given_at (y ∷ ys) k x low is = let here : k < length (y ∷ ys) = omega (arith, low, length-map (y ∷ ys) given_seen) in (y, here, sym (get_or-map given_seen (y ∷ ys) k y x here) ∙ is)
-
--- a page without a name adds none
-pub page_passed : (items : List Given) (pages : List Bool) (p : ℕ) → ((k : ℕ) (d : Given) → k < length items → get_or pages ((get_or items k d).address / 256) false ≡ true) → get_or pages p false ≡ false
+-- a page without a number adds none
+pub page_passed : (items : List Given) (numbers : List NumbersView) (p : ℕ) → ((a : ℕ) → a / 256 ≡ p → number_at numbers a ≡ 0)
+    → ((a : ℕ) → IsFoundAt (map given_seen items) numbers a)
     → names_from (named_at (map given_seen items)) 0 ((p + 1) * 256) ≡ names_from (named_at (map given_seen items)) 0 (p * 256)
-page_passed items pages p marked off =
+page_passed items numbers p none found =
     let e : (p + 1) * 256 ≡ p * 256 + 256 = omega arith in
-    rw e (names_passed (named_at (map given_seen items)) (p * 256) 256 (λ b low high. none b low high (named_at (map given_seen items) b) refl))
-  where
-    none : (b : ℕ) → p * 256 ≤ b → b < p * 256 + 256 → (o : Option NameView) → named_at (map given_seen items) b ≡ o → o ≡ None
-    none b low high None is = refl
-    none b low high (Some x) is =
-        let at = (named_place (map given_seen items) b x is).place in
-        let g = given_at items at.index x at.low (at.is x) in
-        let page : (get_or items at.index g.0).address / 256 ≡ p = omega (arith, low, high, address_of (map given_seen items) b x is, ap (λ (n : NameView). n.address) g.2) in
-        absurd (false≢true (sym off ∙ ap (λ (q : ℕ). get_or pages q false) (sym page) ∙ marked at.index g.0 g.1))
+    rw e (names_passed (named_at (map given_seen items)) (p * 256) 256
+    (λ b low high.
+    let page : b / 256 ≡ p = omega (arith, low, high) in
+    sym (found b).is ∙ ap (numbered (map given_seen items)) (none b page)))
 
 -- ---- what holds of the names that groups say
 

@@ -3,4 +3,5 @@
 pub(crate) mod index;
 pub(crate) mod marks;
 pub(crate) mod numbers;
+pub(crate) mod pages;
 pub mod texts;

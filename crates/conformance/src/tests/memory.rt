@@ -219,12 +219,16 @@ fn each_allocation_refused_in_turn(rt: HostRuntime) {
     }
 }
 
-/// Names are found by four bytes for each address, and four for each slot: there is a slot for two bytes of what gives the
-/// names, and there are 16 to 1,048,576.
-fn name_tables(bytes: usize) -> u64 {
+/// Names are found by four bytes for each slot: there is a slot for two bytes of what gives the names, and there are 16 to
+/// 1,048,576.
+fn name_slots(bytes: usize) -> u64 {
     let slots = (bytes as u64 / 2).clamp(16, 1_048_576);
-    slots.saturating_mul(4).saturating_add(262_144)
+    slots.saturating_mul(4)
 }
+
+/// And they are found by four bytes for each of the 256 addresses of a page that has a name: no row has more than eight such
+/// pages. The list of pages is granted less than 24 KiB.
+const NAME_PAGES: u64 = 8 * 1_024 + 24_576;
 
 /// What a name that is there before an include file counts for, beside the bytes of the file.
 const BYTES_OF_A_NAME: usize = 16;
@@ -310,25 +314,39 @@ fn call_parts(
     include: &[u8],
     input: &[u8],
 ) {
-    let tables = name_tables(info.len());
+    let slots = name_slots(info.len());
     let Ok(mut info) = read_info(heap, options, info) else {
         let both = address_table(false).saturating_mul(2);
         assert_granted(rt, heap, 0, 0, both.saturating_add(SMALL));
         return;
     };
-    let tables = if info.given_count() == 0 { 0 } else { tables };
+    let named = info.given_count() != 0;
+    let slots = if named { slots } else { 0 };
+    let pages = if named { NAME_PAGES } else { 0 };
     let marks = address_table(info.ranges().is_empty());
     let marks = marks.saturating_add(address_table(info.segments().is_empty()));
-    assert_granted(rt, heap, 0, marks.saturating_add(tables), SMALL);
+    assert_granted(
+        rt,
+        heap,
+        0,
+        marks.saturating_add(slots),
+        pages.saturating_add(SMALL),
+    );
     if !info.includes().is_empty() {
         let before = heap.bytes();
         let names = info.given_count().saturating_mul(BYTES_OF_A_NAME);
-        let found = name_tables(include.len().saturating_add(names)).saturating_add(LOOKED_UP);
+        let found = name_slots(include.len().saturating_add(names)).saturating_add(LOOKED_UP);
         if include_all(heap, &mut info, include).is_err() {
-            assert_granted(rt, heap, before, found, 0);
+            assert_granted(rt, heap, before, found, NAME_PAGES);
             return;
         }
-        assert_granted(rt, heap, before, found.saturating_add(KEPT), TEXT);
+        assert_granted(
+            rt,
+            heap,
+            before,
+            found.saturating_add(KEPT),
+            TEXT + NAME_PAGES,
+        );
     }
     let before = heap.bytes();
     let read = read_image(heap, &info, &mut Told::new(input));

@@ -2,7 +2,7 @@
 use Rattle.std.specs.Prelude.{◌≡◌, ◌≢◌, ◌≤◌, ◌<◌, ◌+◌, ◌||◌, ◌&&◌, ℕ, zero, suc, Bool, false, List, Option, Some, None, All, AllPairs, get_or, length, nat_le, option_map, slice_get, if◌then◌else◌}
 use Rattle.std.specs.List.{find, list_any}
 use Rattle.std.specs.Str.{bytes_eq}
-use Rattle.info65.specs.Code.Numbers.{NumbersView}
+use Rattle.info65.specs.Code.Numbers.{NumbersView, number_at}
 use Rattle.info65.specs.Code.Texts.{TextsView}
 use Rattle.info65.specs.Labels.{named_at}
 use Rattle.info65.specs.Ranges.{has_address}
@@ -25,9 +25,9 @@ stands_by t other None = None
 stands_by t other (Some n) = if bytes_eq t n.text then Some n.address else other
 
 -- the number of an address is that of its name, or 0
-pub record IsFoundAt (names : List NameView) (numbers : List ℕ) (a : ℕ) : Type 0 where
-  pub low : get_or numbers a 0 ≤ length names
-  pub is : numbered names (get_or numbers a 0) ≡ named_at names a
+pub record IsFoundAt (names : List NameView) (numbers : List NumbersView) (a : ℕ) : Type 0 where
+  pub low : number_at numbers a ≤ length names
+  pub is : numbered names (number_at numbers a) ≡ named_at names a
 
 -- a text is found where it stands, and nothing stands beside a slot that is free
 pub record StandsIn (names : List NameView) (texts : TextsView) (t : List ℕ) : Type 0 where
@@ -36,10 +36,9 @@ pub record StandsIn (names : List NameView) (texts : TextsView) (t : List ℕ) :
   pub is : stands_by t (texts.others t) (numbered names (texts.slotted t)) ≡ option_map (λ n. n.address) (text_at names t)
 
 -- no two of the names have one text, and each is found by its address and by its text
-pub record IsIndex (names : List NameView) (numbers : NumbersView) (seen : TextsView) : Type 0 where
-  pub long : numbers.count ≡ 0x1_0000
+pub record IsIndex (names : List NameView) (numbers : List NumbersView) (seen : TextsView) : Type 0 where
   pub distinct : AllPairs (λ n m. n.text ≢ m.text) names
-  pub addresses : (a : ℕ) → IsFoundAt names numbers.cells a
+  pub addresses : (a : ℕ) → IsFoundAt names numbers a
   pub texts : (t : List ℕ) → StandsIn names seen t
 
 -- one of so many cells from this one on is set

@@ -1,18 +1,17 @@
 //! An index of names.
 
-ghost use Rattle.std.specs.Prelude.{◌≡◌, ◌<◌, ◌/◌, ℕ, Ok, get_or, length, map, true, false};
+ghost use Rattle.std.specs.Prelude.{◌≡◌, ℕ, Ok, map};
 ghost use Rattle.info65.specs.Code.Index.{IsFoundAt, numbered};
 ghost use Rattle.info65.specs.Code.Names.{given_seen};
 ghost use Rattle.info65.specs.Code.Results.{Gives};
 ghost use Rattle.info65.specs.Labels.{by_address};
-ghost use Rattle.info65.specs.declared.information.name.Given.{Given};
 
 use crate::fault::{InfoFault, InfoFaultKind};
 use crate::groups::label_groups::label_in;
 use crate::information::name::Given;
 use crate::information::pool::NamePool;
-use crate::lookup::marks::ADDRESSES;
-use crate::lookup::numbers::{Numbers, narrow};
+use crate::lookup::numbers::narrow;
+use crate::lookup::pages::{PAGE, PAGES, Pages};
 use crate::lookup::texts::Texts;
 use crate::syntax::assignment::Assignment;
 use crate::syntax::names::is_reserved;
@@ -22,18 +21,13 @@ use std::marker::Model;
 // The bytes of the longest name.
 const LONGEST_NAME: usize = 80;
 
-// How many pages of addresses there are, and how many addresses each has.
-const PAGES: usize = 256;
-
-const PAGE: usize = 256;
-
 /// Names, found by their addresses and by their texts without reading again what gives them. A contract sees the list of
 /// them, in the order in which they were added.
 #[derive(Drop)]
 pub struct Index<'a, A: Allocator> {
     names: Vec<Given<'a>, A>,
     /// For each address the number of its name among these, from 1 on.
-    numbers: Numbers<A>,
+    numbers: Pages<A>,
     texts: Texts<'a, A>,
 }
 
@@ -81,7 +75,7 @@ impl<'a, A: Allocator + Copy> Index<'a, A> {
         ensures { result ≡ [] }
     {
         let names = Vec::new(alloc);
-        let numbers = Numbers::new(alloc, ADDRESSES);
+        let numbers = Pages::new(alloc);
         let texts = Texts::new(alloc, bytes);
         Index {
             names,
@@ -94,7 +88,7 @@ impl<'a, A: Allocator + Copy> Index<'a, A> {
     fn is_taken(&self, address: u16) -> bool
         ensures { result ≡ list_any (is_at address) self.now }
     {
-        numbered(self.names.as_slice(), self.numbers.at(usize::from(address))).is_some()
+        numbered(self.names.as_slice(), self.numbers.at(address)).is_some()
     }
 
     // The address of the name with this text. No two names have one text.
@@ -192,9 +186,9 @@ impl<'a, A: Allocator + Copy> Index<'a, A> {
         // What can fail comes first, so that names are found as they stand in the list, whatever fails.
         self.names.reserve(1)?;
         let number = narrow(self.names.len() + 1)?;
-        self.numbers.widen()?;
+        self.numbers.widen(name.address)?;
         self.texts.add(name.text, name.address, number)?;
-        self.numbers.set(usize::from(name.address), number);
+        self.numbers.set(name.address, number);
         self.names.push(name)?;
         Ok(())
     }
@@ -226,34 +220,22 @@ impl<'a, A: Allocator + Copy> Index<'a, A> {
     }
 }
 
-// For each page, whether it has the address of one of these names.
-fn named_pages(names: &[Given]) -> [bool; PAGES]
-    ensures { (k : ℕ) (d : Given) → k < length names.now → get_or result ((get_or names.now k d).address / 256) false ≡ true }
-{
-    let mut named = [false; PAGES];
-    for place in 0..names.len() {
-        named[usize::from(names[place].address) / PAGE] = true;
-    }
-    named
-}
-
 // The names by address, in a pool. Pages without a name are passed over.
 fn pooled<A: Allocator + Copy>(
     alloc: A,
     names: &[Given],
-    numbers: &Numbers<A>,
+    numbers: &Pages<A>,
 ) -> Result<NamePool<A>, InfoFault>
-    requires { (a : ℕ) → IsFoundAt (map given_seen names.now) numbers.now.cells a }
+    requires { (a : ℕ) → IsFoundAt (map given_seen names.now) numbers.now a }
     ensures { Gives (λ p. p) result (Ok (by_address (map given_seen names.now))) }
 {
-    let named = named_pages(names);
     let mut pool = NamePool::new(alloc);
     for page in 0..PAGES {
-        if !named[page] {
+        if !numbers.has_page(page) {
             continue;
         }
         for address in page * PAGE..(page + 1) * PAGE {
-            let Some(name) = numbered(names, numbers.at(address)) else {
+            let Some(name) = numbered(names, numbers.at(address as u16)) else {
                 continue;
             };
             pool.add(name)?;

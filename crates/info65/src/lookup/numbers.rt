@@ -52,7 +52,7 @@ impl<A: Allocator> Model for Numbers<A> {
 }
 
 impl<A: Allocator> Numbers<A> {
-    ghost use Rattle.std.specs.Prelude.{◌≡◌, ◌<◌, ◌≤◌, ℕ, [], IfErr, IfOk, get_or, length};
+    ghost use Rattle.std.specs.Prelude.{◌≡◌, ◌<◌, ◌≤◌, ℕ, [], IfErr, IfOk, IsTrue, get_or, length};
     ghost use Rattle.info65.specs.Code.Numbers.{IsSet};
     ghost use Rattle.info65.specs.Faults.{out_of_memory};
 
@@ -84,6 +84,13 @@ impl<A: Allocator> Numbers<A> {
             Some(number) => *number as usize,
             None => 0,
         }
+    }
+
+    /// Whether none is set: the row takes no memory.
+    pub fn is_blank(&self) -> bool
+        ensures { IsTrue result → self.now.cells ≡ [] }
+    {
+        self.cells.is_empty()
     }
 
     /// Allocates the row, if that was not done before.

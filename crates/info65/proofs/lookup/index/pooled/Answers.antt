@@ -12,19 +12,20 @@ pub loop-page-init : goal.loop-page-init
 unfolding names_from
 loop-page-init g c = c.new-pool.ensures
 
-pub loop-page-preserved-then-not-named-page : goal.loop-page-preserved-then-not-named-page
-loop-page-preserved-then-not-named-page g c = c.loop-page.invariant ∙ sym (page_passed c.args.names.now c.named_pages-named.result c.loop-page.page c.named_pages-named.ensures c.if-not-named-page.true)
+pub loop-page-preserved-then-not-has_page : goal.loop-page-preserved-then-not-has_page
+loop-page-preserved-then-not-has_page g c =
+    c.loop-page.invariant ∙ sym (page_passed c.args.names.now c.args.numbers.now c.loop-page.page c.if-not-has_page.ensures c.requires)
 
 pub loop-address-preserved-in_default : goal.loop-address-preserved-in_default
 loop-address-preserved-in_default g c =
     let a = c.loop-address.address in
-    c.loop-address.invariant ∙ sym (names_next c.args.names.now c.args.numbers.now.cells a None (c.requires a) (c.in_default.ensures ∙ ap (numbered c.args.names.now) c.at.ensures) ∙ append-nil _)
+    c.loop-address.invariant ∙ sym (names_next c.args.names.now c.args.numbers.now a None (c.requires a) (c.in_default.ensures ∙ ap (numbered c.args.names.now) c.at.ensures) ∙ append-nil _)
 
 pub loop-address-preserved : goal.loop-address-preserved
 loop-address-preserved g c =
     let a = c.loop-address.address in
     c.in_ok-add.ensures.done ∙ ap (λ (l : List NameView). l ++ given_seen c.in-Some.name ∷ []) c.loop-address.invariant
-    ∙ sym (names_next c.args.names.now c.args.numbers.now.cells a (Some c.in-Some.name) (c.requires a) (c.in-Some.ensures ∙ ap (numbered c.args.names.now) c.at.ensures))
+    ∙ sym (names_next c.args.names.now c.args.numbers.now a (Some c.in-Some.name) (c.requires a) (c.in-Some.ensures ∙ ap (numbered c.args.names.now) c.at.ensures))
 
 pub returns : goal.returns
 unfolding by_address

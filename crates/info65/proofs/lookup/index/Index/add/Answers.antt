@@ -2,7 +2,7 @@ use Rattle.std.proofs.Common.{◌≡◌, ◌∙◌, ◌==◌, ◌++◌, ◌∷�
 use Rattle.std.specs.Prelude.{None}
 use Rattle.std.proofs.lemmas.List.{length-map, map-append}
 use Rattle.info65.specs.Code.Names.{given_seen}
-use Rattle.info65.specs.Code.Numbers.{IsSet}
+use Rattle.info65.specs.Code.Numbers.{number_at}
 use Rattle.info65.specs.Code.Texts.{AddsText, texts_seen}
 use Rattle.info65.specs.Labels.{name_fault}
 use Rattle.info65.specs.Views.{NameView}
@@ -21,7 +21,7 @@ invariant_of-self-2 g c =
     let more : c.push.new.self.items ≡ items ++ c.args.name ∷ [] = c.in_ok-push.ensures.items ∙ ap (λ (l : List Given). l ++ c.args.name ∷ []) c.reserve.ensures.items in
     let grown : map given_seen c.push.new.self.items ≡ names ++ n ∷ [] = ap (λ (l : List Given). map given_seen l) more ∙ map-append given_seen items (c.args.name ∷ []) in
     let number : c.in_ok-number.number ≡ length names + 1 = omega (arith, c.in_ok-number.ensures.ok, c.len.ensures, ap length c.reserve.ensures.items, length-map items given_seen) in
-    let set : IsSet n.address (length names + 1) old.cells c.set.new.self.cells = λ k.
-    (rw (number, c.from.ensures) at (c.set.ensures.set k)) ∙ ap (λ (x : ℕ). if n.address == k then length names + 1 else x) (c.widen.ensures.same k) in
-    rw grown (name_added names old c.set.new.self texts (texts_seen c.add.new.self) n c.self.invariant fine (c.set.ensures.count ∙ c.widen.ensures.count) set
+    let set : (a : ℕ) → number_at c.set.new.self a ≡ (if n.address == a then length names + 1 else number_at old a) = λ a.
+    (rw number at (c.set.ensures a)) ∙ ap (λ (x : ℕ). if n.address == a then length names + 1 else x) (c.widen.ensures.same a) in
+    rw grown (name_added names old c.set.new.self texts (texts_seen c.add.new.self) n c.self.invariant fine set
     (λ t. subst (λ (k : ℕ). AddsText texts n.text n.address k (texts_seen c.add.new.self) t) number (c.in_ok-add.ensures.done t)))

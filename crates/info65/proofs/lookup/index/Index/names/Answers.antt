@@ -9,7 +9,7 @@ use Rattle.info65.specs.declared.information.name.Given.{Given}
 use Rattle.info65.proofs.lookup.index.Index.names.Goals as goal
 
 pub pooled-requires : goal.pooled-requires
-pooled-requires g c = λ a. subst (λ (l : List Given). IsFoundAt (map given_seen l) c.self.inside.numbers.cells a) (sym c.as_slice.ensures.value) (c.self.invariant.addresses a)
+pooled-requires g c = λ a. subst (λ (l : List Given). IsFoundAt (map given_seen l) c.self.inside.numbers a) (sym c.as_slice.ensures.value) (c.self.invariant.addresses a)
 
 pub returns : goal.returns
 returns g c = subst (λ (l : List NameView). Gives (λ p. p) c.pooled.result (Ok l)) (ap (λ (l : List Given). by_address (map given_seen l)) c.as_slice.ensures.value ∙ ap by_address c.self.view_is) c.pooled.ensures
