@@ -20,14 +20,11 @@ is_behind f marks a b op marked is ends = behind b op marked is ends
 pub is_in_halves : (f : FlowView) (marks : List Bool) (a b : ℕ) (pairs : List Pair) → pairs ≡ pairs_at f.map marks b → HasPair pairs a → IsCandidate f marks a
 is_in_halves f marks a b pairs is has = in_halves b has.pair (subst (λ l. Contains l has.pair) is has.has) has.is
 
-is_in_table : (f : FlowView) (marks : List Bool) (tables : List ℕ) (k : ℕ) → tables ≡ pointers f.map → k < length tables → IsCandidate f marks (get_or tables k 0)
-is_in_table f marks tables k is low = in_table (subst (λ l. Contains l (get_or tables k 0)) is (Contains-get_or tables k 0 low))
-
 pub may_alone : (f : FlowView) (s : State) (a : ℕ) → IsCandidate f s.marks a → MayJoin f (extent_of s) a 4
 may_alone f s a candidate = alone candidate
 
-pub table_may : (f : FlowView) (s : State) (tables : List ℕ) (k : ℕ) → tables ≡ pointers f.map → k < length tables → MayJoin f (extent_of s) (get_or tables k 0) 4
-table_may f s tables k is low = alone (is_in_table f s.marks tables k is low)
+pub table_may : (f : FlowView) (s : State) (tables : List ℕ) (k : ℕ) → tables ≡ pointers f.map → k < length tables → MayJoin f (extent_of s) (get_or tables k 0) 3
+table_may f s tables k is low = in_table (subst (λ l. Contains l (get_or tables k 0)) is (Contains-get_or tables k 0 low))
 
 -- ---- growth
 

@@ -55,6 +55,20 @@ break-free : (g : Ground) (a : ℕ) → is_break g a ≡ false → is_free g a �
 unfolding is_break
 break-free g a is = plain-free g a (not-false (is_plain g a) (or_parts (not (is_plain g a)) (is_filler g a || begins_text g a) is).0)
 
+before-free : (g : Ground) (a : ℕ) → a < g.image.start → is_free g a ≡ false
+unfolding is_free
+before-free g a low = and_left _ _ (and_left _ _ (lt-leb g.image.start a low))
+
+unfree-filler : (g : Ground) (a : ℕ) → is_free g a ≡ false → is_filler g a ≡ false
+unfolding is_filler are_same is_same is_plain
+unfree-filler g a none = and_left _ _ (and_left _ _ (and_left _ _ none))
+
+pub before-filler : (g : Ground) (a : ℕ) → a < g.image.start → is_filler g a ≡ false
+before-filler g a low = unfree-filler g a (before-free g a low)
+
+pub past-filler : (g : Ground) (a : ℕ) → end_of g.image ≤ a → is_filler g a ≡ false
+past-filler g a past = unfree-filler g a (past-free g a past)
+
 -- ---- equal bytes, one after the other
 
 same-step : (g : Ground) (from a n : ℕ) → are_same g from a (suc n) ≡ (is_same g from a && are_same g from (a + 1) n)

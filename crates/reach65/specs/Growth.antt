@@ -81,18 +81,19 @@ pub record IsInRow (f : FlowView) (old : Extent) (a : ℕ) : Type 0 where
 
 -- ---- candidates
 
--- an address that what is reached, or the information file, names as one of code
+-- an address that what is reached names as one of code, or that stands behind it
 pub data IsCandidate (f : FlowView) (marks : List Bool) (a : ℕ) : Type 0 where
-  -- a table that the information file gives refers to it
-  in_table : Contains (pointers f.map) a → IsCandidate f marks a
   -- reached code has it in halves, of which the first stands in the instruction of this address
   in_halves : (b : ℕ) (p : Pair) → Contains (pairs_at f.map marks b) p → p.address ≡ a → IsCandidate f marks a
   -- a reached instruction, or the text behind it, ends before it
   behind : (b : ℕ) (op : Op) → is_marked marks b ≡ true → instruction_at f.map b ≡ Some op → end_after f b op ≡ Some a → IsCandidate f marks a
 
--- An address that may begin code, if it has so many instructions: in a row three are enough.
+-- An address that may begin code, if it has so many instructions: for one of a table three are enough.
 pub data MayJoin (f : FlowView) (old : Extent) (a : ℕ) : ℕ → Type 0 where
   alone : IsCandidate f old.marks a → MayJoin f old a 4
+  -- a table that the information file gives refers to it
+  in_table : Contains (pointers f.map) a → MayJoin f old a 3
+  -- a word of a row leads to it
   in_row : IsInRow f old a → MayJoin f old a 3
 
 -- candidates have joined, one after the other

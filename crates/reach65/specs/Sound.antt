@@ -1,8 +1,8 @@
 -- Sound beginnings.
 --
 -- An address is a sound beginning beside what is reached if each instruction that is reached from it, and not before, is fine and shares no
--- byte with another reached instruction, and if there are at least four of them, or three if a word of a row leads there. Data and text
--- fail at this nearly always, since two fifths of all bytes are no opcode.
+-- byte with another reached instruction, and if there are at least four of them, or three if a table or a word of a row leads there. Data and
+-- text fail at this nearly always, since two fifths of all bytes are no opcode.
 use Rattle.std.specs.Prelude.{◌≡◌, ℕ, ◌+◌, ◌≤◌, ◌&&◌, ◌||◌, not, nat_le, Bool, true, false, List, Option, Some, None, count_by, is_some}
 use Rattle.isa65.specs.Mode.{row_of}
 use Rattle.isa65.specs.declared.mnemonic.Mnemonic.TheVariants.{Brk}

@@ -9,7 +9,7 @@ use crate::entries::pointers_of;
 use crate::flow::Flow;
 use crate::pairs::{Pair, put_pairs_at};
 use crate::row_words::RowWords;
-use crate::search::{Search, search_from};
+use crate::search::{IN_TABLE, Search, search_from};
 use crate::sound::has_code;
 use map65::ADDRESSES;
 use std::alloc::{AllocError, Allocator, Global};
@@ -189,7 +189,7 @@ fn join_tables<A: Allocator + Copy, B: Allocator>(
 {
     let tables = pointers_of(alloc, flow.map())?;
     'tables: for &address in &tables {
-        join(search, fresh, flow, address, LEAST)?;
+        join(search, fresh, flow, address, IN_TABLE)?;
     }
     Ok(())
 }

@@ -6,10 +6,11 @@ ghost use Rattle.reach65.specs.Code.Cutting.{AreLens, IsTail, no_lens};
 ghost use Rattle.reach65.specs.Pieces.{ArePieces, IsKnown, IsPiece, IsStretch, LieIn, are_same, begins_text, chars_at, is_break, is_filler, is_free, is_open, is_plain, is_return, is_same, is_word, is_written, len_in, longer, text_len};
 ghost use Rattle.reach65.specs.Reached.{is_marked};
 ghost use Rattle.reach65.specs.Rows.{free_word};
-ghost use Rattle.reach65.specs.Taken.{is_given};
+ghost use Rattle.reach65.specs.Taken.{AreMarkedBy, is_given};
 
 use crate::entries::word_at;
 use crate::flow::byte_at;
+use crate::marks::blank_marks;
 use crate::texts::{Alphabet, Tail};
 use info65::{RangeSpec, RangeType};
 use map65::{ADDRESSES, Image, is_inside};
@@ -186,33 +187,50 @@ impl<'a, A: Allocator> Ground<'a, A> {
         self.are_same(address, address, FILLER)
     }
 
-    /// Whether a character of the alphabet stands at a plain address, and no filler begins there.
+    /// Marks where filler begins.
+    fn fillers<B: Allocator>(&self, alloc: B) -> Result<Vec<bool, B>, AllocError>
+        ensures { IfOk result (λ marks. AreMarkedBy (is_filler self.now) marks.items) }
+    {
+        let mut marks = blank_marks(alloc)?;
+        let start = usize::from(self.image.start());
+        let end = self.image_end();
+        'fillers: for at in start..end {
+            let mark = self.is_filler(at);
+            marks[at] = mark;
+        }
+        Ok(marks)
+    }
+
+    /// Whether a character of the alphabet stands at a plain address, and no filler begins there, where these marks say whether.
     #[tactic(auto, unfolding(crate::specs::Pieces::is_written))]
-    fn is_written(&self, alphabet: Alphabet, address: usize) -> bool
+    fn is_written(&self, alphabet: Alphabet, fillers: &[bool], address: usize) -> bool
+        requires { AreMarkedBy (is_filler self.now) fillers.now }
         ensures value { result ≡ is_written self.now alphabet address }
         ensures low { IsTrue result → self.now.image.start ≤ address }
     {
         if !self.is_plain(address) {
             return false;
         }
-        alphabet.is_char(byte_at(self.image, address)) && !self.is_filler(address)
+        alphabet.is_char(byte_at(self.image, address)) && !fillers[address]
     }
 
     /// The characters from an address on, of those from the next one on.
-    fn tail_at(&self, alphabet: Alphabet, after: Tail, address: usize) -> Tail
+    fn tail_at(&self, alphabet: Alphabet, fillers: &[bool], after: Tail, address: usize) -> Tail
+        requires fillers { AreMarkedBy (is_filler self.now) fillers.now }
         requires below { address < end_of self.now.image }
         requires room { end_of self.now.image ≤ 65536 }
         requires after { IsTail alphabet (chars_at self.now alphabet (address + 1)) after }
         ensures { IsTail alphabet (chars_at self.now alphabet address) result }
     {
-        if !self.is_written(alphabet, address) {
+        if !self.is_written(alphabet, fillers, address) {
             return Tail::none();
         }
         after.with(alphabet, byte_at(self.image, address))
     }
 
     /// Raises the lengths of texts to those of the alphabet.
-    fn raise<B: Allocator>(&self, lens: &mut Vec<usize, B>, alphabet: Alphabet)
+    fn raise<B: Allocator>(&self, lens: &mut Vec<usize, B>, fillers: &[bool], alphabet: Alphabet)
+        requires fillers { AreMarkedBy (is_filler self.now) fillers.now }
         requires count { length lens.old.items ≡ 65536 }
         ensures count { length lens.new.items ≡ 65536 }
         ensures each { (a : ℕ) → get_or lens.new.items a 0 ≡ longer (get_or lens.old.items a 0) (len_in self.now alphabet a) }
@@ -222,19 +240,24 @@ impl<'a, A: Allocator> Ground<'a, A> {
         let mut tail = Tail::none();
         'back: while start < at {
             at -= 1;
-            tail = self.tail_at(alphabet, tail, at);
+            tail = self.tail_at(alphabet, fillers, tail, at);
             raise_to(lens, at, tail.text_len());
         }
     }
 
     /// How many characters the longest text has that begins at each address.
-    fn text_lens<B: Allocator>(&self, alloc: B) -> Result<Vec<usize, B>, AllocError>
+    fn text_lens<B: Allocator>(
+        &self,
+        alloc: B,
+        fillers: &[bool],
+    ) -> Result<Vec<usize, B>, AllocError>
+        requires { AreMarkedBy (is_filler self.now) fillers.now }
         ensures { IfOk result (λ lens. AreLens self.now lens.items) }
     {
         let mut lens = no_lens(alloc)?;
-        self.raise(&mut lens, Alphabet::Ascii);
-        self.raise(&mut lens, Alphabet::High);
-        self.raise(&mut lens, Alphabet::Petscii);
+        self.raise(&mut lens, fillers, Alphabet::Ascii);
+        self.raise(&mut lens, fillers, Alphabet::High);
+        self.raise(&mut lens, fillers, Alphabet::Petscii);
         Ok(lens)
     }
 
@@ -402,31 +425,35 @@ impl<'a, A: Allocator> Ground<'a, A> {
         ensures cover { IfOk result (λ found. (a : ℕ) → is_given found.items a ≡ is_free self.now a) }
         ensures inside { IfOk result (λ found. LieIn self.now.image found.items) }
     {
-        let lens = self.text_lens(alloc)?;
+        let fillers = self.fillers(alloc)?;
+        let lens = self.text_lens(alloc, &fillers)?;
         let texts = Texts {
             ground: self,
+            fillers: &fillers,
             lens: &lens,
         };
         texts.pieces(alloc)
     }
 }
 
-/// A ground, and how many characters the longest text has that begins at each address.
+/// A ground, marks of where filler begins, and how many characters the longest text has that begins at each address.
 #[derive(Drop)]
 struct Texts<'a, 'g, A: Allocator = Global> {
     ground: &'a Ground<'g, A>,
+    fillers: &'a [bool],
     lens: &'a [usize],
 }
 
 impl<'a, 'g, A: Allocator> Model for Texts<'a, 'g, A> {
     ghost use Rattle.reach65.specs.Code.Cutting.{AreLens};
-    ghost use Rattle.reach65.specs.Pieces.{Ground};
+    ghost use Rattle.reach65.specs.Pieces.{Ground, is_filler};
+    ghost use Rattle.reach65.specs.Taken.{AreMarkedBy};
 
     ghost Value = { Ground };
 
     ghost view = { λ t. t.ground.now };
 
-    ghost invariant = { λ t. AreLens t.ground.now t.lens.now };
+    ghost invariant = { λ t. AreMarkedBy (is_filler t.ground.now) t.fillers.now × AreLens t.ground.now t.lens.now };
 }
 
 impl<'a, 'g, A: Allocator> Texts<'a, 'g, A> {
@@ -438,14 +465,21 @@ impl<'a, 'g, A: Allocator> Texts<'a, 'g, A> {
         self.lens[address]
     }
 
+    /// Whether filler begins at the address.
+    fn is_filler(&self, address: usize) -> bool
+        requires { address < 65536 }
+        ensures { result ≡ is_filler self.now address }
+    {
+        self.fillers[address]
+    }
+
     /// Whether a table of bytes ends before the address.
     #[tactic(auto, unfolding(crate::specs::Pieces::is_break))]
     fn is_break(&self, address: usize) -> bool
         requires { address < 65536 }
         ensures { result ≡ is_break self.now address }
     {
-        !self.ground.is_plain(address)
-            || (self.ground.is_filler(address) || 0 < self.text_len(address))
+        !self.ground.is_plain(address) || (self.is_filler(address) || 0 < self.text_len(address))
     }
 
     /// Where the table of bytes ends that has the address: the first address after it that is not plain, or where filler or a text begins.
@@ -513,7 +547,7 @@ impl<'a, 'g, A: Allocator> Texts<'a, 'g, A> {
         if ground.is_return(first) {
             return (RangeType::RtsTable, ground.returns_end(first));
         }
-        if ground.is_filler(first) {
+        if self.is_filler(first) {
             return (RangeType::ByteTable, ground.filler_piece(first));
         }
         if 0 < self.text_len(first) {

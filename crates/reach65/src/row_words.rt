@@ -12,7 +12,7 @@ use crate::entries::word_at;
 use crate::flow::{Flow, is_last};
 use crate::growth::join;
 use crate::marks::{blank_marks, mark_ranges};
-use crate::search::{IN_ROW, Search};
+use crate::search::{IN_TABLE, Search};
 use crate::sound::has_code;
 use info65::RangeSpec;
 use isa65::{Mnemonic, Op};
@@ -221,7 +221,7 @@ impl<'a, 'f, 'm, A: Allocator, B: Allocator> RowWords<'a, 'f, 'm, A, B> {
             return Ok(());
         }
         if search.begins_code(self.flow, less, other)? {
-            join(search, fresh, self.flow, address, IN_ROW)?;
+            join(search, fresh, self.flow, address, IN_TABLE)?;
         }
         Ok(())
     }
@@ -287,16 +287,20 @@ impl<'a, 'f, 'm, A: Allocator, B: Allocator> RowWords<'a, 'f, 'm, A, B> {
         Ok(())
     }
 
-    /// Whether the word at the address may lead to code, itself or as one less.
+    /// Whether the word at the address may lead to code, itself or as one less, and is not followed by the same.
     fn is_worth(&self, at: usize) -> bool
         requires { at < 65536 }
     {
         let image = self.flow.map().image();
-        if !self.free[at] || !is_inside(image, at) || !is_inside(image, at + 1) {
+        if !self.free[at] || !is_inside(image, at) || !is_inside(image, at + 3) {
             return false;
         }
-        let word = usize::from(word_at(image, at as u16));
-        self.hopeful[word] || (word < 0xFFFF && self.hopeful[word + 1])
+        let word = word_at(image, at as u16);
+        if word == word_at(image, (at + 2) as u16) {
+            return false;
+        }
+        let to = usize::from(word);
+        self.hopeful[to] || (to < 0xFFFF && self.hopeful[to + 1])
     }
 
     /// Adds the addresses of the word at the address, and of the next one, to the entries, if they are in a row, and sound beginnings.

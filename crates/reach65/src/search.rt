@@ -17,8 +17,8 @@ use map65::{Image, is_inside};
 use std::alloc::{AllocError, Allocator, Global};
 use std::marker::Model;
 
-/// The least number of instructions of a sound beginning to which a word of a row leads.
-pub const IN_ROW: usize = 3;
+/// The least number of instructions of a sound beginning to which a table or a word of a row leads.
+pub const IN_TABLE: usize = 3;
 
 /// The entries; the addresses that are marked, and those of them that are still to be looked at; and those that were marked since the
 /// last trial began; how many instructions the trials that failed have looked at. An address is to be looked at from when it is marked, so each is looked at once.
@@ -329,7 +329,7 @@ impl<A: Allocator> Search<A> {
         if self.is_marked(address) {
             return Ok(is_entered(flow, &self.marks, less, address));
         }
-        self.is_sound(flow, address, IN_ROW)
+        self.is_sound(flow, address, IN_TABLE)
     }
 
     /// Returns the marks.
