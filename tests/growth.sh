@@ -11,6 +11,7 @@ set -u
 program=$(realpath "$1")
 assembler=$(dirname "$program")/as65
 namer=$(dirname "$program")/name65
+tracer=$(dirname "$program")/trace65
 root=$(realpath "$(dirname "$0")/..")
 . "$root/tests/rows.sh"
 . "$root/tests/groups.sh"

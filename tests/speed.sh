@@ -1,6 +1,6 @@
 #!/usr/bin/env bash
 # How many instructions the programs take, by valgrind's callgrind: da65 beside cc65's da65 on the same bytes, for large information files
-# also the most memory; as65 beside ca65 and ld65, and name65 beside as65. Each row has the ratio that docs/GATE.md gives it: more than a
+# also the most memory; as65 beside ca65 and ld65, name65 beside as65, and trace65 by itself. Each row has the ratio that docs/GATE.md gives it: more than a
 # twentieth above it is a failure. Runs differ by less than a thousandth. Twice as many groups or lines take at most 2.3 times the
 # instructions. Without valgrind, GNU time or cc65 it is left out.
 # Usage: tests/speed.sh PROGRAM
@@ -8,6 +8,7 @@ set -u
 program=$(realpath "$1")
 assembler=$(dirname "$program")/as65
 namer=$(dirname "$program")/name65
+tracer=$(dirname "$program")/trace65
 root=$(realpath "$(dirname "$0")/..")
 . "$root/tests/rows.sh"
 . "$root/tests/random.sh"
@@ -67,6 +68,13 @@ names() {
     ours=$count
     instructions "$assembler" -S 0 -o ours.bin "$listing"
     shows "$name" "$limit" "$ours" "$count" 44
+}
+
+# traces NAME LIMIT IMAGE: those of trace65 for the image, whose code begins at its first byte, at most so many millions.
+traces() {
+    instructions "$tracer" -S 0 --entry 0 "$3"
+    printf '%-44s %12d\n' "$1" "$count"
+    ((count <= $2 * 1000000)) || fails "$1" "$count instructions of trace65, more than $2 million"
 }
 
 # memory COMMAND..: sets `peak` to the most memory that the command holds, in kilobytes.
@@ -145,7 +153,7 @@ remarked() {
 # ---- the rows
 
 bytes=
-declare -A random=([6502]=25.1 [65SC02]=25.8 [65C02]=26.8)
+declare -A random=([6502]=24.5 [65SC02]=24.9 [65C02]=25.5)
 seed 1
 draw_bytes 65536
 printf '%b' "$bytes" >random.bin
@@ -240,6 +248,18 @@ names 'random bytes' 111.4 random.s
 names 'random bytes, used names' 163.6 random.s --used
 names 'a tenth of 8,000 pairs' 181.5 numbers.s -i few.info
 names '8,000 pairs' 268.1 numbers.s -i pairs.info
+# Routines of which each has the address of the next one in halves; pairs of immediates, one after the other; blanks.
+printf '%b' "$(awk 'BEGIN { for (a = 16; a <= 65536; a += 16) {
+    b = a % 65536; printf "\\xa9\\x%02x\\xa2\\x%02x\\xe8\\xe8\\xe8\\x60", b % 256, b / 256; for (k = 0; k < 8; k++) printf "\\xff" } }')" >chain.bin
+printf '%b' "$(awk 'BEGIN { for (k = 0; k < 16384; k++) {
+    x = (x * 75 + 74) % 65537; y = (x * 75 + 74) % 65537; printf "\\xa9\\x%02x\\xa2\\x%02x", x % 256, y / 257; x = y } }')" >dense.bin
+{ printf '\x60'; head -c 65535 /dev/zero | tr '\0' ' '; } >blanks.bin
+printf '\n%-44s %12s\n' 'instructions for 64 KiB' 'trace65'
+traces 'random bytes' 60 random.bin
+traces 'nop' 60 nop.bin
+traces 'a chain of routines' 60 chain.bin
+traces 'pairs of immediates' 65 dense.bin
+traces 'blanks' 60 blanks.bin
 printf '\n%-44s %12s %12s\n' 'instructions for a line' '64 KiB' '128 KiB'
 lengthens 'a line that is one word' 1 n
 lengthens 'a long number after a half' 0 'x1 := 1\n .byte <x1,'

@@ -210,6 +210,10 @@ proposes 'rts alone is no sound beginning' '1004-1007 ByteTable;1009-1009 ByteTa
 image vectors.bin '\xff\x60\x60\x60\xf8\xff\xf7\xff\xf9\xff'
 proposes 'vectors' 'FFF6-FFF6 ByteTable;FFFA-FFFF AddrTable;' vectors.bin
 
+# Nothing is said of the monitor of the board: its commands are code, and their table, the texts, the filler and the vectors are apart.
+proposes 'the monitor' \
+    'FE3B-FE42 ByteTable;FE43-FE49 TextTable;FE4A-FE57 RtsTable;FE58-FE6C TextTable;FE6D-FE6E ByteTable;FE6F-FE7F TextTable;FE80-FE84 ByteTable;FE85-FE8A TextTable;FE8B-FE8F ByteTable;FE90-FE9C TextTable;FE9D-FED6 ByteTable;FED7-FFDE ByteTable;FFDF-FFF9 ByteTable;FFFA-FFFF AddrTable;' \
+    examples/board/monitor.bin
 # What the monitor of the board has besides its tables and what the vectors and the command table reach: the routines that programs call,
 # and the jumps to them.
 proposes 'the monitor with its information file' 'FE3B-FE42 ByteTable;FEA0-FEC1 ByteTable;FEC8-FED6 ByteTable;FFDF-FFF9 ByteTable;' \
@@ -280,6 +284,11 @@ proposes 'plainly it leads nowhere' '1005-100A ByteTable;' -S 0x1000 --plain hal
 image refers.bin '\x04\x10\x09\x10\xea\xea\xea\x60\xffHELLO'
 image refers.info 'RANGE { START $1000; END $1003; TYPE AddrTable; };\n'
 proposes 'a table leads to sound beginnings alone' '1008-1008 ByteTable;1009-100D TextTable;' -S 0x1000 -i refers.info refers.bin
+
+# a table of $1004; two bytes; nop; nop; rts; a byte
+image three_there.bin '\x04\x10\xff\xff\xea\xea\x60\xff'
+image three_there.info 'RANGE { START $1000; END $1001; TYPE AddrTable; };\n'
+proposes 'in a table three instructions are enough' '1002-1003 ByteTable;1007-1007 ByteTable;' -S 0x1000 -i three_there.info three_there.bin
 
 # ---- rows of words that lead on
 

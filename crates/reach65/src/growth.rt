@@ -187,6 +187,9 @@ fn join_tables<A: Allocator + Copy, B: Allocator>(
     requires { IsDone flow.now search.old }
     ensures { OnOk result (IsGrown flow.now search.old search.new) }
 {
+    if flow.map().info().ranges().is_empty() {
+        return Ok(());
+    }
     let tables = pointers_of(alloc, flow.map())?;
     'tables: for &address in &tables {
         join(search, fresh, flow, address, IN_TABLE)?;

@@ -28,6 +28,7 @@ pub use entries::{entries_of, plain_entries_of, pointers_of};
 pub use flow::Flow;
 pub use growth::{Extent, follow};
 pub use halves::halves_of;
+pub use inlines::inline_of;
 pub use labels::labels_of;
 pub use pairs::{Pair, Register, Store, pairs_of};
 pub use pieces::Ground;

@@ -9,7 +9,7 @@ use Rattle.info65.specs.declared.information.range.RangeType.TheVariants as role
 use Rattle.map65.specs.MapView.{MapView}
 use Rattle.map65.specs.Roles.{role_at, role_in}
 use Rattle.reach65.specs.Flow.{FlowView, end_after, goal_at, goal_of, instruction_at, next_at, text_of}
-use Rattle.reach65.specs.Inlines.{inline_of}
+use Rattle.reach65.specs.Inlines.{inline_of, is_inline}
 use Rattle.reach65.specs.Pieces.{is_free, is_plain}
 use Rattle.reach65.specs.Routines.{call_at}
 use Rattle.reach65.specs.Rows.{free_word}
@@ -210,11 +210,11 @@ not_called = refl
 
 -- the file says it of the routine
 said_inline : comments_of_calls (inline_at 7 ∷ []) 3 3 7 ≡ []
-unfolding comments_of_calls
+unfolding comments_of_calls inline_of is_inline
 said_inline = refl
 
 said_of_another : comments_of_calls (inline_at 8 ∷ []) 3 3 7 ≡ call_comment 3 3 7 ∷ []
-unfolding comments_of_calls
+unfolding comments_of_calls inline_of is_inline
 said_of_another = refl
 
 most : are_many 0 0 ∷ are_many 1 2 ∷ are_many 1 3 ∷ [] ≡ false ∷ true ∷ false ∷ []

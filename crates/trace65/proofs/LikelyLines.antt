@@ -1,16 +1,17 @@
 -- No line ends within a comment on what is likely.
 use Rattle.std.proofs.Common.{◌≡◌, ◌≤◌, ℕ, Bool, true, false, not, List, [], ◌∷◌, ◌++◌, arith, length, refl}
-use Rattle.std.specs.Prelude.{◌&&◌, Option, Some, None, codes, decimal, if◌then◌else◌}
-use Rattle.std.specs.List.{count_by, list_any}
+use Rattle.std.specs.Prelude.{◌&&◌, Option, Some, None, codes, decimal, if◌then◌else◌, is_none}
+use Rattle.std.specs.List.{count_by}
 use Rattle.text65.specs.Digits.{digits4}
 use Rattle.info65.specs.Names.{AreNames, covering}
 use Rattle.info65.specs.declared.tags.tag.Tag.{Tag}
 use Rattle.map65.specs.ImageView.{IsPlaced}
 use Rattle.map65.specs.MapView.{MapView}
 use Rattle.reach65.specs.Flow.{FlowView}
+use Rattle.reach65.specs.Inlines.{inline_of}
 use Rattle.reach65.specs.Survey.{Survey}
 use Rattle.reach65.specs.TextLaws.{AreLines, is_line}
-use Rattle.trace65.specs.Likely.{all_of, are_many, call_comment, call_comments, comments_of_calls, comments_of_word, has_two_bytes, is_call, is_failing, is_inline, is_meant, word_at, word_comment, word_comments}
+use Rattle.trace65.specs.Likely.{all_of, are_many, call_comment, call_comments, comments_of_calls, comments_of_word, has_two_bytes, is_call, is_failing, is_meant, word_at, word_comment, word_comments}
 use Rattle.trace65.specs.PairComments.{name_text}
 use Rattle.trace65.proofs.CommentLemmas.{all-lines, decimal-line, hex4-line, joined, lines-joined, name-line}
 use Rattle.trace65.proofs.LikelyLemmas.{few-counted}
@@ -47,7 +48,7 @@ call-line failing calls t few few_too =
 
 of-calls : (tags : List Tag) (failing calls t : ℕ) → failing ≤ 65536 → calls ≤ 65536 → AreLines (comments_of_calls tags failing calls t)
 unfolding comments_of_calls
-of-calls tags failing calls t few few_too = by_test (are_many failing calls && not (list_any (is_inline t) tags))
+of-calls tags failing calls t few few_too = by_test (are_many failing calls && is_none (inline_of tags t))
   where
     by_test : (x : Bool) → AreLines (if x then call_comment failing calls t ∷ [] else [])
     by_test true = (call-line failing calls t few few_too, tt)

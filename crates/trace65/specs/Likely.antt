@@ -1,6 +1,6 @@
 -- What is only likely, as plain comments: words in data that are addresses, and calls after which nothing decodes.
-use Rattle.std.specs.Prelude.{ℕ, zero, suc, ◌≡◌, ◌+◌, ◌*◌, ◌/◌, ◌%◌, ◌==◌, ◌&&◌, ◌||◌, not, nat_le, nat_lt, Bool, true, false, List, [], ◌∷◌, ◌++◌, codes, count_by, decimal, get_or, length, map, replicate, if◌then◌else◌, Option, Some, None}
-use Rattle.std.specs.List.{flat_map, list_any, range_with_len}
+use Rattle.std.specs.Prelude.{ℕ, zero, suc, ◌≡◌, ◌+◌, ◌*◌, ◌/◌, ◌%◌, ◌==◌, ◌&&◌, ◌||◌, not, nat_le, nat_lt, Bool, true, false, List, [], ◌∷◌, ◌++◌, codes, count_by, decimal, get_or, length, map, replicate, if◌then◌else◌, Option, Some, None, is_none}
+use Rattle.std.specs.List.{flat_map, range_with_len}
 use Rattle.isa65.specs.declared.mnemonic.Mnemonic.{Mnemonic}
 use Rattle.isa65.specs.declared.mnemonic.Mnemonic.TheVariants.{Bra, Jmp, Rti, Rts}
 use Rattle.isa65.specs.declared.op.Op.{Op}
@@ -8,11 +8,10 @@ use Rattle.text65.specs.Digits.{digits4}
 use Rattle.info65.specs.Names.{covering}
 use Rattle.info65.specs.Views.{NameView}
 use Rattle.info65.specs.declared.tags.tag.Tag.{Tag}
-use Rattle.info65.specs.declared.tags.tag.TagKind.{TagKind}
-use Rattle.info65.specs.declared.tags.tag.TagKind.TheVariants as kind
 use Rattle.map65.specs.ImageView.{is_inside}
 use Rattle.map65.specs.MapView.{MapView}
 use Rattle.reach65.specs.Flow.{FlowView, instruction_at, is, next_at}
+use Rattle.reach65.specs.Inlines.{inline_of}
 use Rattle.reach65.specs.Pieces.{Ground}
 use Rattle.reach65.specs.Reached.{is_marked}
 use Rattle.reach65.specs.Routines.{call_at, is_it}
@@ -87,13 +86,6 @@ is_call m marks t a = is_marked marks a && is_it (call_at m a) t
 unfoldable pub is_failing : FlowView → List Bool → ℕ → ℕ → Bool
 is_failing f marks t a = is_call f.map marks t a && fails_at f (next_at f a)
 
-abbrev pub is_inline : ℕ → Tag → Bool
-is_inline t tag = by_kind tag.kind
-  where
-    by_kind : TagKind → Bool
-    by_kind kind.Inline = is_it tag.address t
-    by_kind _ = false
-
 -- how many instructions call each address, and after how many of these calls nothing decodes
 pub record Calls : Type 0 where
   pub all : List ℕ
@@ -123,7 +115,7 @@ call_comment failing calls t =
 
 -- unless the file says that it is so
 unfoldable pub comments_of_calls : List Tag → ℕ → ℕ → ℕ → List (List ℕ)
-comments_of_calls tags failing calls t = if are_many failing calls && not (list_any (is_inline t) tags) then call_comment failing calls t ∷ [] else []
+comments_of_calls tags failing calls t = if are_many failing calls && is_none (inline_of tags t) then call_comment failing calls t ∷ [] else []
 
 -- by the counts of the calls of each address
 abbrev pub comments_at : List Tag → Calls → ℕ → List (List ℕ)

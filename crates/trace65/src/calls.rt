@@ -1,16 +1,15 @@
 //! Comments for calls after which nothing decodes: text that the called routine reads may follow them.
 
 ghost use Rattle.std.specs.Prelude.{◌≡◌, ◌<◌, ◌++◌, ℕ, IfOk, OnOk, Some, flat_map, get_or, length, replicate};
-ghost use Rattle.std.specs.List.{list_any};
 ghost use Rattle.reach65.specs.Routines.{call_at, is_it};
 ghost use Rattle.reach65.specs.TextLaws.{comment_line};
-ghost use Rattle.trace65.specs.Likely.{AreCounts, are_many, call_comment, call_comments, comments_at, comments_of_calls, fails, fails_at, is_call, is_end, is_failing, is_inline, no_counts, with_one};
+ghost use Rattle.trace65.specs.Likely.{AreCounts, are_many, call_comment, call_comments, comments_at, comments_of_calls, fails, fails_at, is_call, is_end, is_failing, no_counts, with_one};
 
 use crate::digits::{put_address, put_decimal};
-use info65::{Tag, TagKind};
+use info65::Tag;
 use isa65::Mnemonic;
 use map65::ADDRESSES;
-use reach65::Flow;
+use reach65::{Flow, inline_of};
 use std::alloc::{AllocError, Global};
 use std::marker::Model;
 
@@ -67,28 +66,6 @@ fn call_at(flow: &Flow<'_, '_>, address: u16) -> Option<u16>
     }
 }
 
-/// Whether a group says that a call of the address is followed by text.
-fn is_inline(address: u16, tag: Tag) -> bool
-    ensures { result ≡ is_inline address tag }
-{
-    match (tag.kind, tag.address) {
-        (TagKind::Inline, Some(inline)) => inline == address,
-        _ => false,
-    }
-}
-
-/// Whether one of these groups says that.
-fn any_inline(address: u16, tags: &[Tag]) -> bool
-    ensures { result ≡ list_any (is_inline address) tags.now }
-{
-    'tags: for &tag in tags {
-        if is_inline(address, tag) {
-            return true;
-        }
-    }
-    false
-}
-
 /// Whether half of the calls fail at least, and one.
 fn are_many(failing: usize, calls: usize) -> bool
     requires { failing < 65537 }
@@ -119,7 +96,7 @@ fn put_if_many(
     requires { failing < 65537 }
     ensures { OnOk result (out.new.items ≡ out.old.items ++ flat_map comment_line (comments_of_calls tags.now failing calls routine)) }
 {
-    if are_many(failing, calls) && !any_inline(routine, tags) {
+    if are_many(failing, calls) && inline_of(tags, routine).is_none() {
         return put_call(out, failing, calls, routine);
     }
     Ok(())
