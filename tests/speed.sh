@@ -1,8 +1,8 @@
 #!/usr/bin/env bash
 # How many instructions the programs take, by valgrind's callgrind: da65 beside cc65's da65 on the same bytes, for large information files
-# also the most memory; as65 beside ca65 and ld65, name65 beside as65, and trace65 by itself. Each row has the ratio that docs/GATE.md gives it: more than a
-# twentieth above it is a failure. Runs differ by less than a thousandth. Twice as many groups or lines take at most 2.3 times the
-# instructions. Without valgrind, GNU time or cc65 it is left out.
+# also the most memory; as65 beside ca65 and ld65, name65 beside as65, and trace65 by itself. Each row has the ratio that docs/GATE.md gives
+# it: more than a twentieth above it is a failure. Runs differ by less than a thousandth. Twice as many groups or lines take at most 2.3
+# times the instructions. Without valgrind, GNU time or cc65 it is left out.
 # Usage: tests/speed.sh PROGRAM
 set -u
 program=$(realpath "$1")
@@ -250,7 +250,8 @@ names 'a tenth of 8,000 pairs' 181.5 numbers.s -i few.info
 names '8,000 pairs' 268.1 numbers.s -i pairs.info
 # Routines of which each has the address of the next one in halves; pairs of immediates, one after the other; blanks.
 printf '%b' "$(awk 'BEGIN { for (a = 16; a <= 65536; a += 16) {
-    b = a % 65536; printf "\\xa9\\x%02x\\xa2\\x%02x\\xe8\\xe8\\xe8\\x60", b % 256, b / 256; for (k = 0; k < 8; k++) printf "\\xff" } }')" >chain.bin
+    b = a % 65536; printf "\\xa9\\x%02x\\xa2\\x%02x\\xe8\\xe8\\xe8\\x60", b % 256, b / 256
+    for (k = 0; k < 8; k++) printf "\\xff" } }')" >chain.bin
 printf '%b' "$(awk 'BEGIN { for (k = 0; k < 16384; k++) {
     x = (x * 75 + 74) % 65537; y = (x * 75 + 74) % 65537; printf "\\xa9\\x%02x\\xa2\\x%02x", x % 256, y / 257; x = y } }')" >dense.bin
 { printf '\x60'; head -c 65535 /dev/zero | tr '\0' ' '; } >blanks.bin

@@ -212,7 +212,9 @@ proposes 'vectors' 'FFF6-FFF6 ByteTable;FFFA-FFFF AddrTable;' vectors.bin
 
 # Nothing is said of the monitor of the board: its commands are code, and their table, the texts, the filler and the vectors are apart.
 proposes 'the monitor' \
-    'FE3B-FE42 ByteTable;FE43-FE49 TextTable;FE4A-FE57 RtsTable;FE58-FE6C TextTable;FE6D-FE6E ByteTable;FE6F-FE7F TextTable;FE80-FE84 ByteTable;FE85-FE8A TextTable;FE8B-FE8F ByteTable;FE90-FE9C TextTable;FE9D-FED6 ByteTable;FED7-FFDE ByteTable;FFDF-FFF9 ByteTable;FFFA-FFFF AddrTable;' \
+    'FE3B-FE42 ByteTable;FE43-FE49 TextTable;FE4A-FE57 RtsTable;FE58-FE6C TextTable;FE6D-FE6E ByteTable;FE6F-FE7F TextTable;'\
+'FE80-FE84 ByteTable;FE85-FE8A TextTable;FE8B-FE8F ByteTable;FE90-FE9C TextTable;FE9D-FED6 ByteTable;FED7-FFDE ByteTable;'\
+'FFDF-FFF9 ByteTable;FFFA-FFFF AddrTable;' \
     examples/board/monitor.bin
 # What the monitor of the board has besides its tables and what the vectors and the command table reach: the routines that programs call,
 # and the jumps to them.
