@@ -212,7 +212,7 @@ compares 'one byte' 33.4 -S 0 one.bin
 compares '44 bytes with five tables and three names' 38.3 -i hello.info "$root/examples/hello.bin"
 compares '1 KiB with one label' 27.2 -S 0 -i label.info kilobyte.bin
 includes 16 1 10 >small.info
-compares '1 KiB with 16 include files of a line' 42.7 -S 0 -i small.info kilobyte.bin
+compares '1 KiB with 16 include files of a line' 34.1 -S 0 -i small.info kilobyte.bin
 includes 16 4096 230 >large.info
 compares '1 KiB with 16 include files of 1 MiB' 26.0 -S 0 -i large.info kilobyte.bin
 remarked 16 250 >remarked.info
@@ -269,7 +269,7 @@ printf '\n%-28s %12s %12s %8s %8s %8s %9s\n' 'instructions and kilobytes' 'here'
 doubles 55.8 56.1 labels 20000
 doubles 57.7 56.7 shuffled 20000
 doubles 90.1 94.6 colliding 20000
-doubles 67.8 68.5 definitions 60000
+doubles 67.8 68.0 definitions 60000
 doubles 54.4 54.5 ranges 20000
 doubles 77.0 75.8 segments 20000
 

@@ -34,6 +34,7 @@ impl<A: Allocator> Model for Pages<A> {
 }
 
 // Adds pages without numbers, up to this one.
+#[inline(always)]
 fn add_pages<A: Allocator + Copy>(
     alloc: A,
     pages: &mut Vec<Numbers<A>, A>,
@@ -85,6 +86,7 @@ impl<A: Allocator + Copy> Pages<A> {
     }
 
     /// Makes room for the number of an address. After a failure each number is as before.
+    #[inline(always)]
     pub fn widen(&mut self, address: u16) -> Result<(), InfoFault>
         ensures has { IfOk result (λ _. HasCell self.new address) }
         ensures same { (a : ℕ) → number_at self.new a ≡ number_at self.old a }

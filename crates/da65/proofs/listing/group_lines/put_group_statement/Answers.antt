@@ -1,4 +1,3 @@
-use Rattle.std.proofs.Common.{◌∙◌, sym}
 use Rattle.da65.proofs.NextLine.ListedGroupLemmas.{is-short}
 use Rattle.da65.proofs.listing.group_lines.put_group_statement.Goals as goal
 
