@@ -1,12 +1,14 @@
 -- One piece after the other.
 use Rattle.std.proofs.Common.{All, zero, suc, ◌≡◌, ◌+◌, ◌-◌, ◌<◌, ◌≤◌, ◌∙◌, ◌==◌, ◌&&◌, ◌||◌, not, nat_le, ℕ, true, false, List, [], ◌∷◌, ◌++◌, append_assoc, ap, arith, inl, inr, refl, subst, sym}
-use Rattle.std.proofs.lemmas.Bool.{and_left, and_parts, and_right, cases_lt, cond_both, le-leb, lt-leb, le-ltb, not-false, not_from_false, or_left, or_parts}
+use Rattle.std.proofs.lemmas.Bool.Decides.{nat_tests}
+use Rattle.std.proofs.lemmas.Bool.{and_left, and_parts, and_right, cases_eq, cases_lt, cond_both, le-leb, lt-leb, le-ltb, not-false, not_from_false, or_left, or_parts}
 use Rattle.std.proofs.lemmas.List.{append-nil}
 use Rattle.info65.specs.Ranges.{has_address}
 use Rattle.info65.specs.declared.information.range.RangeSpec.{RangeSpec}
 use Rattle.info65.specs.declared.information.range.RangeType.{RangeType}
 use Rattle.info65.specs.declared.information.range.RangeType.TheVariants as role
 use Rattle.map65.specs.ImageView.{byte_at, end_of}
+use Rattle.reach65.specs.Code.Cutting.{IsRun}
 use Rattle.reach65.specs.Pieces.{ArePieces, Ground, IsKnown, IsPiece, IsStretch, LiesIn, are_same, begins_text, is_break, is_filler, is_free, is_open, is_plain, is_return, is_same, is_word, past_zero}
 use Rattle.reach65.proofs.LenLemmas.{plain-free, text-free}
 use Rattle.reach65.specs.Reached.{is_marked}
@@ -71,30 +73,66 @@ past-filler g a past = unfree-filler g a (past-free g a past)
 
 -- ---- equal bytes, one after the other
 
-same-step : (g : Ground) (from a n : ℕ) → are_same g from a (suc n) ≡ (is_same g from a && are_same g from (a + 1) n)
+-- a byte that stands at two addresses is the same as at others by either
+same-by : (g : Ground) (a b x : ℕ) → is_same g a b ≡ true → is_same g a x ≡ is_same g b x
+unfolding is_same
+same-by g a b x is =
+    let equal : byte_at g.image b ≡ byte_at g.image a = grind (arith, nat_tests) in
+    ap (λ n. is_plain g x && byte_at g.image x == n) (sym equal)
+
+same-here : (g : Ground) (a : ℕ) → is_plain g a ≡ true → is_same g a (a + 0) ≡ true
+unfolding is_same
+same-here g a plain = let none : a + 0 ≡ a = omega arith in rw (none, plain) grind (arith, nat_tests)
+
+pub run_none : (g : Ground) (a : ℕ) → is_plain g a ≡ false → IsRun g a 0
+unfolding is_same
+run_none g a plain = record {
+  same = λ k low. absurd (omega (arith, low));
+  stops = let none : a + 0 ≡ a = omega arith in rw (none, plain) refl;
+}
+
+pub run_one : (g : Ground) (a : ℕ) → is_plain g a ≡ true → is_same g a (a + 1) ≡ false → IsRun g a 1
+run_one g a plain other = record {
+  same = λ k low. let none : k ≡ 0 = omega (arith, low) in subst (λ n. is_same g a (a + n) ≡ true) (sym none) (same-here g a plain);
+  stops = other;
+}
+
+pub run_more : (g : Ground) (a n : ℕ) → is_plain g a ≡ true → is_same g a (a + 1) ≡ true → IsRun g (a + 1) n → IsRun g a (n + 1)
+run_more g a n plain is run = record {
+  same = λ k low. elim (cases_eq k 0) as (λ _. is_same g a (a + k) ≡ true) [
+    | inl none ↦ subst (λ m. is_same g a (a + m) ≡ true) (sym none) (same-here g a plain)
+    | inr some ↦
+        let at : a + 1 + (k - 1) ≡ a + k = omega (arith, some) in
+        subst (λ x. is_same g a x ≡ true) at (same-by g a (a + 1) (a + 1 + (k - 1)) is ∙ run.same (k - 1) (omega (arith, some, low)))
+  ];
+  stops =
+      let at : a + 1 + n ≡ a + (n + 1) = omega arith in
+      subst (λ x. is_same g a x ≡ false) at (same-by g a (a + 1) (a + 1 + n) is ∙ run.stops);
+}
+
+pub run-past : (g : Ground) (a : ℕ) → end_of g.image ≤ a → IsRun g a 0
+run-past g a past = run_none g a (past-plain g a past)
+
+-- so many bytes are the same exactly if the run has as many
+are-run : (g : Ground) (from m n a : ℕ) → ((k : ℕ) → k < n → is_same g from (a + k) ≡ true) → is_same g from (a + n) ≡ false → are_same g from a m ≡ nat_le m n
 unfolding are_same
-same-step g from a n = refl
+are-run g from zero n a same stops = sym (le-leb 0 n (omega arith))
+are-run g from (suc m) zero a same stops =
+    let none : a + 0 ≡ a = omega arith in
+    let here : is_same g from a ≡ false = subst (λ x. is_same g from x ≡ false) none stops in
+    rw here (sym (lt-leb (suc m) 0 (omega arith)))
+are-run g from (suc m) (suc n) a same stops =
+    let none : a + 0 ≡ a = omega arith in
+    let here : is_same g from a ≡ true = subst (λ x. is_same g from x ≡ true) none (same 0 (omega arith)) in
+    let on : a + suc n ≡ a + 1 + n = omega arith in
+    let rest : are_same g from (a + 1) m ≡ nat_le m n = are-run g from m n (a + 1)
+    (λ k low. let at : a + (k + 1) ≡ a + 1 + k = omega arith in subst (λ x. is_same g from x ≡ true) at (same (k + 1) (omega (arith, low))))
+    (subst (λ x. is_same g from x ≡ false) on stops) in
+    rw (here, rest) grind (arith, nat_tests)
 
-same-none : (g : Ground) (from a : ℕ) → are_same g from a 0 ≡ true
-unfolding are_same
-same-none g from a = refl
-
-same-at : (g : Ground) (from a n k : ℕ) → k < n → are_same g from (a + k) (n - k) ≡ (is_same g from (a + k) && are_same g from (a + (k + 1)) (n - (k + 1)))
-same-at g from a n k low =
-    let count : n - k ≡ suc (n - (k + 1)) = omega (arith, low) in
-    let next : a + k + 1 ≡ a + (k + 1) = omega arith in
-    rw (count, same-step g from (a + k) (n - (k + 1)), next) refl
-
-pub same-on : (g : Ground) (from a n k : ℕ) → k < n → is_same g from (a + k) ≡ true → are_same g from (a + k) (n - k) ≡ are_same g from a n → are_same g from (a + (k + 1)) (n - (k + 1)) ≡ are_same g from a n
-same-on g from a n k low is before = sym (same-at g from a n k low ∙ ap (λ b. b && are_same g from (a + (k + 1)) (n - (k + 1))) is) ∙ before
-
-pub same-stops : (g : Ground) (from a n k : ℕ) → k < n → is_same g from (a + k) ≡ false → are_same g from (a + k) (n - k) ≡ are_same g from a n → false ≡ are_same g from a n
-same-stops g from a n k low is before = sym (same-at g from a n k low ∙ ap (λ b. b && are_same g from (a + (k + 1)) (n - (k + 1))) is) ∙ before
-
-pub same-all : (g : Ground) (from a n k : ℕ) → n ≤ k → are_same g from (a + k) (n - k) ≡ are_same g from a n → true ≡ are_same g from a n
-same-all g from a n k done before =
-    let none : n - k ≡ 0 = omega (arith, done) in
-    sym (same-none g from (a + k)) ∙ sym (ap (are_same g from (a + k)) none) ∙ before
+pub filler-run : (g : Ground) (a n : ℕ) → IsRun g a n → is_filler g a ≡ nat_le 16 n
+unfolding is_filler
+filler-run g a n run = are-run g a 16 n a run.same run.stops
 
 -- ---- the first address of a piece
 

@@ -20,6 +20,9 @@ use Rattle.reach65.specs.Reached.{AreReached, Reached, entry, led, is_marked, no
 pub marks_set : (marks : List Bool) (a b : ℕ) (P : Bool → Type 0) → a < length marks → (b ≡ a → P true) → (b ≢ a → P (is_marked marks b)) → P (is_marked (set marks a true) b)
 marks_set marks a b P room here there = grind (arith, get_or-set_same, get_or-set_other)
 
+pub marks_put : (marks : List Bool) (a b : ℕ) (v : Bool) (P : Bool → Type 0) → a < length marks → (b ≡ a → P v) → (b ≢ a → P (is_marked marks b)) → P (is_marked (set marks a v) b)
+marks_put marks a b v P room here there = grind (arith, get_or-set_same, get_or-set_other)
+
 -- a step either does nothing, since the address is marked, or marks it
 pub by_put : (s : State) (a : ℕ) (P : State → Type 0)
     → (is_marked s.marks a ≡ true → P s) → (is_marked s.marks a ≡ false → P (record s { marks = set s.marks a true; todo = s.todo ++ a ∷ []; added = s.added ++ a ∷ [] })) → P (put s a)

@@ -2,8 +2,8 @@
 
 ghost use Rattle.std.specs.Prelude.{◌≡◌, ◌≢◌, ◌+◌, ◌<◌, ◌≤◌, ℕ, IfNone, IfOk, IfSome, IsTrue, false, true, get_or, length, replicate, take};
 ghost use Rattle.map65.specs.ImageView.{byte_at, bytes_from, end_of, is_inside};
-ghost use Rattle.reach65.specs.Code.Cutting.{AreLens, IsTail, no_lens};
-ghost use Rattle.reach65.specs.Pieces.{ArePieces, IsKnown, IsPiece, IsStretch, LieIn, are_same, begins_text, chars_at, is_break, is_filler, is_free, is_open, is_plain, is_return, is_same, is_word, is_written, len_in, longer, text_len};
+ghost use Rattle.reach65.specs.Code.Cutting.{AreLens, IsRun, IsTail, no_lens};
+ghost use Rattle.reach65.specs.Pieces.{ArePieces, IsKnown, IsPiece, IsStretch, LieIn, begins_text, chars_at, is_break, is_filler, is_free, is_open, is_plain, is_return, is_same, is_word, is_written, len_in, longer, text_len};
 ghost use Rattle.reach65.specs.Reached.{is_marked};
 ghost use Rattle.reach65.specs.Rows.{free_word};
 ghost use Rattle.reach65.specs.Taken.{AreMarkedBy, is_given};
@@ -161,30 +161,24 @@ impl<'a, A: Allocator> Ground<'a, A> {
         byte_at(self.image, address) == byte_at(self.image, from)
     }
 
-    /// Whether the byte of the first address stands at this many from the second on.
-    fn are_same(&self, from: usize, address: usize, count: usize) -> bool
-        requires low { self.now.image.start ≤ from }
-        requires high { from < end_of self.now.image }
-        requires room { address + count < 131072 }
-        ensures { result ≡ are_same self.now from address count }
-    {
-        'same: for k in 0..count {
-            if !self.is_same(from, address + k) {
-                return false;
-            }
-        }
-        true
-    }
-
-    /// Whether 16 equal bytes stand from the address on.
-    #[tactic(auto, unfolding(crate::specs::Pieces::is_filler))]
-    fn is_filler(&self, address: usize) -> bool
-        requires low { self.now.image.start ≤ address }
-        requires high { address < end_of self.now.image }
+    /// How many equal bytes stand from an address of the image on, of those from the next one on.
+    #[tactic(auto, using(crate::proofs::PieceLemmas::run_none, crate::proofs::PieceLemmas::run_one, crate::proofs::PieceLemmas::run_more))]
+    fn run_at(&self, after: usize, address: usize) -> usize
+        requires start { self.now.image.start ≤ address }
+        requires below { address < end_of self.now.image }
         requires room { address < 65536 }
-        ensures { result ≡ is_filler self.now address }
+        requires after { IsRun self.now (address + 1) after }
+        requires few { after < 65536 }
+        ensures run { IsRun self.now address result }
+        ensures few { result ≤ after + 1 }
     {
-        self.are_same(address, address, FILLER)
+        if !self.is_plain(address) {
+            return 0;
+        }
+        if self.is_same(address, address + 1) {
+            return after + 1;
+        }
+        1
     }
 
     /// Marks where filler begins.
@@ -193,10 +187,12 @@ impl<'a, A: Allocator> Ground<'a, A> {
     {
         let mut marks = blank_marks(alloc)?;
         let start = usize::from(self.image.start());
-        let end = self.image_end();
-        'fillers: for at in start..end {
-            let mark = self.is_filler(at);
-            marks[at] = mark;
+        let mut at = self.image_end();
+        let mut run = 0;
+        'back: while start < at {
+            at -= 1;
+            run = self.run_at(run, at);
+            marks[at] = FILLER <= run;
         }
         Ok(marks)
     }

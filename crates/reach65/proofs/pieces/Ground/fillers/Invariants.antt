@@ -1,11 +1,19 @@
-use Rattle.std.proofs.Common.{◌≡◌, ◌<◌, ◌≤◌, ℕ, false, length}
+use Rattle.std.proofs.Common.{◌≡◌, ◌+◌, ◌<◌, ◌≤◌, ℕ, false, length}
+use Rattle.map65.specs.ImageView.{end_of}
+use Rattle.reach65.specs.Code.Cutting.{IsRun}
 use Rattle.reach65.specs.Pieces.{is_filler}
 use Rattle.reach65.specs.Reached.{is_marked}
 use Rattle.reach65.proofs.pieces.Ground.fillers.Given as goal
 
-abbrev pub invariant-fillers : goal.invariant-fillers
-invariant-fillers g l = record {
+abbrev pub invariant-back : goal.invariant-back
+invariant-back g l = record {
   count : length l.marks.items ≡ 65536;
-  done : (a : ℕ) → a < l.at → is_marked l.marks.items a ≡ is_filler l.self a;
-  later : (a : ℕ) → l.at ≤ a → is_marked l.marks.items a ≡ false;
+  low : l.self.image.start ≤ l.at;
+  high : l.at + l.run ≤ end_of l.self.image;
+  run : IsRun l.self l.at l.run;
+  done : (a : ℕ) → l.at ≤ a → is_marked l.marks.items a ≡ is_filler l.self a;
+  before : (a : ℕ) → a < l.at → is_marked l.marks.items a ≡ false;
 }
+
+abbrev pub decreases-back : goal.decreases-back
+decreases-back g l = l.at
