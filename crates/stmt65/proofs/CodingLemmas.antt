@@ -103,8 +103,7 @@ len_end rest len total e small so_far = grind arith
 
 pub data_step : (ds : List CodeDatum) (i len more new total : ℕ) (d : CodeDatum) → i < length ds → more ≡ held (coding_len (datum_fragments (datum_of (get_or ds i d)))) → new ≡ held (len + more)
     → held (len + coding_len (data_fragments (drop i ds))) ≡ total → held (new + coding_len (data_fragments (drop (i + 1) ds))) ≡ total
-data_step ds i len more new total d inside e sum so_far =
-    len_step (data_fragments (drop i ds)) (datum_fragments (datum_of (get_or ds i d))) (data_fragments (drop (i + 1) ds)) len more new total (ap data_fragments (drop_more ds i d inside)) e sum so_far
+data_step ds i len more new total d inside e sum so_far = grind (arith, len_step, drop_more)
 
 -- ---- tests of each fragment
 
@@ -124,11 +123,7 @@ near_some next (Some n) h = refl
 apart_known : (a b : Option Definition) → is_some (apart (address_of a) (address_of b)) ≡ true → (is_some a && is_some b) ≡ true
 apart_known None b h = absurd cc
 apart_known (Some d) (Some e) h = refl
-apart_known (Some d) None h = go (address_of (Some d)) h
-  where
-    go : (o : Option ℕ) → is_some (apart o None) ≡ true → (true && false) ≡ true
-    go None h = absurd cc
-    go (Some n) h = absurd cc
+apart_known (Some d) None h = grind (arith)
 
 value_known : (all : List Definition) (v : Value) → is_some (value_in all v) ≡ true → is_known all v ≡ true
 unfolding value_in is_known

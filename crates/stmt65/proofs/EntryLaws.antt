@@ -1,5 +1,5 @@
 -- What holds of the entries of tables.
-use Rattle.std.proofs.Common.{◌≡◌, ℕ, suc, ◌+◌, ◌*◌, ◌/◌, ◌<◌, ◌≤◌, List, [], ◌∷◌, length, take, drop, refl, ap, arith}
+use Rattle.std.proofs.Common.{◌≡◌, ℕ, ◌+◌, ◌*◌, ◌/◌, ◌<◌, ◌≤◌, List, [], ◌∷◌, length, take, drop, refl, arith}
 use Rattle.std.specs.List.{All}
 use Rattle.std.proofs.lemmas.List.{length-reverse, length-drop}
 use Rattle.isa65.specs.declared.byte_order.ByteOrder.{ByteOrder}
@@ -76,17 +76,9 @@ number_fits d entry long are = (codes_back d entry long are).fits
 -- a table that is too short for an entry
 pub entries_none : (d : Directive) (bytes : List ℕ) → length bytes < entry_len d → entries d bytes ≡ []
 unfolding entries pieces
-entries_none d bytes lt = ap (λ (count : ℕ). pieces count (entry_len d) bytes) (none d lt)
-  where
-    none : (d : Directive) → length bytes < entry_len d → length bytes / entry_len d ≡ 0
-    none Dword lt = omega arith
-    none _ lt = omega arith
+entries_none d bytes lt = grind (arith)
 
 -- the first entry, and the others
 pub entries_more : (d : Directive) (bytes : List ℕ) → entry_len d ≤ length bytes → entries d bytes ≡ take (entry_len d) bytes ∷ entries d (drop (entry_len d) bytes)
 unfolding entries pieces
-entries_more d bytes le = ap (λ (count : ℕ). pieces count (entry_len d) bytes) (one d le)
-  where
-    one : (d : Directive) → entry_len d ≤ length bytes → length bytes / entry_len d ≡ suc (length (drop (entry_len d) bytes) / entry_len d)
-    one Dword le = omega (arith, length-drop 4 bytes)
-    one _ le = omega (arith, length-drop 2 bytes)
+entries_more d bytes le = grind (arith, length-drop)

@@ -108,11 +108,7 @@ fragments_known all s _ fragments e = let same : [] ≡ fragments = cc in rw (�
 either_tied : {A : Type 0} (a b : Option A) → Decides (not (is_some a && is_some b)) ((a ≡ None) ⊎ (b ≡ None))
 either_tied None b = (λ e. inl refl, λ h. refl)
 either_tied (Some x) None = (λ e. inr refl, λ h. refl)
-either_tied (Some x) (Some y) = (λ e. false_true e, λ h. some_none h)
-  where
-    some_none : {P : Type 0} → (Some x ≡ None) ⊎ (Some y ≡ None) → P
-    some_none (inl e) = absurd cc
-    some_none (inr e) = absurd cc
+either_tied (Some x) (Some y) = grind (arith, false_true)
 
 unknown_tied : (all : List Definition) (v : Value) → Decides (not (is_known all v)) (IsUnknown all v)
 unfolding is_known

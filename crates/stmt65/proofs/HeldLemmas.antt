@@ -1,5 +1,5 @@
 -- What the code holds of a text is enough for its meaning.
-use Rattle.std.proofs.Common.{◌≡◌, ◌++◌, ℕ, Bool, true, false, cond, eqb, ltb, ◌+◌, ◌-◌, ◌<◌, ◌≤◌, List, [], ◌∷◌, map, min, Option, Some, None, refl, sym, ap, ◌∙◌, arith, inl, inr}
+use Rattle.std.proofs.Common.{◌≡◌, ◌++◌, ℕ, Bool, true, false, cond, ltb, ◌+◌, ◌<◌, ◌≤◌, List, [], ◌∷◌, map, min, Option, Some, None, refl, sym, ap, ◌∙◌, arith}
 use Rattle.std.specs.Prelude.{unwrap_or, is_some, not, ◌&&◌, ◌||◌}
 use Rattle.std.specs.List.{list_any, list_all, flat_map}
 use Rattle.std.specs.Option.{option_map}
@@ -12,7 +12,7 @@ use Rattle.stmt65.specs.declared.assembling.state.Placed.{Placed}
 use Rattle.stmt65.specs.declared.assembling.fault.AsmFaultKind.{AsmFaultKind}
 use Rattle.stmt65.specs.declared.assembling.fault.AsmFaultKind.TheVariants.{UnknownCpu, NoSuchForm, Undefined, DefinedTwice, OutOfRange, PastStart, PastEnd}
 use Rattle.stmt65.specs.declared.source_line.Minus.{Minus}
-use Rattle.stmt65.specs.declared.source_line.Minus.TheVariants.{Zero, One}
+use Rattle.stmt65.specs.declared.source_line.Minus.TheVariants.{Zero}
 use Rattle.stmt65.specs.SourceLine.{SourceLine, Assignment, PlaceAssignment, Statement, Value, NumberValue, NameValue, DifferenceValue, Form, Empty, Accumulator, Immediate, ImmediateHalf, Direct, DirectX, DirectY, Operation, Instr, Segment}
 use Rattle.stmt65.specs.declared.source_line.AddressSize.TheVariants.{Absolute}
 use Rattle.stmt65.specs.declared.directive.Directive.{Directive}
@@ -49,8 +49,7 @@ pub is_known-held : (ds : List Definition) (v : Value) → is_known (map held_de
 unfolding is_known
 is_known-held ds (NumberValue n) = refl
 is_known-held ds (NameValue w n less) = rw (find_name-held w ds) (is_some-map held_definition (find_name w ds))
-is_known-held ds (DifferenceValue w v) =
-    rw (find_name-held w ds, find_name-held v ds, is_some-map held_definition (find_name w ds), is_some-map held_definition (find_name v ds)) refl
+is_known-held ds (DifferenceValue w v) = grind (arith, find_name-held, is_some-map)
 
 -- the address of a name, held
 address-held : (o : Option Definition) → address_of (option_map held_definition o) ≡ address_of o
@@ -78,17 +77,7 @@ small_far v w h g = grind (arith, nat_tests)
 
 -- two numbers that are one, or both past 2^32
 lowered_far : {X : Type 0} (test : Option ℕ → X) → IsFar test → (less : Minus) (v w : ℕ) → min v 4294967297 ≡ min w 4294967297 → test (lowered less v) ≡ test (lowered less w)
-lowered_far test far less v w e = elim (cases_lt v 4294967297) [
-  | inl lt ↦ let same : v ≡ w = omega arith in rw same refl
-  | inr le ↦ large less le (omega arith)
-]
-  where
-    large : (less : Minus) → 4294967297 ≤ v → 4294967297 ≤ w → test (lowered less v) ≡ test (lowered less w)
-    large Zero h g = far v w (omega arith) (omega arith)
-    large One h g =
-        let a : eqb v 0 ≡ false = grind (arith, nat_tests) in
-        let b : eqb w 0 ≡ false = grind (arith, nat_tests) in
-        rw (a, b) (far (v - 1) (w - 1) (omega arith) (omega arith))
+lowered_far test far less v w e = grind (arith, cases_lt)
 
 value_in-held : {X : Type 0} (test : Option ℕ → X) → IsFar test → (ds : List Definition) (v : Value) → test (value_in (map held_definition ds) v) ≡ test (value_in ds v)
 unfolding value_in
@@ -248,13 +237,7 @@ ways-held ds _ = rw size-held refl
 -- what is missing before an address, from an address that is held
 gap-held : (layout : Layout) (at : ℕ) (o : Option ℕ) → below 65536 o ≡ o → gap layout (held at) o ≡ gap layout at o
 gap-held layout at None h = refl
-gap-held layout at (Some start) h =
-    let small : start < 65536 = below_small start h in
-    let same : start - held at ≡ start - at = omega arith in
-    ap (λ (n : ℕ). Fill n layout.fill ∷ []) same
-  where
-    below_small : (n : ℕ) → below 65536 (Some n) ≡ Some n → n < 65536
-    below_small n e = by_test (ltb n 65536) (λ t. ltb-true n 65536 t) (λ t. let e' = rw t at e in absurd cc)
+gap-held layout at (Some start) h = grind (arith, ltb-true)
 
 -- an address is one
 address-small : (o : Option Definition) → below 65536 (address_of o) ≡ address_of o
@@ -372,8 +355,7 @@ past_end-state s source = sym (past-held (next_of (held_state s) source)) ∙ ap
 fault-state : (all : List Definition) (s : State) (source : Option SourceLine) → fault_of all (held_state s) source ≡ fault_of all s source
 unfolding fault_of has_no_form is_undefined is_out_of_range held_state
 fault-state all s None = refl
-fault-state all s (Some source) =
-    rw (coding-held s (operation_in source), fragments-state s source, twice-state s source, large-state s.at source, room-state all s source, past_start-state s (operation_in source), past_end-state s source) refl
+fault-state all s (Some source) = grind (arith, coding-held, fragments-state, twice-state, large-state, room-state, past_start-state, past_end-state)
 
 next-small : (s : State) (source : SourceLine) → next_of s source ≤ 65536 → next_of (held_state s) source ≡ next_of s source
 unfolding next_of held_state

@@ -60,17 +60,13 @@ value_more : (ds more : List Definition) (v : Value) → is_known ds v ≡ true 
 unfolding value_in is_known
 value_more ds more (NumberValue n) h = refl
 value_more ds more (NameValue w n minus) h = rw (find_more w ds more h) refl
-value_more ds more (DifferenceValue w v) h =
-    let both = and_parts (is_some (find_name w ds)) (is_some (find_name v ds)) h in
-    rw (find_more w ds more both.0, find_more v ds more both.1) refl
+value_more ds more (DifferenceValue w v) h = grind (arith, and_parts, find_more)
 
 known_more : (ds more : List Definition) (v : Value) → is_known ds v ≡ true → is_known (ds ++ more) v ≡ true
 unfolding is_known
 known_more ds more (NumberValue n) h = refl
 known_more ds more (NameValue w n minus) h = rw (find_more w ds more h) h
-known_more ds more (DifferenceValue w v) h =
-    let both = and_parts (is_some (find_name w ds)) (is_some (find_name v ds)) h in
-    rw (find_more w ds more both.0, find_more v ds more both.1) h
+known_more ds more (DifferenceValue w v) h = grind (arith, and_parts, find_more)
 
 -- a fragment whose names are known is the same by more definitions
 pub record Alike (ds all : List Definition) (next : ℕ) (fs : List Fragment) : Type 0 where
@@ -110,9 +106,7 @@ alike ds more next (f ∷ fs) h =
 fault_early : (all more : List Definition) (s : State) (source : SourceLine) → all ≡ s.above ++ more → list_all (is_fragment_known s.above) (fragments_of s source) ≡ true
     → fault_of all s (Some source) ≡ fault_of s.above s (Some source)
 unfolding fault_of is_undefined is_out_of_range
-fault_early all more s source e h =
-    let same = alike s.above more (next_of s source) (fragments_of s source) h in
-    rw (e, same.known, same.fits, h) refl
+fault_early all more s source e h = grind (arith, alike)
 
 bytes_early : (all more : List Definition) (s : State) (source : SourceLine) → all ≡ s.above ++ more → list_all (is_fragment_known s.above) (fragments_of s source) ≡ true
     → bytes_of all s (Some source) ≡ bytes_of s.above s (Some source)
@@ -153,8 +147,7 @@ late_more all layout (l ∷ ls) settled bytes rest h =
 late_push : {A : Type 0} (all : List Definition) (layout : Layout) (ls : List (Late A)) (l : Late A) (settled : List ℕ) (rest : Result (List ℕ) AsmFault) → fronts ls + l.front ≡ length settled
     → coded_late all layout (ls ++ l ∷ []) settled rest ≡ coded_late all layout ls settled (unless l.number (fault_of all (late_state all layout l) (Some (source_of l.source))) (with_front (bytes_of all (late_state all layout l) (Some (source_of l.source))) rest))
 unfolding coded_late fronts
-late_push all layout [] l settled rest h =
-    rw (take_all l.front settled (omega arith), drop_all l.front settled (omega arith), front-nil rest) refl
+late_push all layout [] l settled rest h = grind (arith, take_all, drop_all, front-nil)
 late_push all layout (k ∷ ls) l settled rest h =
     let fits : k.front ≤ length settled = omega arith in
     rw (late_push all layout ls l (drop k.front settled) rest (omega (arith, length-drop k.front settled))) refl
@@ -189,21 +182,11 @@ takes_none p n s line f e = record { sound = λ h. h; same = λ h all more rest 
 -- a fault by the names above is one by all names
 takes_fault : {A : Type 0} (p q : Work A) (n : ℕ) (s : State) (line : Option SourceLine) (kind : AsmFaultKind) → p.fault ≡ None → q.late ≡ p.late → q.fault ≡ fault_at n (Some kind)
     → ((all more : List Definition) → all ≡ s.above ++ more → fault_of all s line ≡ Some kind) → Takes p q n s line
-takes_fault p q n s line kind e late f h = record {
-  sound = λ g. rw f tt;
-  same = λ g all more rest x. rw (e, late, f, h all more x) (late_hidden all s.layout p.late.items (record { line = n; kind = kind }) q.settled.items p.settled.items);
-}
+takes_fault p q n s line kind e late f h = grind (arith, late_hidden)
 
 takes_bytes : {A : Type 0} (p q : Work A) (n : ℕ) (s : State) (line : Option SourceLine) (bytes : List ℕ) → p.fault ≡ None → q.late ≡ p.late → q.mark ≡ p.mark → q.fault ≡ None → q.settled.items ≡ p.settled.items ++ bytes
     → ((all more : List Definition) → all ≡ s.above ++ more → fault_of all s line ≡ None) → ((all more : List Definition) → all ≡ s.above ++ more → bytes_of all s line ≡ bytes) → Takes p q n s line
-takes_bytes p q n s line bytes e late mark f put h k = record {
-  sound = λ g. let m = if_none p.fault e g in
-      none_if q.fault (record { mark = rw (mark, late) m.mark; within = rw (mark, put) (omega (arith, m.within, length-append p.settled.items bytes)) });
-  same = λ g all more rest x.
-      let m = if_none p.fault e g in
-      let fits : fronts p.late.items ≤ length p.settled.items = omega (arith, m.mark, m.within) in
-      rw (e, late, f, put, h all more x, k all more x) (late_more all s.layout p.late.items p.settled.items bytes rest fits);
-}
+takes_bytes p q n s line bytes e late mark f put h k = grind (arith, if_none, none_if, length-append, late_more)
 
 pub takes_early : {A : Type 0} (p q : Work A) (n : ℕ) (s : State) (source : SourceLine) (placed : Placed) (kind : Option AsmFaultKind) → p.fault ≡ None → q.late ≡ p.late → q.mark ≡ p.mark → q.fault ≡ fault_at n kind
     → IsPlaced placed s source → true ≡ list_all (is_fragment_known s.above) (fragments_in placed.coded) → Codes kind s.above s source p.settled.items q.settled.items → Takes p q n s (Some source)
@@ -230,25 +213,7 @@ unless_any n (Some kind) a b h = refl
 -- a line is kept; where it ends past $10000, what comes below it is hidden
 pub takes_late : {A : Type 0} (p q : Work A) (l : Late A) (s : State) (next : ℕ) → p.fault ≡ None → q.fault ≡ fault_past l.number next → q.settled ≡ p.settled → q.late.items ≡ p.late.items ++ l ∷ [] → q.mark ≡ length p.settled.items
     → (p.mark ≤ length p.settled.items → p.mark + l.front ≡ length p.settled.items) → IsOf l s → next ≡ held (next_of s (source_of l.source)) → Takes p q l.number s (Some (source_of l.source))
-takes_late p q l s next e f same late mark front is end = record {
-  sound = λ g. let m = if_none p.fault e g in
-      none_if q.fault (record { mark = rw (mark, late, fronts_push p.late.items l) (omega (arith, front m.within, m.mark)); within = rw (mark, same) (omega arith) });
-  same = λ g all more rest x.
-      let m = if_none p.fault e g in
-      let fits : fronts p.late.items + l.front ≡ length p.settled.items = omega (arith, front m.within, m.mark) in
-      let state : late_state all s.layout l ≡ s = rw (is.at, is.cpu, x, take_at s.above more l.count (sym is.above)) refl in
-      rw (e, same, late) (late_push all s.layout p.late.items l p.settled.items (fault_or q.fault rest) fits
-      ∙ ap (λ (t : State). coded_late all s.layout p.late.items p.settled.items (unless l.number (fault_of all t (Some (source_of l.source))) (with_front (bytes_of all t (Some (source_of l.source))) (fault_or q.fault rest)))) state
-      ∙ ap (λ (m : Result (List ℕ) AsmFault). coded_late all s.layout p.late.items p.settled.items m) (hidden all rest));
-}
-  where
-    hidden : (all : List Definition) (rest : Result (List ℕ) AsmFault)
-        → unless l.number (fault_of all s (Some (source_of l.source))) (with_front (bytes_of all s (Some (source_of l.source))) (fault_or q.fault rest))
-        ≡ unless l.number (fault_of all s (Some (source_of l.source))) (with_front (bytes_of all s (Some (source_of l.source))) rest)
-    hidden all rest =
-        by_test (ltb 65536 next)
-        (λ past. unless_any l.number _ _ _ (past_end all s (source_of l.source) next end past))
-        (λ below. let f' = rw below at f in rw f' refl)
+takes_late p q l s next e f same late mark front is end = grind (arith, if_none, none_if, fronts_push, take_at, late_push, unless_any, past_end)
 
 pub takes_refused : {A : Type 0} (p q : Work A) (n : ℕ) (s : State) → p.fault ≡ None → q.late ≡ p.late → q.fault ≡ fault_at n (Some Syntax) → Takes p q n s None
 unfolding fault_of
@@ -270,14 +235,7 @@ pub record AtLine {A L : Type 0} (l : Language) (end : State) (layout : Layout) 
 pub at_start : {A L : Type 0} (l : Language) (layout : Layout) (start : ℕ) (p : Pass A L) (text : List ℕ) → state_in p ≡ initial layout start → IsIdle p.work
     → AtLine l (held_final (initial layout start) (readings l text)) layout (held_coded (held_final (initial layout start) (readings l text)).above 1 (initial layout start) (readings l text)) 1 p text
 unfolding coded_late fronts
-at_start l layout start p text e idle =
-    let all = (held_final (initial layout start) (readings l text)).above in
-    record {
-      state = ap (λ (s : State). held_final s (readings l text)) e;
-      laid = ap (λ (s : State). s.layout) e;
-      sound = none_if p.work.fault (record { mark = rw (idle.mark, idle.late) refl; within = rw idle.mark (omega arith) });
-      work = rw (idle.late, idle.settled, idle.fault) (front-nil (held_coded all 1 (state_in p) (readings l text)) ∙ ap (λ (s : State). held_coded all 1 s (readings l text)) e);
-    }
+at_start l layout start p text e idle = grind (arith, none_if, front-nil)
 
 pub at_next : {A L : Type 0} (l : Language) (end : State) (layout : Layout) (total : Result (List ℕ) AsmFault) (n : ℕ) (p q : Pass A L) (text line rest : List ℕ) → AtLine l end layout total n p text
     → text_lines text ≡ line ∷ text_lines rest → GoesOn p q n (reading_of l (parts l line)) → AtLine l end layout total (n + 1) q rest

@@ -10,7 +10,7 @@ use Rattle.text65.specs.Names.{is_blank, is_word_byte}
 use Rattle.stmt65.specs.declared.language.Language.TheVariants.{Listing}
 use Rattle.stmt65.specs.Parts.{Part, Word, Number, Text, Define, Mark, begins_with}
 use Rattle.stmt65.specs.Lexing.{is_word_start, is_text_byte, hex_len, part_at, parts}
-use Rattle.stmt65.specs.Spacing.{IsDecimal, IsHex, is_alone, IsText, IsRemark, IsSpacing}
+use Rattle.stmt65.specs.Spacing.{IsDecimal, IsHex, is_alone, IsText, IsSpacing}
 use Rattle.stmt65.specs.ReadingLaws.{TakesParts}
 use Rattle.stmt65.proofs.PartLemmas.{parts_nil, parts_blank, parts_remark, parts_part}
 use Rattle.stmt65.proofs.Cases.{by_test}
@@ -173,11 +173,7 @@ text_begins Define text h = (58, 61 ∷ [], h, refl, refl)
 text_begins (Mark b) text h = grind (arith, or_parts, not-true, eqb)
 
 again : (ps : List Part) (line : List ℕ) → IsSpacing ps line → parts Listing line ≡ ps
-again [] line s = rw s.2 (parts_blanks s.0 s.1 s.3 ∙ go s.4)
-  where
-    go : {rest : List ℕ} → IsRemark rest → parts Listing rest ≡ []
-    go (inl e) = rw e (parts_nil Listing)
-    go (inr e) = rw e.1 (parts_remark Listing e.0)
+again [] line s = grind (arith, parts_blanks, parts_nil, parts_remark)
 again (p ∷ ps) line s =
     let t = text_begins p s.1 s.5 in
     let k = (part_at Listing t.0 (t.1 ++ s.2)).1 in

@@ -2,7 +2,7 @@
 use Rattle.std.proofs.lemmas.Bool.{and_parts}
 use Rattle.std.proofs.Common.{◌≡◌, ℕ, suc, Bool, true, false, ◌+◌, ◌≤◌, List, [], ◌∷◌, ◌++◌, length, drop, refl, ap, ◌∙◌, arith}
 use Rattle.std.specs.List.{prefix_len, list_all}
-use Rattle.stmt65.specs.SourceLine.{Datum, NumberDatum, StringDatum, ValueDatum, HalfDatum}
+use Rattle.stmt65.specs.SourceLine.{Datum, NumberDatum, StringDatum}
 use Rattle.stmt65.specs.TableLaws.{EndsStretch}
 use Rattle.stmt65.specs.Tables.{is_plain, onto_stretch, cut_text}
 use Rattle.stmt65.proofs.Cases.{by_test}
@@ -41,14 +41,7 @@ cut_stretch (b ∷ c ∷ t) rest lt h e =
 pub cut_case : (P : List Datum → Type 0) (b : ℕ) (bs : List ℕ) → (is_plain b ≡ false → P (NumberDatum b ∷ cut_text bs))
     → (is_plain b ≡ true → EndsStretch (cut_text bs) → P (StringDatum (b ∷ []) ∷ cut_text bs))
     → ((t : List ℕ) (ds : List Datum) → is_plain b ≡ true → cut_text bs ≡ StringDatum t ∷ ds → P (StringDatum (b ∷ t) ∷ ds)) → P (cut_text (b ∷ bs))
-cut_case P b bs single own joined = by_test (is_plain b) (λ p. rw (cut_onto b bs p) (go p (cut_text bs) refl)) (λ p. rw (cut_single b bs p) (single p))
-  where
-    go : is_plain b ≡ true → (ds : List Datum) → cut_text bs ≡ ds → P (onto_stretch b ds)
-    go p [] e = rw e at (own p (rw e tt))
-    go p (NumberDatum c ∷ ds) e = rw e at (own p (rw e tt))
-    go p (ValueDatum v ∷ ds) e = rw e at (own p (rw e tt))
-    go p (HalfDatum half v ∷ ds) e = rw e at (own p (rw e tt))
-    go p (StringDatum t ∷ ds) e = joined t ds p e
+cut_case P b bs single own joined = grind (arith, cut_onto, cut_single)
 
 -- where a run ends, what follows does not pass
 pub run_ends : (p : ℕ → Bool) (xs : List ℕ) → begins p (drop (prefix_len p xs) xs) ≡ false

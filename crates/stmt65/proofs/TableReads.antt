@@ -138,11 +138,7 @@ pieces_are d (suc count) bs h le =
 
 entries_are : (d : Directive) (bs : List ℕ) → AreBytes bs → list_all (is_entry d) (entries d bs) ≡ true
 unfolding entries
-entries_are d bs h = pieces_are d (length bs / entry_len d) bs h (whole d)
-  where
-    whole : (d : Directive) → length bs / entry_len d * entry_len d ≤ length bs
-    whole Word = omega arith
-    whole _ = omega arith
+entries_are d bs h = grind (arith, pieces_are)
 
 pub numbers_listed : (d : Directive) (bs : List ℕ) → entry_len d ≤ length bs → AreBytes bs → IsList IsValue (map (entry_value d) (entries d bs)) (parts Listing (numbers_text d bs))
 unfolding comma_list
