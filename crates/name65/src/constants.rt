@@ -44,10 +44,7 @@ pub fn names_after<'t, 'b>(
     plan: &Plan<'_, '_>,
     definitions: &[Definition<'t>],
 ) -> Result<Option<Symbols<'t, &'b Global>>, AllocError> {
-    if definitions
-        .iter()
-        .all(|definition| matches!(becomes(plan, *definition), Fate::Kept))
-    {
+    if definitions.iter().all(|definition| matches!(becomes(plan, *definition), Fate::Kept)) {
         return Ok(None);
     }
     let mut names = Symbols::new(alloc)?;
@@ -59,7 +56,10 @@ pub fn names_after<'t, 'b>(
     for definition in definitions {
         if matches!(becomes(plan, *definition), Fate::Moved(_)) {
             let constant = false;
-            names.define(Definition { constant, ..*definition })?;
+            names.define(Definition {
+                constant,
+                ..*definition
+            })?;
         }
     }
     Ok(Some(names))

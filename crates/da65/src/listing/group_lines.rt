@@ -10,9 +10,9 @@ ghost use Rattle.stmt65.specs.Views as view;
 ghost use Rattle.map65.specs.ImageView.{AreBytes};
 ghost use Rattle.map65.specs.Roles.{role_of};
 ghost use Rattle.da65.specs.BaseNames.{is_base, names_of};
-ghost use Rattle.da65.specs.Code.ListedGroups.{IsGroupIn, IsInstructionIn, WritesOne, WritesTwo};
+ghost use Rattle.da65.specs.Code.ListedGroups.{IsGroupIn, IsGroupLine, IsGroupNext, IsInstructionIn, WritesOne, WritesTwo};
 ghost use Rattle.da65.specs.Groups.{group_len};
-ghost use Rattle.da65.specs.Lines.{IsFirstFrom, IsGroupStart, IsInGroup, IsLabelNext, IsNextIn, IsStatementLine, IsStatementNext, IsStatementOf, MayFollow, group_left};
+ghost use Rattle.da65.specs.Lines.{IsFirstFrom, IsGroupStart, IsInGroup, IsLabelNext, IsNextIn, IsStatementNext, IsStatementOf, MayFollow, group_left};
 ghost use Rattle.da65.specs.Listing.{forward_line, forwards, label_at, line_text};
 ghost use Rattle.da65.specs.Statements.{operands_of};
 ghost use Rattle.da65.specs.Style.{style_of};
@@ -102,6 +102,7 @@ pub fn group_at<'a, A: Allocator>(listed: &ListedImage<'a, A>, index: usize) -> 
     let len = group_len(map, address);
     let (_, rest) = listed.bytes().split_at(index);
     let (bytes, _) = rest.split_at(len);
+    // This does nothing; its clause says that each is a byte.
     are_bytes(bytes);
     Group {
         index,
@@ -122,7 +123,7 @@ fn put_group_statement<A: Allocator>(
     requires group { IsGroupIn listed.now group }
     requires statement { IsStatementOf listed.now group.index (statement_seen statement.now) }
     requires label { MayFollow listed.now group.index (option_copied label) }
-    ensures { IsStatementLine listed.now group.entry.index (option_copied label.entry) out.new.items result }
+    ensures { IsGroupLine listed.now group.entry label.entry out.new.items result }
 {
     let style = listed.style();
     put_statement(out, style, label, statement, group.address, group.bytes);
@@ -141,7 +142,7 @@ fn put_table_line<A: Allocator>(
     requires table { role_of listed.now.info group.address ≢ RangeType.Code }
     requires group { IsGroupIn listed.now group }
     requires label { MayFollow listed.now group.index (option_copied label) }
-    ensures { IsStatementLine listed.now group.entry.index (option_copied label.entry) out.new.items result }
+    ensures { IsGroupLine listed.now group.entry label.entry out.new.items result }
 {
     let map = listed.map();
     let role = role_inside(map, group.address);
@@ -160,7 +161,7 @@ fn put_bytes_line<A: Allocator>(
     requires group { IsGroupIn listed.now group }
     requires bytes { IsStatementOf listed.now group.index (view.bytes group.bytes.now) }
     requires label { MayFollow listed.now group.index (option_copied label) }
-    ensures { IsStatementLine listed.now group.entry.index (option_copied label.entry) out.new.items result }
+    ensures { IsGroupLine listed.now group.entry label.entry out.new.items result }
 {
     put_group_statement(out, listed, group, label, &Statement::Bytes(group.bytes))
 }
@@ -178,7 +179,7 @@ fn put_instruction<A: Allocator>(
     requires item { IsInstructionIn listed.now group op }
     requires operands { Some (operands_seen operands) ≡ operands_of (names_of listed.now) op.mode group.address group.bytes.now }
     requires label { MayFollow listed.now group.index (option_copied label) }
-    ensures { IsStatementLine listed.now group.entry.index (option_copied label.entry) out.new.items result }
+    ensures { IsGroupLine listed.now group.entry label.entry out.new.items result }
 {
     let size = written_size(listed.opcodes(), op, group.bytes);
     let statement = Statement::Instr { op, size, operands };
@@ -208,7 +209,7 @@ fn put_with_operand<A: Allocator>(
     requires item { IsInstructionIn listed.now group op }
     requires one { WritesOne (row_of op.mode) kind }
     requires label { MayFollow listed.now group.index (option_copied label) }
-    ensures { IsStatementLine listed.now group.entry.index (option_copied label.entry) out.new.items result }
+    ensures { IsGroupLine listed.now group.entry label.entry out.new.items result }
 {
     let next = address_after(group, op);
     let name = &mut names.first;
@@ -233,7 +234,7 @@ fn put_with_operands<A: Allocator>(
     requires item { IsInstructionIn listed.now group op }
     requires two { WritesTwo (row_of op.mode) first second }
     requires label { MayFollow listed.now group.index (option_copied label) }
-    ensures { IsStatementLine listed.now group.entry.index (option_copied label.entry) out.new.items result }
+    ensures { IsGroupLine listed.now group.entry label.entry out.new.items result }
 {
     match two_operands(
         listed.map(),
@@ -260,7 +261,7 @@ fn put_code_line<A: Allocator>(
     requires code { role_of listed.now.info group.address ≡ RangeType.Code }
     requires group { IsGroupIn listed.now group }
     requires label { MayFollow listed.now group.index (option_copied label) }
-    ensures { IsStatementLine listed.now group.entry.index (option_copied label.entry) out.new.items result }
+    ensures { IsGroupLine listed.now group.entry label.entry out.new.items result }
 {
     let Some(op) = instruction_in(listed.opcodes(), group.bytes) else {
         return put_bytes_line(out, listed, group, label);
@@ -288,7 +289,7 @@ fn put_group_line<A: Allocator>(
 ) -> bool
     requires group { IsGroupIn listed.now group }
     requires label { MayFollow listed.now group.index (option_copied label) }
-    ensures { IsStatementLine listed.now group.entry.index (option_copied label.entry) out.new.items result }
+    ensures { IsGroupLine listed.now group.entry label.entry out.new.items result }
 {
     if listed.map().is_code(group.address) {
         put_code_line(out, listed, names, group, label)
@@ -308,7 +309,7 @@ fn put_group<A: Allocator>(
 ) -> ListingPlace
     requires group { IsGroupIn listed.now group }
     requires label { MayFollow listed.now group.index (option_copied label) }
-    ensures { IsStatementNext listed.now group.entry.index (option_copied label.entry) out.new.items result }
+    ensures { IsGroupNext listed.now group.entry label.entry out.new.items result }
 {
     let ends = put_group_line(out, listed, names, group, label);
     let index = group.index + group.bytes.len();
