@@ -15,7 +15,7 @@ WIDER = {
     "info65": 51,
     "map65": 13,
     "usage65": 10,
-    "da65": 61,
+    "da65": 55,
     "reach65": 40,
     "files65": 4,
     "da65_cli": 12,

@@ -30,7 +30,8 @@ fn count_after<A: Allocator + Clone>(
     count: usize,
     definition: Option<Definition<'_>>,
 ) -> Option<usize>
-    ensures { IfSome result (λ n. take n names.now ≡ take count names.now ++ definitions_in definition.entry) }
+    ensures { IfSome result (λ n.
+        take n names.now ≡ take count names.now ++ definitions_in definition.entry) }
 {
     let Some(definition) = definition else {
         return Some(count);
@@ -52,7 +53,9 @@ fn follow<'a, L: Allocator + Clone, A: Allocator + Clone, B: Allocator, C: Alloc
     count: usize,
     source: &SourceLine<'a, B>,
 ) -> Result<Option<usize>, AllocError>
-    ensures { IfOk result (λ found. IfSome found (λ n. Follows names.now (state_of state.old (take count names.now)) (state_of state.new (take n names.now)) (source_of source.now) out.old.items out.new.items)) }
+    ensures { IfOk result (λ found. IfSome found (λ n. Follows names.now
+        (state_of state.old (take count names.now)) (state_of state.new (take n names.now))
+        (source_of source.now) out.old.items out.new.items)) }
 {
     let above = names.first(count);
     let placed = place(state, &above, source);
@@ -73,7 +76,8 @@ pub fn assemble_known<'b, L: Allocator + Clone, A: Allocator, B: Allocator + Clo
     source: &Source<'_, '_, '_, L>,
     names: &Symbols<'_, B>,
 ) -> Result<Option<Vec<u8, &'b A>>, AllocError>
-    ensures { IfOk result (λ found. IfSome found (λ bytes. source_meaning source.now ≡ Ok bytes.items)) }
+    ensures { IfOk result (λ found.
+        IfSome found (λ bytes. source_meaning source.now ≡ Ok bytes.items)) }
 {
     let mut out = Vec::new(alloc);
     let mut state = first_state(source.layout, source.start);
