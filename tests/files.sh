@@ -689,7 +689,7 @@ calls_and_memory() {
     each_read
     each_write
     [ $options = all ] || return
-    counts da65 8 9 8 442008 186
+    counts da65 8 9 8 182808 190
     counts trace65 8 22 1 3352239 170
     counts as65 6 4 1 56076 88
     counts compare 6 10 1 1710374 125

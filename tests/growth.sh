@@ -396,11 +396,11 @@ work() {
     counts 'three bytes in a file' 0 5 2 1 136500 154000 49 -o out.s three.bin
     counts '64 KiB' 0 4 17 97 202000 280000 39 large.bin
     given=large.bin counts '64 KiB of standard input' 0 3 17 97 202000 280000 39 /dev/stdin
-    given=all.info counts 'an information file of standard input' 0 7 9 1 404000 820000 84 -i /dev/stdin
+    given=all.info counts 'an information file of standard input' 0 7 9 1 137500 300000 95 -i /dev/stdin
     counts 'help' 0 3 0 1 18000 22500 70 -h
     counts 'the version' 0 3 0 1 18000 21500 29 -V
-    counts 'an information file and include files' 0 8 9 1 404000 820000 84 -i all.info
-    counts 'large files and a long name' 0 7 152 1 1467000 3282000 97 -i wide.info -o out.s "$long"
+    counts 'an information file and include files' 0 8 9 1 137500 300000 95 -i all.info
+    counts 'large files and a long name' 0 7 152 1 1148000 2893000 98 -i wide.info -o out.s "$long"
     counts 'a warning' 0 5 4 2 136500 220500 53 -i skip.info three.bin
     counts 'no input name' 1 3 0 1 15200 19000 22
     counts 'an empty input' 1 4 1 1 15500 19700 33 empty.bin
@@ -410,7 +410,7 @@ work() {
     # Labels with an include file: the names of both are found by one index, which is made once.
     awk 'BEGIN { for (n = 0; n < 2000; n++) printf "LABEL{ADDR %d;NAME \"l%d\";}\n", n, n; print "ASMINC{FILE \"later.inc\";}" }' >both.info
     awk 'BEGIN { for (n = 2000; n < 4000; n++) printf "c%d = %d\n", n, n }' >later.inc
-    counts 'names of labels and of an include file' 0 6 26 13 790000 2190000 155 -i both.info -S 0xFF00 three.bin
+    counts 'names of labels and of an include file' 0 6 26 13 551000 1704000 182 -i both.info -S 0xFF00 three.bin
 
     # as65 holds a listing, its names, its bytes, and the image beside it.
     program=$assembler counts 'labels that are assembled' 0 5 99 1 7700000 13980000 22971 -S 0 -o out.bin labels.s
