@@ -1,12 +1,15 @@
 -- Where instructions lead.
-use Rattle.std.proofs.Common.{◌≡◌, ◌<◌, ℕ, true, inl, inr, Option, Some, None, option_and_then, arith}
+use Rattle.std.proofs.Common.{◌≡◌, ◌<◌, ℕ, Bool, true, false, List, [], ◌∷◌, length, inl, inr, refl, Option, Some, None, option_and_then, arith}
+use Rattle.std.specs.Prelude.{if◌then◌else◌}
 use Rattle.std.proofs.lemmas.Bool.{cond_both}
 use Rattle.map65.proofs.Public.{within}
 use Rattle.map65.specs.ImageView.{bytes_from, ImageView, IsPlaced, is_inside}
 use Rattle.map65.specs.MapView.{MapView}
 use Rattle.map65.specs.Targets.{only_inside}
 use Rattle.isa65.specs.declared.op.Op.{Op}
-use Rattle.reach65.specs.Flow.{FlowView, LeadsTo, end_after, goal_at, goal_by, goal_of, instruction_at, is_last, next_at, next_of}
+use Rattle.reach65.specs.Flow.{FlowView, LeadsTo, end_after, goal_at, goal_by, goal_of, instruction_at, is_last, next_at, next_of, text_of}
+use Rattle.reach65.specs.Inlines.{inline_of}
+use Rattle.info65.specs.declared.tags.tag.Tag.{Tag}
 
 only_inside-is : (image : ImageView) (t b : ℕ) → only_inside image t ≡ Some b → is_inside image b ≡ true
 only_inside-is image t b = grind arith
@@ -33,3 +36,20 @@ leads-inside f a b (inr is) = goal_by-inside f.map a (instruction_at f.map a) b 
 
 pub leads-below : (f : FlowView) (a b : ℕ) → IsPlaced f.map.image → LeadsTo f a b → b < 65536
 leads-below f a b placed leads = omega (arith, placed.room, (within f.map b (leads-inside f a b leads)).high)
+
+-- ---- without groups
+
+no-inline : (tags : List Tag) (o : Option ℕ) → length tags ≡ 0 → option_and_then (inline_of tags) o ≡ None
+unfolding inline_of
+no-inline [] None none = refl
+no-inline [] (Some t) none = refl
+no-inline (tag ∷ tags) o none = absurd (omega (arith, none))
+
+if-none : (x : Bool) (o : Option Tag) → o ≡ None → (if x then o else None) ≡ None
+if-none true o none = none
+if-none false o none = refl
+
+-- no text stands behind a call if there are no groups
+pub no_text : (f : FlowView) (a : ℕ) (op : Op) → length f.tags ≡ 0 → text_of f a op ≡ None
+unfolding text_of
+no_text f a op none = if-none _ _ (no-inline f.tags (goal_of op.mnemonic op.mode a (bytes_from f.map.image a)) none)

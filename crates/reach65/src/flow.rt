@@ -136,7 +136,7 @@ impl<'a, 'm, A: Allocator> Flow<'a, 'm, A> {
     }
 
     /// What the information file says of the text behind this instruction of the address.
-    #[tactic(auto, unfolding(crate::specs::Flow::text_of))]
+    #[tactic(auto, unfolding(crate::specs::Flow::text_of), using(crate::proofs::FlowLemmas::no_text))]
     fn text_of(&self, address: u16, op: Op) -> Option<Tag>
         requires low { self.now.map.image.start ≤ address }
         requires high { address < end_of self.now.map.image }
@@ -144,6 +144,9 @@ impl<'a, 'm, A: Allocator> Flow<'a, 'm, A> {
         ensures { result ≡ text_of self.now address op }
     {
         if op.mnemonic != Mnemonic::Jsr {
+            return None;
+        }
+        if self.tags.is_empty() {
             return None;
         }
         let goal = goal_of(op, address, bytes_from(self.map.image(), address))?;
