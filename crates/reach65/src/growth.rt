@@ -7,7 +7,7 @@ ghost use Rattle.reach65.specs.Growth.{AreWordsOf, IsCandidate, IsFollowed, MayJ
 
 use crate::entries::pointers_of;
 use crate::flow::Flow;
-use crate::pairs::{Pair, put_pairs_at};
+use crate::pairs::{Pair, loaded, put_pairs_at};
 use crate::row_words::RowWords;
 use crate::search::{IN_TABLE, Search, search_from};
 use crate::sound::has_code;
@@ -197,7 +197,7 @@ fn join_tables<A: Allocator + Copy, B: Allocator>(
     Ok(())
 }
 
-/// Adds a candidate, unless a reached instruction has its address: it would share a byte with that.
+/// Adds a candidate, unless a reached instruction begins at its address, or has it: it would share a byte with that.
 fn put_candidate<A: Allocator, B: Allocator>(
     found: &mut Vec<Candidate, A>,
     flow: &Flow<'_, '_, B>,
@@ -206,14 +206,15 @@ fn put_candidate<A: Allocator, B: Allocator>(
 ) -> Result<(), AllocError>
     requires { length marks.now ≡ 65536 }
 {
-    if !has_code(flow, marks, candidate.address) {
+    if !marks[usize::from(candidate.address)] && !has_code(flow, marks, candidate.address) {
         found.push(candidate)?;
     }
     Ok(())
 }
 
-/// Adds the candidates that a reached instruction gives. What `pairs` has is lost: it is lent so that none is made for each instruction.
-fn put_candidates_of<A: Allocator, B: Allocator>(
+/// Adds the addresses of the pairs of which the reached instruction is the first. What `pairs` has is lost: it is lent so that none is made for
+/// each instruction.
+fn put_in_halves<A: Allocator, B: Allocator>(
     found: &mut Vec<Candidate, A>,
     pairs: &mut Vec<Pair, A>,
     flow: &Flow<'_, '_, B>,
@@ -228,9 +229,25 @@ fn put_candidates_of<A: Allocator, B: Allocator>(
         let address = pair.address;
         put_candidate(found, flow, marks, Candidate { address, reason })?;
     }
+    Ok(())
+}
+
+/// Adds the candidates that a reached instruction gives.
+fn put_candidates_of<A: Allocator, B: Allocator>(
+    found: &mut Vec<Candidate, A>,
+    pairs: &mut Vec<Pair, A>,
+    flow: &Flow<'_, '_, B>,
+    marks: &[bool],
+    reason: u16,
+) -> Result<(), AllocError>
+    requires { length marks.now ≡ 65536 }
+{
     let Some(op) = flow.instruction_at(reason) else {
         return Ok(());
     };
+    if loaded(op).is_some() {
+        put_in_halves(found, pairs, flow, marks, reason)?;
+    }
     let Some(end) = flow.end_after(reason, op) else {
         return Ok(());
     };

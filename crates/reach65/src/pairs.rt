@@ -44,7 +44,7 @@ pub struct Pair {
 
 /// The register that an instruction of this mnemonic and mode loads with an immediate.
 #[tactic(auto, unfolding(crate::specs::Pairs::loaded))]
-fn loaded(op: Op) -> Option<Register>
+pub fn loaded(op: Op) -> Option<Register>
     ensures value { result ≡ loaded op.mnemonic op.mode }
     ensures len { IfSome result (λ _. len_of op.mode ≡ 2) }
 {
