@@ -18,20 +18,20 @@ use Rattle.reach65.proofs.TakenLemmas.{blank-false, marked_by}
 -- what the instruction of a marked address adds
 adds-here : (f : FlowView) (a : ℕ) (old new : Survey) → is_marked old.reached a ≡ true → AddsOp f a (instruction_at f.map a) old new → Adds f (λ p. is_marked old.reached a && p a) old new
 unfolding branch_at call_at goal_at goes_on has_byte next_at operand_at text_at
-adds-here f a old new marked adds = rw marked (record { same = adds.same; code = adds.code; gone_on = adds.gone_on; called = adds.called; operands = adds.operands; taken = adds.taken; texts = adds.texts })
+adds-here f a old new marked adds = rw marked (record { same = adds.same; code = adds.code; gone_on = adds.gone_on; called = adds.called; operands = adds.operands; texts = adds.texts })
 
 pub adds_op : (f : FlowView) (a : ℕ) (op : Op) (old new : Survey) → is_marked old.reached a ≡ true → instruction_at f.map a ≡ Some op → AddsOp f a (Some op) old new → Adds f (λ p. is_marked old.reached a && p a) old new
 adds_op f a op old new marked is adds = adds-here f a old new marked (subst (λ o. AddsOp f a o old new) (sym is) adds)
 
 nothing : (f : FlowView) (a : ℕ) (s : Survey) → AddsOp f a None s s
-nothing f a s = record { same = refl; code = λ b. sym (or-false _); gone_on = λ b. sym (or-false _); called = λ b. sym (or-false _); operands = λ b. sym (or-false _); taken = λ b. sym (or-false _); texts = λ b. sym (or-false _) }
+nothing f a s = record { same = refl; code = λ b. sym (or-false _); gone_on = λ b. sym (or-false _); called = λ b. sym (or-false _); operands = λ b. sym (or-false _); texts = λ b. sym (or-false _) }
 
 pub adds_none : (f : FlowView) (a : ℕ) (s : Survey) → is_marked s.reached a ≡ true → instruction_at f.map a ≡ None → Adds f (λ p. is_marked s.reached a && p a) s s
 adds_none f a s marked is = adds-here f a s s marked (subst (λ o. AddsOp f a o s s) (sym is) (nothing f a s))
 
 -- no address passes a test
 adds-never : (f : FlowView) (s : Survey) → Adds f (λ p. false) s s
-adds-never f s = record { same = refl; code = λ b. sym (or-false _); gone_on = λ b. sym (or-false _); called = λ b. sym (or-false _); operands = λ b. sym (or-false _); taken = λ b. sym (or-false _); texts = λ b. sym (or-false _) }
+adds-never f s = record { same = refl; code = λ b. sym (or-false _); gone_on = λ b. sym (or-false _); called = λ b. sym (or-false _); operands = λ b. sym (or-false _); texts = λ b. sym (or-false _) }
 
 pub adds_unmarked : (f : FlowView) (a : ℕ) (s : Survey) → is_marked s.reached a ≡ false → Adds f (λ p. is_marked s.reached a && p a) s s
 adds_unmarked f a s unmarked = rw unmarked (adds-never f s)
@@ -53,7 +53,6 @@ adds-next f reached xs k x first old new is low here before more =
       gone_on = λ b. any-next (λ a. is_marked reached a && goes_on f b a) xs k x 0 _ _ _ low here (next.gone_on b) (before.gone_on b);
       called = λ b. any-next (λ a. is_marked reached a && is_it (call_at f.map a) b) xs k x 0 _ _ _ low here (next.called b) (before.called b);
       operands = λ b. any-next (λ a. is_marked reached a && is_it (operand_at f.map a) b) xs k x 0 _ _ _ low here (next.operands b) (before.operands b);
-      taken = λ b. any-next (λ a. is_marked reached a && has_byte f.map a b) xs k x 0 _ _ _ low here (next.taken b) (before.taken b);
       texts = λ b. any-next (λ a. is_marked reached a && is_it (text_at f a) b) xs k x 0 _ _ _ low here (next.texts b) (before.texts b);
     }
 
@@ -66,7 +65,6 @@ adds-end f reached k first now done before = record {
   gone_on = λ b. any-end _ (addresses_of f.map.image) k _ _ done (before.gone_on b);
   called = λ b. any-end _ (addresses_of f.map.image) k _ _ done (before.called b);
   operands = λ b. any-end _ (addresses_of f.map.image) k _ _ done (before.operands b);
-  taken = λ b. any-end _ (addresses_of f.map.image) k _ _ done (before.taken b);
   texts = λ b. any-end _ (addresses_of f.map.image) k _ _ done (before.texts b);
 }
 
@@ -93,6 +91,6 @@ are_survey f reached old mid new blank adds ranges =
       texts = by_walk (is_text_start f old.reached) old.texts mid.texts new.texts (ap (λ s. s.texts) blank) (ap (λ s. s.texts) ranges.same) n.5 adds.texts;
       taken = record {
         count = n.4;
-        each = λ b _. taken-by f old.reached b (is_marked new.taken b) (ranges.taken b ∙ ap (λ v. v || is_given f.map.info.ranges b) (adds.taken b ∙ ap (λ v. v || is_code f.map old.reached b) (blank-false old.taken b (ap (λ s. s.taken) blank))));
+        each = λ b _. taken-by f old.reached b (is_marked new.taken b) (ranges.taken b ∙ ap (λ v. v || is_given f.map.info.ranges b) (adds.code b ∙ ap (λ v. v || is_code f.map old.reached b) (blank-false old.code b (ap (λ s. s.code) blank))));
       };
     })

@@ -1,6 +1,6 @@
 //! What reached instructions do with the addresses.
 
-ghost use Rattle.std.specs.Prelude.{◌≡◌, ◌+◌, ◌<◌, ◌≤◌, ◌&&◌, IfOk, Some, length};
+ghost use Rattle.std.specs.Prelude.{◌≡◌, ◌+◌, ◌<◌, ◌≤◌, ◌&&◌, IfOk, OnOk, Some, length};
 ghost use Rattle.isa65.specs.Mode.{len_of, row_len};
 ghost use Rattle.map65.specs.ImageView.{end_of};
 ghost use Rattle.reach65.specs.Code.Surveying.{Adds, AddsOp, AddsRanges, blank_survey};
@@ -129,7 +129,6 @@ impl<A: Allocator> Survey<A> {
         let from = usize::from(address);
         let to = from + usize::from(op.mode.len());
         mark_span(&mut self.code, from, to);
-        mark_span(&mut self.taken, from, to);
         mark_some(&mut self.gone_on, flow.next_of(address, op));
         mark_some(&mut self.gone_on, branch_of(op, goal));
         mark_some(&mut self.called, call_of(op, goal));
@@ -161,12 +160,18 @@ impl<A: Allocator> Survey<A> {
         }
     }
 
-    /// Marks what the ranges of the information file have.
-    fn mark_given<B: Allocator>(&mut self, flow: &Flow<'_, '_, B>)
-        ensures { AddsRanges flow.now self.old self.new }
+    /// Marks what reached instructions and the ranges of the information file have.
+    fn mark_taken<B: Allocator>(
+        &mut self,
+        alloc: A,
+        flow: &Flow<'_, '_, B>,
+    ) -> Result<(), AllocError>
+        ensures { OnOk result (AddsRanges flow.now self.old self.new) }
     {
-        let _ = &self.code;
-        mark_ranges(&mut self.taken, flow.map().info().ranges());
+        let mut taken = Vec::from_slice(alloc, self.code.as_slice())?;
+        mark_ranges(&mut taken, flow.map().info().ranges());
+        self.taken = taken;
+        Ok(())
     }
 
     /// Marks what reached instructions have, go on to, call, and have as operands; `reached` has a mark for each address from $0000 to
@@ -184,7 +189,7 @@ impl<A: Allocator> Survey<A> {
     {
         let mut survey = Survey::blank(alloc, reached)?;
         survey.mark_all(flow);
-        survey.mark_given(flow);
+        survey.mark_taken(alloc, flow)?;
         Ok(survey)
     }
 
