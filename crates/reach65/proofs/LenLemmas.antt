@@ -5,13 +5,14 @@ use Rattle.std.proofs.lemmas.Bool.{and_parts, cases_lt, le-ltb, lt-leb}
 use Rattle.std.proofs.lemmas.List.{get_or-replicate, get_or_past, length-replicate}
 use Rattle.std.proofs.lemmas.List.Sums.{count_by-le-length, sum_by-cons}
 use Rattle.map65.specs.ImageView.{byte_at, end_of}
-use Rattle.reach65.specs.Code.Cutting.{AreLens, IsTail, no_lens}
+use Rattle.reach65.specs.Code.Cutting.{AreTails, IsTail, no_lens, tail_len, tails_len}
 use Rattle.reach65.specs.Pieces.{Ground, IsText, chars_at, chars_from, is_filler, is_free, is_plain, is_written, len_if_text, len_in, longer, text_len}
 use Rattle.reach65.specs.Reached.{is_marked}
 use Rattle.reach65.specs.Texts.{are_enough, is_char, is_letter, letter_count}
 use Rattle.reach65.specs.declared.texts.Alphabet.{Alphabet}
 use Rattle.reach65.specs.declared.texts.Alphabet.TheVariants as alphabet
 use Rattle.reach65.specs.declared.texts.Tail.{Tail}
+use Rattle.reach65.specs.declared.texts.Tails.{Tails}
 
 -- ---- characters
 
@@ -119,7 +120,7 @@ tail-low g t a tail is =
     let few = few-chars g t a (end_of g.image - a) in
     (omega (arith, few, is.count), omega (arith, few, is.letters, count_by-le-length (is_letter t) (chars_at g t a)))
 
-pub tail-len : (g : Ground) (t : Alphabet) (a : ℕ) (tail : Tail) → IsTail t (chars_at g t a) tail → (if are_enough tail.count tail.letters then tail.count else 0) ≡ len_in g t a
+pub tail-len : (g : Ground) (t : Alphabet) (a : ℕ) (tail : Tail) → IsTail t (chars_at g t a) tail → tail_len tail ≡ len_in g t a
 unfolding len_in
 tail-len g t a tail is = rw (is.count, is.letters) refl
 
@@ -146,14 +147,13 @@ before-len g t a before =
     let low : a < end_of g.image = omega (arith, before) in
     rw (chars-next g t a low ∙ ap (λ x. if x then byte_at g.image a ∷ chars_at g t (a + 1) else []) (before-written g t a before)) refl
 
-longer-none : (n m : ℕ) → m ≡ 0 → longer n m ≡ n
-longer-none n m none = rw none (rw (le-ltb n 0 (omega arith)) refl)
+pub past-text : (g : Ground) (a : ℕ) → end_of g.image ≤ a → text_len g a ≡ 0
+unfolding text_len
+past-text g a past = rw (past-len g alphabet.Ascii a past, past-len g alphabet.High a past, past-len g alphabet.Petscii a past) refl
 
-pub past-longer : (g : Ground) (t : Alphabet) (a n : ℕ) → end_of g.image ≤ a → n ≡ longer n (len_in g t a)
-past-longer g t a n past = sym (longer-none n (len_in g t a) (past-len g t a past))
-
-pub before-longer : (g : Ground) (t : Alphabet) (a n : ℕ) → a < g.image.start → n ≡ longer n (len_in g t a)
-before-longer g t a n before = sym (longer-none n (len_in g t a) (before-len g t a before))
+pub before-text : (g : Ground) (a : ℕ) → a < g.image.start → text_len g a ≡ 0
+unfolding text_len
+before-text g a before = rw (before-len g alphabet.Ascii a before, before-len g alphabet.High a before, before-len g alphabet.Petscii a before) refl
 
 -- a text lies in the image
 pub len-low : (g : Ground) (a : ℕ) → a < end_of g.image → a + text_len g a ≤ end_of g.image
@@ -166,7 +166,27 @@ len-low g a low = elim (cases_lt 0 (text_len g a)) as (λ _. a + text_len g a �
   | inr none ↦ omega (arith, low, none)
 ]
 
--- ---- three alphabets, one after the other
+-- ---- three alphabets
+
+pub tails-end : (g : Ground) (end : ℕ) (tails : Tails) → end ≡ end_of g.image → tails.ascii ≡ record { count = 0; letters = 0 } → tails.high ≡ record { count = 0; letters = 0 } → tails.petscii ≡ record { count = 0; letters = 0 } → AreTails g end tails
+tails-end g end tails last ascii high petscii = record {
+  ascii = rw (last, ascii) (tail-end g alphabet.Ascii);
+  high = rw (last, high) (tail-end g alphabet.High);
+  petscii = rw (last, petscii) (tail-end g alphabet.Petscii);
+}
+
+pub tails-low : (g : Ground) (a : ℕ) (tails : Tails) → AreTails g a tails → (tails.ascii.letters ≤ end_of g.image - a) × (tails.high.letters ≤ end_of g.image - a) × (tails.petscii.letters ≤ end_of g.image - a)
+tails-low g a tails are = ((tail-low g alphabet.Ascii a tails.ascii are.ascii).1, (tail-low g alphabet.High a tails.high are.high).1, (tail-low g alphabet.Petscii a tails.petscii are.petscii).1)
+
+pub tails-len : (g : Ground) (a : ℕ) (tails : Tails) → AreTails g a tails → tails_len tails ≡ text_len g a
+unfolding text_len
+tails-len g a tails are =
+    let ascii = tail-len g alphabet.Ascii a tails.ascii are.ascii in
+    let high = tail-len g alphabet.High a tails.high are.high in
+    let petscii = tail-len g alphabet.Petscii a tails.petscii are.petscii in
+    ap₂ longer (ap₂ longer (ap (longer 0) ascii) high) petscii
+
+-- ---- a loop over the addresses, from the last to the first
 
 zero-len : (n a z : ℕ) → get_or (replicate n z) a z ≡ z
 zero-len n a z = elim (cases_lt a n) as (λ _. get_or (replicate n z) a z ≡ z) [
@@ -174,42 +194,22 @@ zero-len n a z = elim (cases_lt a n) as (λ _. get_or (replicate n z) a z ≡ z)
   | inr past ↦ get_or_past (replicate n z) a z (omega (arith, past, length-replicate n z))
 ]
 
-none-len : (a : ℕ) → get_or no_lens a 0 ≡ 0
+pub none-len : (lens : List ℕ) (a : ℕ) → lens ≡ no_lens → get_or lens a 0 ≡ 0
 unfolding no_lens
-none-len a = zero-len 65536 a 0
+none-len lens a is = ap (λ l. get_or l a 0) is ∙ zero-len 65536 a 0
 
-pub all-lens : (g : Ground) (blank one two three : List ℕ) → blank ≡ no_lens → length three ≡ 65536
-    → ((a : ℕ) → get_or one a 0 ≡ longer (get_or blank a 0) (len_in g alphabet.Ascii a))
-    → ((a : ℕ) → get_or two a 0 ≡ longer (get_or one a 0) (len_in g alphabet.High a))
-    → ((a : ℕ) → get_or three a 0 ≡ longer (get_or two a 0) (len_in g alphabet.Petscii a)) → AreLens g three
-unfolding text_len
-all-lens g blank one two three is count first second third = record {
-  count = count;
-  each = λ a.
-      let start : get_or blank a 0 ≡ 0 = ap (λ l. get_or l a 0) is ∙ none-len a in
-      third a ∙ ap (λ n. longer n (len_in g alphabet.Petscii a)) (second a ∙ ap (λ n. longer n (len_in g alphabet.High a)) (first a ∙ ap (λ n. longer n (len_in g alphabet.Ascii a)) start));
-}
+pub set-before : (a at : ℕ) (old new : List ℕ) → a < at - 1 → ((b : ℕ) → b ≢ at - 1 → get_or new b 0 ≡ get_or old b 0) → ((b : ℕ) → b < at → get_or old b 0 ≡ 0) → get_or new a 0 ≡ 0
+set-before a at old new low others before = others a (λ same. omega (arith, low, same)) ∙ before a (omega (arith, low))
 
--- ---- a loop over the addresses, from the last to the first
-
-pub raised-before : (a at : ℕ) (old first new : List ℕ) → a < at - 1 → 0 < at → ((b : ℕ) → b ≢ at - 1 → get_or new b 0 ≡ get_or old b 0) → ((b : ℕ) → b < at → get_or old b 0 ≡ get_or first b 0) → get_or new a 0 ≡ get_or first a 0
-raised-before a at old first new low some others before = others a (λ same. omega (arith, low, same)) ∙ before a (omega (arith, low))
-
-pub raised-done : (g : Ground) (t : Alphabet) (a at len : ℕ) (old first new : List ℕ) → at - 1 ≤ a → 0 < at → len ≡ len_in g t (at - 1)
-    → get_or new (at - 1) 0 ≡ longer (get_or old (at - 1) 0) len → ((b : ℕ) → b ≢ at - 1 → get_or new b 0 ≡ get_or old b 0)
-    → ((b : ℕ) → b < at → get_or old b 0 ≡ get_or first b 0) → ((b : ℕ) → at ≤ b → get_or old b 0 ≡ longer (get_or first b 0) (len_in g t b))
-    → get_or new a 0 ≡ longer (get_or first a 0) (len_in g t a)
-raised-done g t a at len old first new low some is here others before done = elim (cases_lt (at - 1) a) as (λ _. get_or new a 0 ≡ longer (get_or first a 0) (len_in g t a)) [
+pub set-done : (g : Ground) (a at : ℕ) (old new : List ℕ) → at - 1 ≤ a → get_or new (at - 1) 0 ≡ text_len g (at - 1) → ((b : ℕ) → b ≢ at - 1 → get_or new b 0 ≡ get_or old b 0)
+    → ((b : ℕ) → at ≤ b → get_or old b 0 ≡ text_len g b) → get_or new a 0 ≡ text_len g a
+set-done g a at old new low here others done = elim (cases_lt (at - 1) a) as (λ _. get_or new a 0 ≡ text_len g a) [
   | inl after ↦ others a (λ same. omega (arith, after, same)) ∙ done a (omega (arith, after))
-  | inr first_one ↦
-      let same : a ≡ at - 1 = omega (arith, low, first_one) in
-      rw same (here ∙ ap₂ longer (before (at - 1) (omega (arith, some))) is)
+  | inr first ↦ let same : a ≡ at - 1 = omega (arith, low, first) in rw same here
 ]
 
-pub raised-all : (g : Ground) (t : Alphabet) (a at : ℕ) (old first : List ℕ) → at ≤ g.image.start
-    → ((b : ℕ) → b < at → get_or old b 0 ≡ get_or first b 0) → ((b : ℕ) → at ≤ b → get_or old b 0 ≡ longer (get_or first b 0) (len_in g t b))
-    → get_or old a 0 ≡ longer (get_or first a 0) (len_in g t a)
-raised-all g t a at old first low before done = elim (cases_lt a at) as (λ _. get_or old a 0 ≡ longer (get_or first a 0) (len_in g t a)) [
-  | inl below ↦ before a below ∙ before-longer g t a (get_or first a 0) (omega (arith, below, low))
+pub set-all : (g : Ground) (a at : ℕ) (lens : List ℕ) → at ≤ g.image.start → ((b : ℕ) → b < at → get_or lens b 0 ≡ 0) → ((b : ℕ) → at ≤ b → get_or lens b 0 ≡ text_len g b) → get_or lens a 0 ≡ text_len g a
+set-all g a at lens low before done = elim (cases_lt a at) as (λ _. get_or lens a 0 ≡ text_len g a) [
+  | inl below ↦ before a below ∙ sym (before-text g a (omega (arith, below, low)))
   | inr after ↦ done a after
 ]

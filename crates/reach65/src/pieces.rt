@@ -2,8 +2,8 @@
 
 ghost use Rattle.std.specs.Prelude.{◌≡◌, ◌≢◌, ◌+◌, ◌<◌, ◌≤◌, ℕ, IfNone, IfOk, IfSome, IsTrue, false, true, get_or, length, replicate, take};
 ghost use Rattle.map65.specs.ImageView.{byte_at, bytes_from, end_of, is_inside};
-ghost use Rattle.reach65.specs.Code.Cutting.{AreLens, IsRun, IsTail, no_lens};
-ghost use Rattle.reach65.specs.Pieces.{ArePieces, IsKnown, IsPiece, IsStretch, LieIn, begins_text, chars_at, is_break, is_filler, is_free, is_open, is_plain, is_return, is_same, is_word, is_written, len_in, longer, text_len};
+ghost use Rattle.reach65.specs.Code.Cutting.{AreLens, AreTails, IsRun, IsTail, no_lens};
+ghost use Rattle.reach65.specs.Pieces.{ArePieces, IsKnown, IsPiece, IsStretch, LieIn, begins_text, chars_at, is_break, is_filler, is_free, is_open, is_plain, is_return, is_same, is_word, is_written, text_len};
 ghost use Rattle.reach65.specs.Reached.{is_marked};
 ghost use Rattle.reach65.specs.Rows.{free_word};
 ghost use Rattle.reach65.specs.Taken.{AreMarkedBy, is_given};
@@ -11,7 +11,7 @@ ghost use Rattle.reach65.specs.Taken.{AreMarkedBy, is_given};
 use crate::entries::word_at;
 use crate::flow::byte_at;
 use crate::marks::blank_marks;
-use crate::texts::{Alphabet, Tail};
+use crate::texts::{Alphabet, Tail, Tails};
 use info65::{RangeSpec, RangeType};
 use map65::{ADDRESSES, Image, is_inside};
 use std::alloc::{AllocError, Allocator, Global};
@@ -58,17 +58,15 @@ fn no_lens<A: Allocator>(alloc: A) -> Result<Vec<usize, A>, AllocError>
     zero_lens(alloc, ADDRESSES)
 }
 
-/// Raises the length at the address to this one.
-fn raise_to<A: Allocator>(lens: &mut Vec<usize, A>, address: usize, len: usize)
+/// Sets the length at the address.
+fn set_len<A: Allocator>(lens: &mut Vec<usize, A>, address: usize, len: usize)
     requires count { length lens.old.items ≡ 65536 }
     requires low { address < 65536 }
     ensures count { length lens.new.items ≡ 65536 }
-    ensures here { get_or lens.new.items address 0 ≡ longer (get_or lens.old.items address 0) len }
+    ensures here { get_or lens.new.items address 0 ≡ len }
     ensures others { (a : ℕ) → a ≢ address → get_or lens.new.items a 0 ≡ get_or lens.old.items a 0 }
 {
-    if lens[address] < len {
-        lens[address] = len;
-    }
+    lens[address] = len;
 }
 
 impl<'a, A: Allocator> Ground<'a, A> {
@@ -224,20 +222,18 @@ impl<'a, A: Allocator> Ground<'a, A> {
         after.with(alphabet, byte_at(self.image, address))
     }
 
-    /// Raises the lengths of texts to those of the alphabet.
-    fn raise<B: Allocator>(&self, lens: &mut Vec<usize, B>, fillers: &[bool], alphabet: Alphabet)
+    /// The same in each alphabet.
+    fn tails_at(&self, fillers: &[bool], after: Tails, address: usize) -> Tails
         requires fillers { AreMarkedBy (is_filler self.now) fillers.now }
-        requires count { length lens.old.items ≡ 65536 }
-        ensures count { length lens.new.items ≡ 65536 }
-        ensures each { (a : ℕ) → get_or lens.new.items a 0 ≡ longer (get_or lens.old.items a 0) (len_in self.now alphabet a) }
+        requires below { address < end_of self.now.image }
+        requires room { end_of self.now.image ≤ 65536 }
+        requires after { AreTails self.now (address + 1) after }
+        ensures { AreTails self.now address result }
     {
-        let start = usize::from(self.image.start());
-        let mut at = self.image_end();
-        let mut tail = Tail::none();
-        'back: while start < at {
-            at -= 1;
-            tail = self.tail_at(alphabet, fillers, tail, at);
-            raise_to(lens, at, tail.text_len());
+        Tails {
+            ascii: self.tail_at(Alphabet::Ascii, fillers, after.ascii, address),
+            high: self.tail_at(Alphabet::High, fillers, after.high, address),
+            petscii: self.tail_at(Alphabet::Petscii, fillers, after.petscii, address),
         }
     }
 
@@ -251,9 +247,14 @@ impl<'a, A: Allocator> Ground<'a, A> {
         ensures { IfOk result (λ lens. AreLens self.now lens.items) }
     {
         let mut lens = no_lens(alloc)?;
-        self.raise(&mut lens, fillers, Alphabet::Ascii);
-        self.raise(&mut lens, fillers, Alphabet::High);
-        self.raise(&mut lens, fillers, Alphabet::Petscii);
+        let start = usize::from(self.image.start());
+        let mut at = self.image_end();
+        let mut tails = Tails::none();
+        'back: while start < at {
+            at -= 1;
+            tails = self.tails_at(fillers, tails, at);
+            set_len(&mut lens, at, tails.text_len());
+        }
         Ok(lens)
     }
 

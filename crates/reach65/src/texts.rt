@@ -1,6 +1,8 @@
 //! Which bytes are a text, in three alphabets.
 
 ghost use Rattle.std.specs.Prelude.{◌≡◌, ◌<◌, suc, length, if◌then◌else◌};
+ghost use Rattle.reach65.specs.Code.Cutting.{tail_len, tails_len};
+ghost use Rattle.reach65.specs.Pieces.{longer};
 ghost use Rattle.reach65.specs.Texts.{are_chars, are_enough, in_ascii, is_char, is_from, is_letter, is_text, letter_count, petscii_in_ascii};
 
 /// What bytes stand for as characters.
@@ -19,6 +21,14 @@ pub enum Alphabet {
 pub struct Tail {
     count: usize,
     letters: usize,
+}
+
+/// The characters in each alphabet.
+#[derive(Clone, Copy, Debug, PartialEq, Eq)]
+pub struct Tails {
+    pub ascii: Tail,
+    pub high: Tail,
+    pub petscii: Tail,
 }
 
 /// Whether a byte is the first, the last or one between them.
@@ -159,12 +169,46 @@ impl Tail {
     /// How many characters there are, if they are a text, and 0 otherwise.
     pub fn text_len(self) -> usize
         requires { self.letters < 65537 }
-        ensures { result ≡ if are_enough self.count self.letters then self.count else 0 }
+        ensures { result ≡ tail_len self }
     {
         if are_enough(self.count, self.letters) {
             self.count
         } else {
             0
         }
+    }
+}
+
+/// The greater of two lengths.
+fn longer(one: usize, other: usize) -> usize
+    ensures { result ≡ longer one other }
+{
+    if one < other { other } else { one }
+}
+
+impl Tails {
+    /// No characters.
+    pub fn none() -> Tails
+        ensures ascii { result.ascii ≡ record { count = 0; letters = 0 } }
+        ensures high { result.high ≡ record { count = 0; letters = 0 } }
+        ensures petscii { result.petscii ≡ record { count = 0; letters = 0 } }
+    {
+        Tails {
+            ascii: Tail::none(),
+            high: Tail::none(),
+            petscii: Tail::none(),
+        }
+    }
+
+    /// How many characters the longest text of them has, and 0 if none are a text.
+    pub fn text_len(self) -> usize
+        requires ascii { self.ascii.letters < 65537 }
+        requires high { self.high.letters < 65537 }
+        requires petscii { self.petscii.letters < 65537 }
+        ensures { result ≡ tails_len self }
+    {
+        let len = longer(0, self.ascii.text_len());
+        let len = longer(len, self.high.text_len());
+        longer(len, self.petscii.text_len())
     }
 }
