@@ -98,9 +98,9 @@ fn has_address(pairs: &[Pair], address: u16) -> bool
     false
 }
 
-/// Whether reached code has the address in halves.
+/// Whether reached code has the address in halves. What `pairs` has is lost: it is lent so that none is made for each candidate.
 fn is_in_halves<A: Allocator, B: Allocator>(
-    alloc: A,
+    pairs: &mut Vec<Pair, A>,
     flow: &Flow<'_, '_, B>,
     marks: &[bool],
     candidate: Candidate,
@@ -108,14 +108,14 @@ fn is_in_halves<A: Allocator, B: Allocator>(
     requires { length marks.now ≡ 65536 }
     ensures { result ≡ Ok true → IsCandidate flow.now marks.now candidate.address }
 {
-    let mut pairs = Vec::new(alloc);
-    put_pairs_at(&mut pairs, flow, marks, usize::from(candidate.reason))?;
-    Ok(has_address(&pairs, candidate.address))
+    pairs.clear();
+    put_pairs_at(pairs, flow, marks, usize::from(candidate.reason))?;
+    Ok(has_address(pairs.as_slice(), candidate.address))
 }
 
-/// Whether the address may begin code.
+/// Whether the address may begin code. What `pairs` has is lost.
 fn is_candidate<A: Allocator, B: Allocator>(
-    alloc: A,
+    pairs: &mut Vec<Pair, A>,
     flow: &Flow<'_, '_, B>,
     marks: &[bool],
     candidate: Candidate,
@@ -126,7 +126,7 @@ fn is_candidate<A: Allocator, B: Allocator>(
     if is_behind(flow, marks, candidate) {
         return Ok(true);
     }
-    is_in_halves(alloc, flow, marks, candidate)
+    is_in_halves(pairs, flow, marks, candidate)
 }
 
 // ---- one candidate
@@ -153,10 +153,10 @@ pub fn join<A: Allocator, B: Allocator>(
     Ok(())
 }
 
-/// Adds the address of a candidate to the entries, if it is one still and a sound beginning.
+/// Adds the address of a candidate to the entries, if it is one still and a sound beginning. What `pairs` has is lost.
 #[tactic(auto, using(crate::proofs::GrowthLemmas::grown_same))]
-fn try_candidate<A: Allocator + Copy, B: Allocator>(
-    alloc: A,
+fn try_candidate<A: Allocator, B: Allocator>(
+    pairs: &mut Vec<Pair, A>,
     search: &mut Search<A>,
     fresh: &mut Vec<u16, A>,
     flow: &Flow<'_, '_, B>,
@@ -168,7 +168,7 @@ fn try_candidate<A: Allocator + Copy, B: Allocator>(
     if search.is_marked(candidate.address) || PATIENCE < search.wasted() {
         return Ok(());
     }
-    if is_candidate(alloc, flow, search.marks(), candidate)? {
+    if is_candidate(pairs, flow, search.marks(), candidate)? {
         join(search, fresh, flow, candidate.address, LEAST)?;
     }
     Ok(())
@@ -288,8 +288,9 @@ fn join_candidates<A: Allocator + Copy, B: Allocator>(
 {
     let candidates = candidates_of(alloc, flow, search.marks(), reasons)?;
     let mut fresh = Vec::new(alloc);
+    let mut pairs = Vec::new(alloc);
     'candidates: for &candidate in &candidates {
-        try_candidate(alloc, search, &mut fresh, flow, candidate)?;
+        try_candidate(&mut pairs, search, &mut fresh, flow, candidate)?;
     }
     Ok(fresh)
 }
