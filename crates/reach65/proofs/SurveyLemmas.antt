@@ -1,5 +1,6 @@
 -- A survey of what is reached, one instruction after the other.
-use Rattle.std.proofs.Common.{◌≡◌, ◌∙◌, ◌+◌, ◌<◌, ◌≤◌, ◌&&◌, ◌||◌, ℕ, Bool, true, false, List, length, get_or, take, ap, arith, refl, subst, sym, Some, None}
+use Rattle.std.proofs.Common.{◌≡◌, ◌∙◌, ◌+◌, ◌<◌, ◌≤◌, ◌&&◌, ◌||◌, ◌==◌, nat_le, nat_lt, ℕ, Bool, true, false, List, length, get_or, take, ap, arith, refl, subst, sym, Some, None}
+use Rattle.std.proofs.lemmas.Bool.Decides.{nat_tests}
 use Rattle.std.specs.List.{list_any}
 use Rattle.std.proofs.Math.Bool.{or-false}
 use Rattle.isa65.specs.declared.op.Op.{Op}
@@ -12,6 +13,18 @@ use Rattle.reach65.specs.Taken.{AreMarkedBy, has_byte, is_code, is_given, is_tak
 use Rattle.reach65.specs.Variables.{is_operand, operand_at}
 use Rattle.reach65.proofs.LoopLemmas.{addresses_of, any-end, any-next}
 use Rattle.reach65.proofs.TakenLemmas.{blank-false, marked_by}
+
+-- ---- the bytes of an instruction
+
+in-span : (from len a : ℕ) → len ≤ 3 → ((nat_lt 0 len && from == a) || ((nat_lt 1 len && from + 1 == a) || (nat_lt 2 len && from + 2 == a))) ≡ (nat_le from a && nat_lt a (from + len))
+in-span from len a few = grind (arith, nat_tests)
+
+one-by-one : (x y z span old one two new : Bool) → (x || (y || z)) ≡ span → one ≡ (old || x) → two ≡ (one || y) → new ≡ (two || z) → new ≡ (old || span)
+one-by-one x y z span old one two new is first second third = grind (arith, is, first, second, third)
+
+pub span_marked : (from len a : ℕ) (old one two new : Bool) → len ≤ 3 → one ≡ (old || (nat_lt 0 len && from == a)) → two ≡ (one || (nat_lt 1 len && from + 1 == a)) → new ≡ (two || (nat_lt 2 len && from + 2 == a))
+    → new ≡ (old || (nat_le from a && nat_lt a (from + len)))
+span_marked from len a old one two new few first second third = one-by-one _ _ _ _ old one two new (in-span from len a few) first second third
 
 -- ---- one address
 

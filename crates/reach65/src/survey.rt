@@ -1,6 +1,6 @@
 //! What reached instructions do with the addresses.
 
-ghost use Rattle.std.specs.Prelude.{◌≡◌, ◌+◌, ◌<◌, ◌≤◌, ◌&&◌, IfOk, OnOk, Some, length};
+ghost use Rattle.std.specs.Prelude.{◌≡◌, ◌+◌, ◌<◌, ◌≤◌, ◌==◌, ◌&&◌, ◌||◌, ℕ, IfOk, OnOk, Some, length, nat_le, nat_lt, true};
 ghost use Rattle.isa65.specs.Mode.{len_of, row_len};
 ghost use Rattle.map65.specs.ImageView.{end_of};
 ghost use Rattle.reach65.specs.Code.Surveying.{Adds, AddsOp, AddsRanges, blank_survey};
@@ -10,7 +10,7 @@ ghost use Rattle.reach65.specs.Survey.{AreSurvey, is_likely, is_routine};
 ghost use Rattle.reach65.specs.Variables.{word_in};
 
 use crate::flow::{Flow, bytes_from};
-use crate::marks::{blank_marks, mark_ranges, mark_some, mark_span};
+use crate::marks::{blank_marks, mark_ranges, mark_some};
 use isa65::{Mnemonic, Op, OperandKind, Row};
 use map65::{is_jump, word_of};
 use std::alloc::{AllocError, Allocator, Global};
@@ -85,6 +85,34 @@ fn word_in(row: Row, bytes: &[u8]) -> Option<u16>
     }
 }
 
+/// Marks the address, if that is so.
+fn mark_if<A: Allocator>(marks: &mut Vec<bool, A>, at: usize, is: bool)
+    requires count { length marks.old.items ≡ 65536 }
+    requires room { is ≡ true → at < 65536 }
+    ensures count { length marks.new.items ≡ 65536 }
+    ensures each { (a : ℕ) → is_marked marks.new.items a ≡ (is_marked marks.old.items a || (is && at == a)) }
+{
+    if is {
+        marks[at] = true;
+    }
+}
+
+/// Marks the bytes of an instruction of this length at the address. It has at most three, so no loop, which would cost more, sets them.
+#[tactic(auto, using(crate::proofs::SurveyLemmas::span_marked))]
+fn mark_bytes<A: Allocator>(marks: &mut Vec<bool, A>, from: usize, len: u8)
+    requires count { length marks.old.items ≡ 65536 }
+    requires few { len ≤ 3 }
+    requires room { from + len ≤ 65536 }
+    ensures count { length marks.new.items ≡ 65536 }
+    ensures each { (a : ℕ) →
+        is_marked marks.new.items a
+        ≡ (is_marked marks.old.items a || (nat_le from a && nat_lt a (from + len))) }
+{
+    mark_if(marks, from, 0 < len);
+    mark_if(marks, from + 1, 1 < len);
+    mark_if(marks, from + 2, 2 < len);
+}
+
 impl<A: Allocator> Survey<A> {
     /// A survey that has not begun.
     fn blank(alloc: A, reached: Vec<bool, A>) -> Result<Survey<A>, AllocError>
@@ -126,9 +154,7 @@ impl<A: Allocator> Survey<A> {
     {
         let bytes = bytes_from(flow.map().image(), address);
         let goal = flow.goal_by(address, op);
-        let from = usize::from(address);
-        let to = from + usize::from(op.mode.len());
-        mark_span(&mut self.code, from, to);
+        mark_bytes(&mut self.code, usize::from(address), op.mode.len());
         mark_some(&mut self.gone_on, flow.next_of(address, op));
         mark_some(&mut self.gone_on, branch_of(op, goal));
         mark_some(&mut self.called, call_of(op, goal));
