@@ -105,8 +105,8 @@ fn put_if_many(
 /// How many reached instructions call each address, and after how many of these calls nothing decodes.
 #[derive(Drop)]
 struct Calls {
-    all: Vec<usize>,
-    failing: Vec<usize>,
+    all: Vec<u32>,
+    failing: Vec<u32>,
 }
 
 impl Model for Calls {
@@ -121,15 +121,15 @@ impl Model for Calls {
 }
 
 /// This many counts, all 0.
-fn zero_counts(alloc: Global, count: usize) -> Result<Vec<usize>, AllocError>
+fn zero_counts(alloc: Global, count: usize) -> Result<Vec<u32>, AllocError>
     ensures { IfOk result (λ counts. counts.items ≡ replicate count 0) }
 {
-    vec![in alloc; 0usize; count]
+    vec![in alloc; 0u32; count]
 }
 
 /// A count for each address, all 0.
 #[tactic(auto, unfolding(crate::specs::Likely::no_counts))]
-fn no_counts(alloc: Global) -> Result<Vec<usize>, AllocError>
+fn no_counts(alloc: Global) -> Result<Vec<u32>, AllocError>
     ensures counts { IfOk result (λ counts. counts.items ≡ no_counts) }
     ensures count { IfOk result (λ counts. length counts.items ≡ 65536) }
 {
@@ -137,7 +137,7 @@ fn no_counts(alloc: Global) -> Result<Vec<usize>, AllocError>
 }
 
 /// Adds one to the count of an address.
-fn add_one(counts: &mut Vec<usize>, address: u16)
+fn add_one(counts: &mut Vec<u32>, address: u16)
     requires count { length counts.old.items ≡ 65536 }
     requires few { get_or counts.old.items address 0 < 65536 }
     ensures count { length counts.new.items ≡ 65536 }
@@ -191,7 +191,13 @@ impl Calls {
         ensures { OnOk result (out.new.items ≡ out.old.items ++ flat_map comment_line (comments_at tags.now self.now address)) }
     {
         let at = usize::from(address);
-        put_if_many(out, tags, self.failing[at], self.all[at], address)
+        put_if_many(
+            out,
+            tags,
+            self.failing[at] as usize,
+            self.all[at] as usize,
+            address,
+        )
     }
 }
 
