@@ -690,10 +690,10 @@ calls_and_memory() {
     each_write
     [ $options = all ] || return
     counts da65 8 9 8 182808 190
-    counts trace65 8 22 1 3352239 170
+    counts trace65 8 22 1 2506159 181
     counts as65 6 4 1 56076 88
     counts compare 6 10 1 1710374 125
-    counts name65 6 18 1 1094772 127
+    counts name65 6 18 1 569668 127
 }
 
 # ---- all of it
