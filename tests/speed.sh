@@ -216,7 +216,7 @@ compares '1 KiB with 16 include files of a line' 34.1 -S 0 -i small.info kilobyt
 includes 16 4096 230 >large.info
 compares '1 KiB with 16 include files of 1 MiB' 26.0 -S 0 -i large.info kilobyte.bin
 remarked 16 250 >remarked.info
-compares '1 KiB with 16 MiB of comment, 4,000 names' 64.3 -S 0 -i remarked.info kilobyte.bin
+compares '1 KiB with 16 MiB of comment, 4,000 names' 63.0 -S 0 -i remarked.info kilobyte.bin
 
 printf 'MEMORY { MAIN: start = 0, size = $10000, file = %%O; }\nSEGMENTS { CODE: load = MAIN, type = ro; }\n' >flat.cfg
 printf '\n%-44s %12s %12s %8s\n' 'instructions for a listing' 'as65' 'ca65, ld65' 'ratio'
@@ -235,7 +235,7 @@ printf 'here:   lda     #$01\n        sta     $10\n        jmp     here\n' >thre
 assembles '8,000 pairs of halves' 26.8 halves.s
 assembles 'low bytes of 3,000 names' 35.8 lobytes.s
 assembles 'three lines' 48.2 three.s
-assembles '10,000 lines that set the same CPU' 76.0 cpus.s
+assembles '10,000 lines that set the same CPU' 23.9 cpus.s
 # The same pairs as numbers, of which every tenth and then every one gets names; and the listings without a group.
 "$assembler" -S 0 -o halves.bin halves.s
 awk 'BEGIN { for (n = 0; n < 8000; n++) printf "LABEL { ADDR $%04X; NAME \"n%d\"; };\n", 4 * n, n }' >numbers.info
@@ -244,10 +244,10 @@ awk 'BEGIN { for (n = 0; n < 8000; n++) printf "#: HALVES { LOW $%04X; HIGH $%04
 awk 'NR % 10 == 1' pairs.info >few.info
 printf '\n%-44s %12s %12s %8s\n' 'instructions for a listing' 'name65' 'as65' 'ratio'
 names 'three lines' 130.2 three.s
-names 'random bytes' 111.4 random.s
-names 'random bytes, used names' 163.6 random.s --used
-names 'a tenth of 8,000 pairs' 181.5 numbers.s -i few.info
-names '8,000 pairs' 268.1 numbers.s -i pairs.info
+names 'random bytes' 110.8 random.s
+names 'random bytes, used names' 163.0 random.s --used
+names 'a tenth of 8,000 pairs' 180.7 numbers.s -i few.info
+names '8,000 pairs' 266.5 numbers.s -i pairs.info
 # Routines of which each has the address of the next one in halves; pairs of immediates, one after the other; blanks.
 printf '%b' "$(awk 'BEGIN { for (a = 16; a <= 65536; a += 16) {
     b = a % 65536; printf "\\xa9\\x%02x\\xa2\\x%02x\\xe8\\xe8\\xe8\\x60", b % 256, b / 256
