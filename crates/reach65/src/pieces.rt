@@ -101,7 +101,8 @@ impl<'a, A: Allocator> Ground<'a, A> {
         ensures value { result ≡ free_word self.now address }
         ensures below { IfSome result (λ _. address + 1 < 65536) }
     {
-        let _end = self.image_end();
+        // This does nothing; its clause says that the image ends at $FFFF at most.
+        self.image_end();
         if self.is_plain(address) && self.is_plain(address + 1) {
             Some(word_at(self.image, address as u16))
         } else {
@@ -537,6 +538,7 @@ impl<'a, 'g, A: Allocator> Texts<'a, 'g, A> {
         ensures piece { IsPiece self.now result.0 first result.1 }
     {
         let ground = self.ground;
+        // This does nothing; its clause says that the image ends at $FFFF at most.
         ground.image_end();
         if ground.is_word(first) {
             return (RangeType::AddrTable, ground.words_end(first));
@@ -562,6 +564,7 @@ impl<'a, 'g, A: Allocator> Texts<'a, 'g, A> {
         ensures high { result.1 ≤ 65536 }
         ensures piece { IsStretch self.now result.0 first result.1 }
     {
+        // This does nothing; its clause says that the image ends at $FFFF at most.
         self.ground.image_end();
         if self.ground.is_known(first) {
             (RangeType::TextTable, self.ground.known_end(first))

@@ -296,6 +296,7 @@ pub fn report(
 ) -> Result<Vec<u8>, AllocError>
     ensures { IfOk result (λ text. IsWritten map.now tracing.now.entries.items tracing.now.plain tracing.now.whole tags.now file.now text.items) }
 {
+    // These two do nothing; their clauses say when the text is accepted, and what the map is of.
     text_law();
     map.info();
     let found = search_image(alloc, map, &tracing.entries, tracing.plain, tags)?;
