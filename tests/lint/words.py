@@ -50,7 +50,7 @@ def paged(page):
                 types = firsts
             else:
                 tags = {name: set(re.findall(r"`(\w+)`", cell)) for name, cell in re.findall(r"^\| `(\w+)` \| (.*?) \|", rows, re.MULTILINE)}
-    yes, no = re.search(r"A boolean is one of the words ([^.]*?) and ([^.]*?), in any case", page, re.DOTALL).groups()
+    yes, no = re.search(r"A boolean is one of the words ([^.]*?) and ([^.]*?), in any case", " ".join(page.split())).groups()
     booleans = {word.upper(): value for text, value in ((yes, "true"), (no, "false")) for word in re.findall(r"`(\w+)`", text)}
     return {"groups": groups, "groups in comments": tags, "type words": types, "booleans": booleans}
 
