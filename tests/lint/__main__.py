@@ -1,7 +1,4 @@
-"""What can be seen of the tree without the prover, in a few seconds: that its public contracts are those of docs/contracts, that each
-promise of docs/PROOFS.md has its clause, that each edit that must fail can be applied, where the code answers out of memory by itself, what
-a listing and the meaning of a text share, that information files have the words of their page, that their man page and the page of
-definitions are made of what they come from, how wide clauses and scripts are, and the form of the files of names.
+"""Checks what can be seen of the tree without the prover, in a few seconds. CHECKS lists what has to hold.
 
 Usage: python3 tests/lint                    fails if one of these does not hold, and says what
        python3 tests/lint --write contracts  writes docs/contracts anew, `manual` the man page, and `page` docs/DEFINITIONS.md
@@ -21,9 +18,9 @@ CHECKS = {
     memory: "every answer out of memory is made in a listed place",
     readings: "a listing and the meaning of a text share no definition but those listed",
     words: "an information file has the words of docs/INFORMATION_FILE.md and no others",
-    manual: "docs/da65.info.5 is docs/INFORMATION_FILE.md",
-    page: "docs/DEFINITIONS.md is what the definitions say of themselves",
-    columns: "no more clauses than before are wider than 100 columns, and no script is wider than 140",
+    manual: "docs/da65.info.5 is made from docs/INFORMATION_FILE.md",
+    page: "docs/DEFINITIONS.md is made from the comments of the definitions",
+    columns: "no more clauses than listed are wider than 100 columns; no script is wider than 140, no page than 120, no man page than 80",
     names: "the files of names have their form",
 }
 WRITTEN = {module.__name__: module for module in (contracts, manual, page)}

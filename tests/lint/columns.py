@@ -1,11 +1,12 @@
 """A clause fits in 100 columns; what recurs in one gets a name in `specs/`. Those that are wider are counted by crate, and their number
-only falls. The scripts have lines of at most 140 columns."""
+only falls. The lines of scripts have at most 140 columns, those of pages 120, and those of man pages 80; tables, headings and what is
+shown word for word may be wider."""
 
 import re
 
 from source import CRATES, ROOT
 
-CLAUSE, SCRIPT = 100, 140
+CLAUSE, SCRIPT, PAGE, MANUAL = 100, 140, 120, 80
 
 # How many lines of clauses in src/ are wider, by crate. Where there are fewer, the number here is to be made smaller.
 WIDER = {
@@ -25,6 +26,8 @@ WIDER = {
 }
 
 SCRIPTS = ("Makefile", ".ci/run", "tests/*.sh", "tests/shim.c")
+PAGES = ("*.md", "docs/*.md")
+MANUALS = ("docs/*.[15]",)
 
 
 def wide_clauses(crate):
@@ -38,6 +41,17 @@ def wide_clauses(crate):
                     yield f"{path.relative_to(ROOT)}:{number}: {len(line)} columns"
 
 
+def lines_of(patterns, begin=None, end=None):
+    """The lines of these files, each with its place, without what stands between a line that matches `begin` and one that matches `end`."""
+    for path in sorted(path for pattern in patterns for path in ROOT.glob(pattern)):
+        inside = False
+        for number, line in enumerate(path.read_text().splitlines(), 1):
+            if begin and re.match(end if inside else begin, line):
+                inside = not inside
+            elif not inside:
+                yield f"{path.relative_to(ROOT)}:{number}", line
+
+
 def check(write):
     for crate in CRATES:
         found, known = list(wide_clauses(crate)), WIDER.get(crate, 0)
@@ -45,8 +59,9 @@ def check(write):
             yield f"{crate}: {len(found)} lines of clauses are wider than {CLAUSE} columns, and not {known}: {', '.join(found)}"
         elif len(found) < known:
             yield f"{crate}: only {len(found)} lines of clauses are wider than {CLAUSE} columns: make the number in columns.py smaller"
-    for pattern in SCRIPTS:
-        for path in sorted(ROOT.glob(pattern)):
-            for number, line in enumerate(path.read_text().splitlines(), 1):
-                if len(line) > SCRIPT:
-                    yield f"{path.relative_to(ROOT)}:{number}: {len(line)} columns, and not at most {SCRIPT}"
+    pages = ((place, line) for place, line in lines_of(PAGES, "```", "```") if line[:1] not in ("|", "#"))
+    manuals = lines_of(MANUALS, r"\.nf", r"\.fi")
+    for limit, lines in ((SCRIPT, lines_of(SCRIPTS)), (PAGE, pages), (MANUAL, manuals)):
+        for place, line in lines:
+            if len(line) > limit:
+                yield f"{place}: {len(line)} columns, and not at most {limit}"

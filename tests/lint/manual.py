@@ -1,5 +1,5 @@
-"""The man page of information files, docs/da65.info.5, is made of docs/INFORMATION_FILE.md. What stands between `<!-- page -->` and
-`<!-- /page -->` there is left out: it refers to what is not installed."""
+"""The man page of information files, docs/da65.info.5, is made from docs/INFORMATION_FILE.md. What stands between `<!-- page -->` and
+`<!-- /page -->` there is left out: it refers to files that are not installed."""
 
 import difflib
 import re
@@ -9,7 +9,7 @@ from source import ROOT
 
 DOCS = ROOT / "docs"
 SOURCE, TARGET = DOCS / "INFORMATION_FILE.md", DOCS / "da65.info.5"
-HEAD = """.\\" Made of docs/INFORMATION_FILE.md by tests/lint. Rendered by: man -l docs/da65.info.5
+HEAD = """.\\" Made from docs/INFORMATION_FILE.md. Rendered by: man -l docs/da65.info.5
 .TH DA65.INFO 5 "2026-11-25" "da65 profile 1" "File Formats"
 .SH NAME
 da65.info \\- information file of da65

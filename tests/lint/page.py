@@ -1,21 +1,25 @@
-"""docs/DEFINITIONS.md is made of the comments at the head of the files of definitions, crate by crate, in the order in which Lib.antt names
-them. A comment of one paragraph is a row of a table; a longer one has a part of its own. What ties code to rules (`Code`) is left out."""
+"""docs/DEFINITIONS.md is made from the comments at the head of the files of definitions, crate by crate, in the order in which Lib.antt
+names them. A comment of one paragraph is a row of a table; a longer one has a section of its own. The folders `Code`, which tie code to
+rules, are left out."""
 
 import difflib
 import re
+import textwrap
 
+from columns import PAGE
 from source import CRATES, ROOT
 
 TARGET = ROOT / "docs" / "DEFINITIONS.md"
 HEAD = """# Definitions
 
-What the contracts cite, in plain words. Each part is the comment at the head of a file of definitions, and this page is made of these
-comments by `make definitions`; the file has the rules themselves, each with a line in words. [PROOFS.md](PROOFS.md) says what is
-proved of them, and [ARCHITECTURE.md](ARCHITECTURE.md) has the words that all crates use. The folders `Code` of `specs/`, which say
-what the parts of the code have done, are left out.
+What the contracts cite, in plain words. Each part is the comment at the head of a file of definitions, from which
+`make definitions` writes this page. The file has the rules themselves, each with a line in words.
+[PROOFS.md](PROOFS.md) says what is proved of them, and [ARCHITECTURE.md](ARCHITECTURE.md) explains the words that all
+crates use. The folders `Code` of `specs/`, which say what parts of the code have done, are left out.
 
-The headline stands on a few of them: the image that is asked for (`map65`, Image), the listing of an image (`da65`, Listing, with
-Groups and Statements), its text (`stmt65`, Line), and what a text means (`stmt65`, Reading, Coding and Meaning).
+The headline needs only a few of them: the image that is asked for (`map65`, Image), the listing of an image (`da65`,
+Listing, with Groups and Statements), its text (`stmt65`, Line), and what a text means (`stmt65`, Reading, Coding and
+Meaning).
 """
 
 
@@ -25,9 +29,24 @@ def head_of(path):
     return "\n".join(line[2:].removeprefix(" ") for line in lines).split("\n\n")
 
 
+def filled(paragraph):
+    """A paragraph in lines of the width of a page. Each item of a list begins a line; what follows the list is a paragraph of its own."""
+    parts = []
+    for line in paragraph.splitlines():
+        mark, words = re.match(r"( *(?:(?:[*]|\d+[.]) )?)(.*)", line).groups()
+        if mark.strip() or not parts or (parts[-1][0] and not mark):
+            parts.append((mark, [words]))
+        else:
+            parts[-1][1].append(words)
+    text = ""
+    for mark, lines in parts:
+        text += "\n" * (bool(text) + bool(text and not mark))
+        text += textwrap.fill(" ".join(lines), PAGE, initial_indent=mark, subsequent_indent=" " * len(mark), break_on_hyphens=False)
+    return text
+
+
 def titled(name, paragraphs):
-    first, *others = paragraphs
-    return f"\n### {name}\n\n" + "\n\n".join([first, *(re.sub(r"(?m)^( *)([*] |\d+[.] )", r"\1\2", it) for it in others)]) + "\n"
+    return f"\n### {name}\n\n" + "\n\n".join(map(filled, paragraphs)) + "\n"
 
 
 def part(crate):
