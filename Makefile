@@ -1,20 +1,20 @@
-# make               proves the programs, builds them into bin/ (da65, as65, trace65, name65), and lists an example. Three crates are
-#                    proved at a time where there are two processors and 12 GB of memory, or as many as -j says. It says how far it
-#                    is on a line that it writes over, or, where there is no terminal, each minute (each EVERY seconds).
-# make try           lists the example by the program as it is before any proof, in one to three minutes
-# make test          the merge gate: every proof from nothing, the edits that must fail, the tests and the stored runs; then the programs
-#                    that this built on real files, and listings through ca65. The result of `rt ci` is its last line.
+# make               proves the programs, builds them into bin/ (da65, as65, trace65, name65), and lists an example. It proves three crates
+#                    at a time if there are two processors and 12 GB of memory, or as many as -j says. It prints its progress: on a
+#                    terminal in one line, otherwise each minute (or each EVERY seconds).
+# make try           lists the example before any proof
+# make test          the merge gate: every proof from nothing, the edits that must fail, the tests and the stored runs; then the scripts on
+#                    the programs that this built, and listings through ca65. Its last line is the result of `rt ci`.
 #                    CA65=skip leaves out what needs cc65, and CC=skip what needs a C compiler.
 # make check         the same
-# make contracts     writes docs/contracts anew, after a change of public contracts that is meant
+# make contracts     writes docs/contracts anew, after an intended change of public contracts
 # make manual        writes docs/da65.info.5 anew, after a change of docs/INFORMATION_FILE.md
 # make definitions   writes docs/DEFINITIONS.md anew, after a change of the comments at the head of definitions
 # make speed         counts instructions beside those of cc65's programs; needs cc65, valgrind and GNU time
-# make install       puts the programs, their man pages, what bash and zsh complete and the names of machines under PREFIX, /usr/local
-#                    unless it is given.
-#                    PROGRAM_PREFIX is put before their names, as in `make install PROGRAM_PREFIX=proved-`, and DESTDIR before PREFIX.
-# make uninstall     takes them away, with the same PREFIX, PROGRAM_PREFIX and DESTDIR
-# make clean         takes away what was built
+# make install       installs the programs, the man pages, the completions for bash and zsh, and the names of machines under PREFIX, by
+#                    default /usr/local. PROGRAM_PREFIX is put before the names of the programs, as in
+#                    `make install PROGRAM_PREFIX=proved-`, and DESTDIR before PREFIX.
+# make uninstall     removes them, with the same PREFIX, PROGRAM_PREFIX and DESTDIR
+# make clean         removes what was built
 # make help          prints this
 #
 # RTFLAGS goes to the prover, as in `make RTFLAGS="--jobs 1"`.
@@ -26,7 +26,7 @@ SHELL := bash
 .SHELLFLAGS := -eu -o pipefail -c
 .PHONY: all kit try test check contracts manual definitions speed install uninstall clean help
 
-# Crates that do not stand on each other are proved side by side, each with up to four jobs of its own; `make -j1` proves one at a time.
+# Crates that do not depend on each other are proved side by side, each with up to four jobs of its own; `make -j1` proves one at a time.
 ifeq ($(shell [ "$$(nproc)" -gt 1 ] && awk '/^MemTotal/ { exit $$2 < 12000000 }' /proc/meminfo && echo wide),wide)
 MAKEFLAGS += -j3
 endif
@@ -46,8 +46,8 @@ bin/da65: bin/made/da65_cli
 bin/as65 bin/trace65 bin/name65: bin/%: bin/made/%
 	@cp crates/$*/out/$* $@
 
-# How far the crates are that are being proved, by what the prover says in bin/made/CRATE.log: of these crates the first says it for all,
-# until it is proved. On a terminal that is a line that is written over each 2 seconds, elsewhere a line each minute, or each EVERY seconds.
+# Prints the progress of the crates that are being proved, from bin/made/CRATE.log. The first of them prints it for all, until it is
+# proved: on a terminal one line, renewed every 2 seconds, elsewhere a line every minute, or every EVERY seconds.
 define PROGRESS
 crate=$$1
 every=$${EVERY:-60}
@@ -68,9 +68,9 @@ done
 endef
 export PROGRESS
 
-# A crate is proved once those that it stands on are, by the lines of crates.txt; a program is run too, for its version. A line on the
-# screen says how long that took, and bin/made/CRATE has what the prover says. rt keeps others out of the crates that it reads, so a
-# crate is proved in a folder of its own, with links to its sources and to the libraries below.
+# A crate is proved once the crates below it are, by the lines of crates.txt; a program is also run, for its version. Then a line says how
+# long that took, and bin/made/CRATE has what the prover said. rt locks the crates that it reads, so a crate is proved in a folder of its
+# own, with links to its sources and to the libraries below.
 crates := $(shell sed -nE 's/^([a-z0-9_]+):.*/\1/p' crates.txt)
 programs := da65_cli as65 trace65 name65
 direct = $(filter $(crates),$(shell sed -nE 's/^$(1)://p' crates.txt))

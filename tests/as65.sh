@@ -1,6 +1,6 @@
 #!/usr/bin/env bash
-# The assembler on real files: what it writes, where, and with which status. Then each example and random images go to their listing and
-# back: da65 lists them, and as65 gives the same bytes.
+# Tests as65 on real files: what it writes, where, and with which status. Then da65 lists each example and random images, and as65 has to
+# give the same bytes.
 # Usage: tests/as65.sh AS65 DA65
 set -u
 program=$(realpath "$1")

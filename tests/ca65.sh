@@ -1,14 +1,19 @@
 #!/usr/bin/env bash
-# The programs beside those of cc65. Each information file of tests/peer goes through this program and through cc65's da65, and what they
-# say is compared with the tables of docs/DIFFERENCES.md: each row has the file's name, what this program says, what cc65's says, and how
-# the listings compare. With `rows` in place of a count the rows that were found are printed, and nothing else is done. The names of names/
-# have the values that they have in the include files of cc65. Then random images of each CPU with random ranges, names, segments, comments
-# and columns, and every example, are listed, and each listing is assembled with the real ca65 and ld65, and with the as65 beside the
-# program: the result must be the image. Then random texts go to both, as people write them who edit a listing, most of them right: both
-# give the same bytes, or both refuse the text. The same seed gives the same images and texts. At last a text has its segments at their
-# place in both. Left out, since ca65 treats them in its own way: a segment named ZEROPAGE, a byte $FF in a comment, and what `excused`
-# names. Without ca65 and ld65 it fails, unless CA65=skip is set. Usage: tests/ca65.sh PROGRAM [COUNT [SEED [TEXTS]]]      COUNT is that of
-# images; PEER is cc65's da65, /usr/bin/da65 if it is not set
+# Compares the programs with those of cc65:
+#
+#   - Each information file of tests/peer goes through this da65 and through cc65's. The results must be those of the tables in
+#     docs/DIFFERENCES.md: each row has the file's name, what this program says, what cc65's says, and how the listings compare.
+#   - The names of names/ must have the values that they have in the include files of cc65.
+#   - Random images of each CPU, with random ranges, names, segments, comments and columns, and every example are listed. ca65 with ld65,
+#     and the as65 beside the program, must assemble each listing to the image.
+#   - Random texts, as people write them who edit a listing, most of them right, go to both assemblers. Both must give the same bytes, or
+#     both must refuse the text. Last, a text has its segments at their places in both.
+#
+# The same seed gives the same images and texts. Left out, since ca65 treats them in its own way: a segment named ZEROPAGE, a byte $FF in a
+# comment, and what `excused` names. Without ca65 and ld65 the script fails, unless CA65=skip is set.
+#
+# Usage: tests/ca65.sh PROGRAM [COUNT [SEED [TEXTS]]]
+# COUNT is the number of images; `rows` in its place only prints the rows that were found. PEER is cc65's da65, by default /usr/bin/da65.
 set -u
 program=$(realpath "$1")
 as65=$(dirname "$program")/as65

@@ -1,19 +1,18 @@
 #!/usr/bin/env bash
-# Runs what the pages show: every command of README.md, docs/GUIDE.md, docs/RECIPES.md and the examples of the man pages, each page in a
-# folder of its own that looks like a checkout after `make`. A page's blocks
+# Runs what the pages show: every command of README.md, docs/GUIDE.md, docs/RECIPES.md and the examples of the man pages. Each page has a
+# folder of its own that looks like a checkout after `make`. A block of a page is one of these:
 #
-#   ```sh      are commands, run in their order; the words after `sh` are further programs that the block needs
-#   ```        are excerpts: their lines stand, one after the other, in what the last commands printed or in a file that the page made
+#   ```sh      commands, run in order; the words after `sh` are further programs that the block needs
+#   ```        an excerpt: its lines stand, one after the other, in what the last commands printed or in a file that the page made
 #
-# and in its tables a command `bin/da65 ..` or `bin/as65 ..` is run, and where a row has an information file or a command, and beside it
-# the message `da65: ..` or the word nothing, that is what the program says. The assembler is the as65 beside the program. The examples of
-# as65's and trace65's man pages are run, and that of da65's at five addresses, and for 64 KiB. So are the rows of docs/INFORMATION_FILE.md
-# that have a message. Without ca65 and ld65 the script fails, unless CA65=skip is set: then each section ends at the first block that needs
-# them.
+# In tables, a command `bin/da65 ..` or `bin/as65 ..` is run. If a row has an information file or a command, and beside it the message
+# `da65: ..` or the word nothing, the program must say that; so must it for the rows of docs/INFORMATION_FILE.md with a message. The example
+# of da65's man page is run at five addresses, and for 64 KiB. Without ca65 and ld65 the script fails, unless CA65=skip is set: then each
+# section ends at the first block that needs them.
 #
-# Then it installs, under the programs' names and under others, and takes everything away again: bash and zsh complete every option of the
-# help texts, and the man pages are well formed and refer to nothing that is not installed. zsh and mandoc are left out where they are
-# not installed.
+# Then the script installs everything, under the programs' names and under others, and uninstalls it. bash and zsh must complete every
+# option of the help texts. The man pages must be well formed and refer only to what is installed. Without zsh or mandoc, their tests are
+# left out.
 # Usage: tests/docs.sh PROGRAM
 set -u
 program=$(realpath "$1")

@@ -1,5 +1,5 @@
 #!/usr/bin/env bash
-# What the programs do with files: one table of rows, which each program runs. What is wanted is what the man pages say.
+# Tests what the programs do with files: one table of rows, which each program runs. The expected results are those of the man pages.
 # Usage: tests/files.sh PROGRAM..
 set -u
 mapfile -t programs < <(realpath "$@")

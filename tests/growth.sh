@@ -1,10 +1,10 @@
 #!/usr/bin/env bash
-# What a run takes, and that it goes on as its input grows. Three parts, all of them if none is named:
-#   sizes   each small number and each length, with ample memory. No contract forbids a false answer that memory ran out, so each of
-#           these must list, or be refused for its own reason. What is wanted is made here.
-#   work    the files that the program opens, and the as65 beside it, their reads, writes and memory, which tests/shim.c counts; and each
-#           allocation refused in turn, of these, of name65 and of the test of options_of. Without cc, which makes the shim, it fails,
-#           unless CC=skip is set: then it is left out.
+# Tests what a run takes, and that it keeps working as its input grows. There are three parts; all of them run if none is named:
+#   sizes   each small number and each length, with ample memory. No contract forbids a false "out of memory", so each of these must be
+#           listed, or be refused for its own reason. The script makes the expected listings.
+#   work    opens, reads, writes and memory of the program and of the as65 beside it, which tests/shim.c counts; and each allocation
+#           refused in turn, in these, in name65 and in the test of options_of. It needs cc, which makes the shim: without it the script
+#           fails, unless CC=skip is set, which leaves this part out.
 #   time    twice as many take at most three times as long.
 # Usage: tests/growth.sh PROGRAM [PART]..
 set -u

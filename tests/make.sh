@@ -1,7 +1,7 @@
 #!/usr/bin/env bash
-# What `make` does with the prover, and in which order: a stand-in for `rt` notes in which crate it is run, wants the libraries below it,
-# and proves nothing. stmt65 and info65, which do not stand on each other, each wait for the other to begin. How far they are is said once
-# a second here.
+# Tests what `make` does with the prover, and in which order. A stand-in for `rt` notes in which crate it runs, needs the libraries of the
+# crates below, and proves nothing. stmt65 and info65, which do not depend on each other, each wait until the other begins. Here `make`
+# prints its progress once a second.
 # Usage: tests/make.sh
 set -u
 root=$(realpath "$(dirname "$0")/..")

@@ -1,5 +1,5 @@
 #!/usr/bin/env bash
-# name65 on real files: its messages, what it writes, and that whatever trace65 proposes, the listing by names gives the image back.
+# Tests name65 on real files: its messages, and what it writes. Whatever trace65 proposes, the listing by names has to give the image back.
 # Usage: tests/name65.sh NAME65 DA65 AS65 TRACE65
 set -u
 program=$(realpath "$1")

@@ -1,5 +1,5 @@
 #!/usr/bin/env bash
-# The program on real files: what it writes, where, and with which status.
+# Tests da65 on real files: what it writes, where, and with which status.
 # Usage: tests/program.sh PROGRAM
 set -u
 program=$(realpath "$1")

@@ -1,7 +1,7 @@
-# What tests of a program on real files have in common, for scripts to source that have set `program`: a folder of its own, in which
-# the script goes on and from which it is taken away at the end, and the rows of its table. `failed` is 1 once a row failed.
+# What the tests of a program on real files share, for scripts to source that have set `program`: the rows of a table, and a folder of its
+# own, in which the script runs, and which is removed at the end. `failed` is 1 once a row failed.
 
-# A make that is run here is none of that which runs the script.
+# A make that is run here must not take part in the make that runs the script.
 unset MAKEFLAGS MAKELEVEL
 
 work=$(mktemp -d)

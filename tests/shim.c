@@ -1,11 +1,13 @@
-/* Loaded before the C library (LD_PRELOAD), it counts the files that a program opens, its reads, writes and bytes of memory, and can
-   refuse one allocation, or to open, read, write or close one file.
-   At the end it writes six numbers on the file that SHIM_COUNTS names: the files opened, the reads, the writes, the greatest number
-   of bytes of memory at one time, the bytes asked for over the whole run, and the allocations. It appends the name of each file that
-   is opened, as a line, to the file that SHIM_OPENS names. SHIM_REFUSE is the number of the allocation that is refused, and
-   SHIM_REFUSE_OPEN, SHIM_REFUSE_READ, SHIM_REFUSE_WRITE and SHIM_REFUSE_CLOSE are those of what is refused of a file, all counted from
-   1. SHIM_ERROR is the number of the error with which that is refused, ENOMEM if it is not set. What SHIM_ELSEWHERE names is said to be
-   on another device. */
+/* Loaded before the C library (LD_PRELOAD), it counts the files that a program opens, its reads, writes and bytes of memory. It can
+   also refuse one allocation, or one open, read, write or close of a file.
+
+   SHIM_COUNTS    names the file that gets six numbers at the end: the files opened, the reads, the writes, the greatest number of bytes
+                  of memory at one time, the bytes asked for over the whole run, and the allocations
+   SHIM_OPENS     names the file to which the name of each opened file is appended, as a line
+   SHIM_REFUSE    the number of the allocation that is refused, counted from 1; SHIM_REFUSE_OPEN, SHIM_REFUSE_READ, SHIM_REFUSE_WRITE
+                  and SHIM_REFUSE_CLOSE are those of calls on files
+   SHIM_ERROR     the number of the error with which such a call is refused, by default ENOMEM
+   SHIM_ELSEWHERE names what is reported to be on another device */
 #define _GNU_SOURCE
 #include <dlfcn.h>
 #include <errno.h>

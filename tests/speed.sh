@@ -1,8 +1,8 @@
 #!/usr/bin/env bash
-# How many instructions the programs take, by valgrind's callgrind: da65 beside cc65's da65 on the same bytes, for large information files
-# also the most memory; as65 beside ca65 and ld65, name65 beside as65, and trace65 by itself. Each row has the ratio that docs/GATE.md gives
-# it: more than a twentieth above it is a failure. Runs differ by less than a thousandth. Twice as many groups or lines take at most 2.3
-# times the instructions. Without valgrind, GNU time or cc65 it is left out.
+# Counts the instructions that the programs take, by valgrind's callgrind: da65 beside cc65's da65 on the same bytes, as65 beside ca65 and
+# ld65, name65 beside as65, and trace65 by itself. For large information files it also measures the most memory. Each row has the figure of
+# docs/GATE.md, and fails if it is more than a twentieth above that. Runs differ by less than a thousandth. Twice as many groups or lines
+# take at most 2.3 times the instructions. Without valgrind, GNU time or cc65 the script does nothing.
 # Usage: tests/speed.sh PROGRAM
 set -u
 program=$(realpath "$1")

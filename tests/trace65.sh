@@ -1,7 +1,7 @@
 #!/usr/bin/env bash
-# trace65 on real files: its messages, what it proposes, and that da65 lists each image with what it proposes, and as65 gives the image
-# back, also from the listing by names of name65. That listing and the programs of tests/moves go through ca65 and ld65: without these it
-# fails, unless CA65=skip is set.
+# Tests trace65 on real files: its messages, and what it proposes. da65 lists each image with the proposals, and as65 has to give the image
+# back, also from the listing by names of name65. That listing and the programs of tests/moves go through ca65 and ld65: without these the
+# script fails, unless CA65=skip is set.
 # Usage: tests/trace65.sh TRACE65 DA65 AS65 NAME65
 set -u
 program=$(realpath "$1")

@@ -8,7 +8,7 @@ from source import CRATES, ROOT
 
 CLAUSE, SCRIPT, PAGE, MANUAL = 100, 140, 120, 80
 
-# How many lines of clauses in src/ are wider, by crate. Where there are fewer, the number here is to be made smaller.
+# How many lines of clauses in src/ are wider, by crate. If there are fewer, make the number here smaller.
 WIDER = {
     "isa65": 2,
     "text65": 1,

@@ -1,6 +1,6 @@
-"""A snapshot of the public contracts: docs/contracts/CRATE.txt has every public item of a crate, its clauses word for word, and the
-definitions that these cite by checksum. Public is what the root of a library gives out, and whatever a row of docs/PROOFS.md names; of a
-program, every `pub` item."""
+"""A snapshot of the public contracts: docs/contracts/CRATE.txt has every public item of a crate, its clauses word for word, and a checksum
+of each definition that these cite. Public is what the root of a library exports, and whatever a row of docs/PROOFS.md names; in a program,
+every `pub` item."""
 
 import difflib
 import re

@@ -1,4 +1,4 @@
-"""The definitions that contracts cite: the files of `specs/`, what each definition cites in turn, and a checksum that covers all that."""
+"""The definitions that contracts cite: the files of `specs/`, what each definition cites in turn, and a checksum over all of that."""
 
 import hashlib
 import re

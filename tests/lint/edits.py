@@ -1,5 +1,5 @@
-"""Each edit that must fail can be applied: its file is there, and each text that it replaces stands in it once. `rt ci` passes over an edit
-that can not be applied. And each wrong body that is named here has its edit, or the tests that refuse it."""
+"""Each edit that must fail can be applied: its file exists, and has each text that it replaces exactly once. `rt ci` skips an edit that
+can't be applied. And each wrong body that is listed here has its edit, or the tests that refuse it."""
 
 import re
 
@@ -20,8 +20,8 @@ WRONG_BODIES = {
     "stmt65": """zero_page_for_a_later_name refuses_every_text accepts_a_doubled_name sized_by_base_name""",
 }
 
-# Those that no contract refuses, each with a test that does, and its file: whether memory ran out, and how much there was, is nothing
-# that a contract can say.
+# Those that no contract refuses, each with a test that does, and its file: a contract can't say whether memory ran out, or how much there
+# was.
 TESTED_BODIES = (
     ("always_out_of_memory", "each_allocation_refused_in_turn", "conformance/src/tests/memory.rt"),
     ("always_out_of_memory", "each_allocation_of_a_large_image_refused_in_turn", "conformance/src/tests/memory.rt"),

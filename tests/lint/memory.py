@@ -1,6 +1,6 @@
-"""No contract tells a made-up answer "out of memory" from a true one. So the functions that name one are listed here, each with how often:
-look at one more or one less, and then change the list. An import that gives such an answer another name, or brings in a variant by itself, is
-refused, since its uses could not be told."""
+"""No contract can tell a made-up "out of memory" from a real one. So the functions that return one are listed here, each with how often:
+if one is added or removed, check it, and then change the list. An import that gives such a variant another name, or imports it by itself, is
+refused, since its uses could not be found."""
 
 import re
 

@@ -1,5 +1,5 @@
-"""The include files of names/: after the lines that say what a file names, a line a name, with four digits and a comment, in the order of
-the addresses. No address and no name stands twice in a file. That no name is reserved, the program says, which tests/program.sh runs."""
+"""The include files of names/: after lines that say what a file is about, one line for each name, with four digits and a comment, ordered
+by address. No address and no name stands twice in a file. tests/program.sh runs the program, which checks that no name is reserved."""
 
 import re
 

@@ -1,6 +1,5 @@
-"""Each promise of docs/PROOFS.md stands in the public contracts: each function that its tables name has a contract, and each clause that
-they name stands in the contract of a function of its row, or of each function of it where the row says `of each`. What the contracts are is
-in docs/contracts."""
+"""Each promise of docs/PROOFS.md stands in the public contracts, as docs/contracts has them: each function that its tables name has a
+contract. Each clause that they name stands in the contract of a function of its row, or of each function of the row if that says `of each`."""
 
 import re
 

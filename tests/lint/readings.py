@@ -1,12 +1,12 @@
-"""A listing and the meaning of a text are defined apart, so that the law of reassembly compares two definitions. What the definitions of both
-stand on is listed here: each module of `specs/` that the imports of both lead to, and the names that either group takes from it. Look at a
-module or a name more or less than these, and then change the list."""
+"""A listing and the meaning of a text are defined separately, so that the law of reassembly compares two definitions. What both use is
+listed here: each module of `specs/` that the imports of both lead to, and the names that either group takes from it. If a module or a name
+is added or removed, check it, and then change the list."""
 
 from definitions import definitions
 from source import ROOT
 
-# The modules that the definition of a listing begins with, and those of what a text means. The types of the code (`declared`) and what
-# is said of a constant (`contracts`) are no definitions.
+# The modules with which the definition of a listing begins, and those of the meaning of a text. The types of the code (`declared`) and
+# what is said of a constant (`contracts`) are not definitions.
 LISTING = "da65.Listing stmt65.Line stmt65.Printable stmt65.Code.StatementViews"
 TEXT = "stmt65.Meaning stmt65.LineAddresses stmt65.Spelling stmt65.Spacing stmt65.Code.MeaningViews"
 OUTSIDE = ("std", "arrayvec", "itoa", "clap")

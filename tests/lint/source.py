@@ -1,5 +1,5 @@
-"""The files of Rattle code, in the layout of `rt fmt`: their items, with clauses and bodies, and what their imports name. What is not
-understood is refused, with file and line."""
+"""The files of Rattle code, in the layout of `rt fmt`: their items, with clauses and bodies, and what their imports name. What the script
+does not understand is refused, with file and line."""
 
 import re
 from functools import cache
@@ -7,7 +7,7 @@ from pathlib import Path
 from typing import NamedTuple
 
 ROOT = Path(__file__).resolve().parent.parent.parent
-# Tests and an example of a caller, which nobody calls.
+# Tests, and an example of a caller: no crate uses them.
 LEFT_OUT = ("conformance", "unit_tests", "relist")
 ALL_CRATES = re.findall(r"^(\w+):", (ROOT / "crates.txt").read_text(), re.MULTILINE)
 CRATES = [name for name in ALL_CRATES if name not in LEFT_OUT]

@@ -1,5 +1,5 @@
 """The words that an information file may have are those of docs/INFORMATION_FILE.md: each table of words in the definitions has exactly the
-words of its table on the page. That a word means what the page says is held by the rows that the proofs of info65 compute."""
+words of its table on the page. The rows that the proofs of info65 compute check that a word means what the page says."""
 
 import re
 
