@@ -1,11 +1,14 @@
-"""Each link of a page leads to a file, or to a heading of it. Each name that docs/ARCHITECTURE.md has in back quotes stands in the tree: it is
-a file, a folder, or a word of the code, of a definition, of a proof or of a script. The README has at most 200 lines."""
+"""Each link of a page leads to a file, or to a heading of it. Each name that a page about the code has in back quotes stands in the tree: it
+is a file, a folder, or a word of the code, of a definition, of a proof or of a script. The README has at most 200 lines."""
 
 import re
 
 from source import ROOT
 
 README_LINES = 200
+ABOUT_CODE = ("ARCHITECTURE", "CONTRIBUTING", "DECISIONS", "GATE", "LIBRARY", "PROOFS")
+# Names of std, of the prover's files and of an instruction.
+OUTSIDE = {"BufWriter", "HashMap", "Lts", "bbs"}
 CODE = ("crates/*/src/**/*.rt", "crates/*/specs/**/*.antt", "crates/*/proofs/**/*.antt", "crates/*/must-fail/*", "tests/*.sh", "tests/lint/*.py")
 NAMED = ("*", "crates/*", "docs/*", "tests/*", "examples/*")
 
@@ -29,12 +32,16 @@ def lost_links(path):
             yield f"{path.name}: no {target}"
 
 
-def lost_names(path):
+def names_of_tree():
     files = [file for pattern in CODE for file in ROOT.glob(pattern)]
-    known = {word for file in files for word in re.findall(r"[\w'-]+|\w+", file.read_text())}
-    known |= {word for words in list(known) for word in words.split("-")}
+    names = {word for file in files for word in re.findall(r"[\w'-]+", file.read_text())}
+    names |= {word for words in list(names) for word in words.split("-")}
     for file in [*files, *(file for pattern in NAMED for file in ROOT.glob(pattern))]:
-        known |= {file.stem, *file.relative_to(ROOT).parts}
+        names |= {file.stem, *file.relative_to(ROOT).parts}
+    return names
+
+
+def lost_names(path, known):
     for name in re.findall(r"`([A-Za-z_][\w:/.-]*\w)`", shown(path)):
         lost = [part for part in re.split(r"::|[/.]", name) if part not in known]
         if lost:
@@ -42,9 +49,11 @@ def lost_names(path):
 
 
 def check(write):
+    known = names_of_tree() | OUTSIDE
     for path in sorted([*ROOT.glob("*.md"), *(ROOT / "docs").glob("*.md")]):
         yield from lost_links(path)
-    yield from lost_names(ROOT / "docs" / "ARCHITECTURE.md")
+        if path.stem in ABOUT_CODE:
+            yield from lost_names(path, known)
     lines = len((ROOT / "README.md").read_text().splitlines())
     if lines > README_LINES:
         yield f"README.md: {lines} lines, and not at most {README_LINES}"
