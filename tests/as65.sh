@@ -113,7 +113,7 @@ done
 for text in 'lda #%102' '.byte %' '.word % 1' 'lda #%12 ; five'; do
     refuses "a binary number that is none in $text" " nop\n $text\n" 2 "syntax error: a binary number is written %1010: $text"
 done
-# Of what a line has the first of the table counts.
+# If a line has several of these, the first of the table counts.
 while IFS='|' read -r text hint; do
     printf -v shown '%b' "$text"
     refuses "the first of two that $text has" "$text\n" 1 "syntax error: $hint: ${shown%$'\r'}"
@@ -306,7 +306,7 @@ places() {
     runs "$1" 0 "$3" '' -i places.info --fill 0xff text.s
 }
 
-# refuses_place NAME TEXT LINE CAUSE: so it is refused at this line, as it is beside an image.
+# refuses_place NAME TEXT LINE CAUSE: then the text is refused at this line, also beside an image.
 refuses_place() {
     printf '%b' "$2" >text.s
     echo old >out.bin
@@ -381,7 +381,7 @@ for len in 80 81 5000; do
         -S 0x1000 --compare three.bin wide.s
 done
 yes ' .byte 0,1' | head -n 32768 >every.s
-# Lines that are looked for from the first one on, for each stretch anew, take far longer.
+# Searching the lines from the first one, anew for each stretch, would take far longer.
 timeout 5 "$program" -S 0 --compare zeros.bin every.s >stdout 2>stderr
 ends 'every second byte' 1 $? ''
 [ "$(wc -l <stdout)" = 32768 ] || fails 'every second byte' "$(wc -l <stdout) lines and not 32768"
@@ -415,7 +415,7 @@ printf '\xea\xa9\x12\x34\x35' >halves.bin
 runs 'halves that do not differ' 0 '' '' -S 0x1000 --compare halves.bin halves.s
 runs 'a fault before a comparison' 2 '' "as65: three.s:6: past the end of the address space: rts\n" -S 0xFFFE --compare short.bin three.s
 
-# ---- a start that the names of labels speak for
+# ---- a start that the names of labels suggest
 
 # speaks NAME TEXT SAID: the text is compared with three bytes that differ, without a start, and that is said of its labels.
 speaks() {
@@ -550,7 +550,7 @@ runs 'a listing with a name of two lines' 1 '' 'as65: a\\nb:6: past the end of t
 runs 'the image comes before the listing' 2 '' 'as65: cannot read no.bin\n' --compare no.bin no.s
 runs 'an empty image' 2 '' 'as65: the image is empty\n' --compare empty three.s
 runs 'an image that extends past $FFFF' 2 '' 'as65: the image is too large\n' -S 0xFFFE --compare three.bin three.s
-# More bytes than there may be, without an end.
+# An endless file.
 (ulimit -v 1000000; timeout 60 "$program" -S 0 /dev/zero >stdout 2>stderr)
 ends 'a listing without an end' 1 $? 'as65: input is too large\n'
 runs 'an image without an end' 2 '' 'as65: the image is too large\n' --compare /dev/zero three.s

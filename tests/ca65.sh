@@ -99,8 +99,8 @@ fi
 
 # ---- names of machines
 
-# names_agree FILE COUNT OTHERS INCLUDE..: these include files of cc65 have so many of the names of names/FILE.inc, or more, and give them
-# the same values, but for the others.
+# names_agree FILE COUNT OTHERS INCLUDE..: these include files of cc65 have at least that many of the names of names/FILE.inc, and give them
+# the same values, except the others.
 names_agree() {
     local file=$1 count=$2 others=$3 include both name
     shift 3

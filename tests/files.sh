@@ -7,7 +7,7 @@ program=${programs[0]}
 root=$(realpath "$(dirname "$0")/..")
 . "$root/tests/rows.sh"
 
-# The programs as a user that may not open what is this one's: another one for root, who may open everything.
+# Runs the programs as a user who can't open the files of this one. Only root needs another user, since root may open everything.
 as_other=()
 if [ "$(id -u)" = 0 ]; then
     command -v setpriv >/dev/null || { echo 'files: root needs setpriv, of util-linux'; exit 1; }
@@ -36,7 +36,7 @@ use() {
     input=$main
 }
 
-# Inputs as they are to be: an image of three instructions, the names of the two bytes that it reads, in an include file each, and its
+# The inputs: an image of three instructions, the names of the two bytes that it reads, in an include file each, and its
 # listing. The image to compare with has another last byte.
 printf '\xad\x07\x10\xad\x08\x10\x60' >image.good
 printf '\xad\x07\x10\xad\x08\x10\xea' >other.good
@@ -136,7 +136,7 @@ keeps() {
 }
 echo old >old
 
-# refuses ROW MESSAGE: so the run was refused. After a mark of exclamation the output was emptied before.
+# refuses ROW MESSAGE: the run was refused with this message. After an exclamation mark the output was emptied before.
 refuses() {
     says "$1" $trouble "${2#!}"
     if [ "${2#!}" = "$2" ]; then keeps "$1"; else has "$1" in/out /dev/null; fi
@@ -169,7 +169,7 @@ ROWS
     input=$main
 }
 
-# sizes COUNT: makes the input so large, by a comment or by bytes of the image.
+# sizes COUNT: makes the input that large, by a comment or by bytes of the image.
 sizes() {
     case $input in
     info) { cat in/y.info; printf '#'; } >sized ;;
@@ -234,7 +234,7 @@ from_stream() {
     go timeout 10
     wait $!
     wrote "$input from a pipe with a name" stdout
-    # Standard input is read from where it stands, also if its file may not be opened; what has another name from its first byte on.
+    # Standard input is read from its position, even if its file can't be opened; a file by another name from its first byte.
     for by in /dev/stdin handed /dev/fd/0 -; do
         begin
         out=none
@@ -279,7 +279,7 @@ from_streams() {
     wrote 'a listing without a name' stdout
 }
 
-# A stream has its bytes once, by whichever names. Only as65 and name65 say so.
+# A stream has its bytes only once, by any name. Only as65 and name65 say so.
 one_stream_twice() {
     local pair one other names pairs=(info,listing)
     [ $main = listing ] || return
@@ -382,7 +382,7 @@ own_outputs() {
     }
 }
 
-# creates OUTPUT SAID [OF_TRACE65 [OF_NAME65]]: what is said of an output of this name. Where that is nothing, what is written goes there.
+# creates OUTPUT SAID [OF_TRACE65 [OF_NAME65]]: what is said of an output of this name. If that is nothing, the output goes there.
 creates() {
     local output=$1 said=$2
     [ $run != trace65 ] || said=${3-$2}
@@ -529,7 +529,7 @@ many() {
     esac
 }
 
-# Where the signal SIGXFSZ is ignored a write fails, and else it ends the program: both leave a prefix.
+# If the signal SIGXFSZ is ignored, a write fails; otherwise it ends the program. Both leave a prefix.
 cut_off() {
     local to signal
     begin
@@ -553,7 +553,7 @@ cut_off() {
     done
 }
 
-# In less and less memory the run is fine, or runs out and writes nothing. Below some limit the program is not even started.
+# With less and less memory the run succeeds, or runs out and writes nothing. Below some limit the program is not even started.
 less_memory() {
     local was_fine=0 ran_out=0 limit
     begin
@@ -589,7 +589,7 @@ fails_at() {
     refuses "$4" "$5"
 }
 
-# The files that are opened, in their order, and what is said where one can't be; 2 is ENOENT, 13 EACCES and 12 ENOMEM.
+# The files that are opened, in their order, and the message if one can't be; 2 is ENOENT, 13 EACCES and 12 ENOMEM.
 each_open() {
     local at=3 opened
     begin
@@ -660,7 +660,7 @@ each_write() {
     says 'a message' $trouble ''
     has 'a message' stdout /dev/null
     [ "$(cut -d' ' -f3 counts)" = 1 ] || fails "$run: a message" "$(cut -d' ' -f3 counts) writes after one that failed"
-    # What a close says comes too late to be seen.
+    # A failure of close comes too late to be seen.
     for at in 1 2 3 4 5 6 7 8; do
         begin
         LD_PRELOAD=$work/shim.so SHIM_REFUSE_CLOSE=$at SHIM_ERROR=5 go

@@ -47,17 +47,17 @@ wants() {
     printf '; da65 listing\n\n        .setcpu "6502"\n\n%s' "$1" >wanted.s
 }
 
-# repeats COUNT TEXT: prints a text so many times.
+# repeats COUNT TEXT: prints a text that many times.
 repeats() {
     [ "$1" = 0 ] || printf "%0.s$2" $(seq "$1")
 }
 
-# image COUNT BYTE: the file image.bin, and one byte of this octal number so many times.
+# image COUNT BYTE: the file image.bin, with a byte of this octal number that many times.
 image() {
     head -c "$1" /dev/zero | tr '\0' "\\$2" >image.bin
 }
 
-# table TYPE COUNT: the lines of a table of so many bytes $41.
+# table TYPE COUNT: the lines of a table of that many bytes $41.
 table() {
     awk -v type="$1" -v count="$2" 'BEGIN {
         size = type ~ /^(WORD|DBYTE|ADDR|RTS)/ ? 2 : type ~ /^DWORD/ ? 4 : 1

@@ -49,8 +49,8 @@ for folder in "$root"/crates/*; do
     echo "// one" >"crates/$(basename "$folder")/src/lib.rt"
 done
 
-# makes NAME STATUS LAST CRATES WORD..: make on the words ends with this status, prints this line last of those that are no error of its
-# own, and has the prover run once in each of these crates, and in no other.
+# makes NAME STATUS LAST CRATES WORD..: make with these words ends with this status. Apart from its own errors it prints this line last.
+# It runs the prover once in each of these crates, and in no other.
 makes() {
     local name=$1 status=$2 last=$3 crates=$4 got
     shift 4

@@ -100,7 +100,7 @@ holds 'names of the C64 KERNAL' kernal.s "$header$constants$body"
 runs 'a faulty line of an include file' 1 '' 'da65: include k.inc:3: bad include line\n' -i strict.info call.bin
 runs 'an input that can not be opened comes before an include file' 1 '' 'da65: cannot read no.bin\n' -i missing.info no.bin
 runs 'no input name comes before an include file' 1 '' 'da65: no input file\n' -i missing.info
-# A name that stands twice is that of one file. That it is read once is counted by tests/growth.sh.
+# A name that is given twice stands for one file. tests/growth.sh counts that it is read once.
 printf 'CHROUT = $FFD2\n' | "$program" -i piped.info call.bin >stdout 2>stderr
 ends 'an include file from a pipe' 0 $? ''
 holds 'an include file from a pipe' stdout "$call"
@@ -115,7 +115,7 @@ runs 'two include files with names of one length' 0 "$loads" '' -i pair.info loa
 printf 'GLOBAL { STARTADDR $1000; };\nASMINC { FILE "empty.inc"; };\nASMINC { FILE "one.inc"; };\nASMINC { FILE "two.inc"; };' \
     >after_empty.info
 runs 'an empty include file' 0 "$loads" '' -i after_empty.info loads.bin
-# Each of sixteen include files gives the operand of one instruction its name, and the last of them is missing then.
+# Each of sixteen include files gives the operand of one instruction its name; then the last of them is missing.
 : >sixteen.bin
 constants=
 body=
@@ -132,7 +132,7 @@ runs 'sixteen include files' 0 "$header$constants\n$body" '' -i sixteen.info six
 rm k25.inc
 runs 'the last of sixteen include files is missing' 1 '' 'da65: cannot read include k25.inc\n' -i sixteen.info sixteen.bin
 
-# The names of machines: each line of a file is taken, without IGNOREUNKNOWN, and the listing of an image that has none of its addresses
+# The names of machines: each line of a file is accepted, without IGNOREUNKNOWN, and the listing of an image that has none of its addresses
 # defines them all.
 for file in "$root"/names/*.inc; do
     cp "$file" machine.inc
@@ -223,7 +223,7 @@ holds 'standard input to a file' out.s "$three"
 ends 'an information file from a pipe' 0 $? ''
 holds 'an information file from a pipe' stdout "$header        .byte   \$A9,\$01,\$60\n"
 
-# No byte after those that tell that a file is too large is read.
+# Nothing is read after the bytes that show that a file is too large.
 { cat large.info; printf 'rest'; } | { "$program" -i /dev/stdin three.bin >stdout 2>stderr; echo $? >status; cat >left; }
 ends 'an information file above its limit from a pipe' 1 "$(cat status)" 'da65: info:1: too large\n'
 holds 'an information file above its limit from a pipe' left 'rest'
@@ -231,7 +231,7 @@ holds 'an information file above its limit from a pipe' left 'rest'
 ends 'an include file above its limit from a pipe' 1 "$(cat status)" 'da65: include /dev/stdin:1: too large\n'
 holds 'an include file above its limit from a pipe' left 'rest'
 
-# More bytes than an information file may have, without an end.
+# An endless information file.
 (ulimit -v 1000000; timeout 60 "$program" -i /dev/zero three.bin >stdout 2>stderr)
 ends 'an information file without an end' 1 $? 'da65: info:1: too large\n'
 holds 'an information file without an end' stdout ''
@@ -258,7 +258,7 @@ holds 'a closed standard error beside standard input' out.s "$skipped"
 "$program" -i skip.info -o out.s three.bin <&- >&- 2>&-
 [ $? = 1 ] || fails 'no standard stream' 'status'
 holds 'no standard stream' out.s "$skipped"
-# Standard input is none of the files that are opened, so that the output has the lowest number there is.
+# Standard input is not one of the opened files, so the output gets the lowest free number.
 "$program" -o out.s /dev/stdin <&- >&- 2>&-
 [ $? = 1 ] || fails 'no standard stream, the output first' 'status'
 holds 'no standard stream, the output first' out.s ''

@@ -166,7 +166,7 @@ ssize_t __write(int file, const void *bytes, size_t count)
     return write(file, bytes, count);
 }
 
-/* The file is closed, as it is where the system says that a write of before has failed. */
+/* The file is closed, as it is if the system reports that an earlier write has failed. */
 int close(int file)
 {
     int status = (int)syscall(SYS_close, file);

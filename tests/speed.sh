@@ -70,7 +70,7 @@ names() {
     shows "$name" "$limit" "$ours" "$count" 44
 }
 
-# traces NAME LIMIT IMAGE: those of trace65 for the image, whose code begins at its first byte, at most so many millions.
+# traces NAME LIMIT IMAGE: those of trace65 for the image, whose code begins at its first byte, at most that many millions.
 traces() {
     instructions "$tracer" -S 0 --entry 0 "$3"
     printf '%-44s %12d\n' "$1" "$count"

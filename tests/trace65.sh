@@ -171,7 +171,7 @@ proposes 'five characters are a text' '1000-1005 ByteTable;1006-100A TextTable;1
 
 # ---- texts
 
-# shown NAME WANTED WORD..: what stands behind each range that is proposed.
+# shown NAME WANTED WORD..: what stands after each proposed range.
 shown() {
     local name=$1 wanted=$2 got
     shift 2
@@ -216,7 +216,7 @@ proposes 'the monitor' \
 'FE80-FE84 ByteTable;FE85-FE8A TextTable;FE8B-FE8F ByteTable;FE90-FE9C TextTable;FE9D-FED6 ByteTable;FED7-FFDE ByteTable;'\
 'FFDF-FFF9 ByteTable;FFFA-FFFF AddrTable;' \
     examples/board/monitor.bin
-# What the monitor of the board has besides its tables and what the vectors and the command table reach: the routines that programs call,
+# What the monitor of the board has apart from its tables and what the vectors and the command table reach: the routines that programs call,
 # and the jumps to them.
 proposes 'the monitor with its information file' 'FE3B-FE42 ByteTable;FEA0-FEC1 ByteTable;FEC8-FED6 ByteTable;FFDF-FFF9 ByteTable;' \
     --plain -i examples/board/board.info
@@ -529,7 +529,7 @@ image inline.info '#: INLINE { ADDR $1007; };\n'
 proposes 'a text behind a call' '1003-1005 TextTable;' -S 0x1000 -i inline.info print.bin
 comes_back 'it comes back' 0x1000 print.bin -i inline.info
 image inline.info '#: INLINE { ADDR $1007; SIZE 2; };\n#: INLINE { ADDR $1007; };\n'
-# brk behind the two bytes
+# brk after the two bytes
 proposes 'of two bytes, of the first of two groups' '1003-1004 ByteTable;1006-1006 ByteTable;' -S 0x1000 -i inline.info print.bin
 image inline.info '#: INLINE { ADDR $1006; };\n'
 proposes 'a group of another address' '' -S 0x1000 -i inline.info --plain print.bin
