@@ -10,7 +10,7 @@ from source import ROOT
 DOCS = ROOT / "docs"
 SOURCE, TARGET = DOCS / "INFORMATION_FILE.md", DOCS / "da65.info.5"
 HEAD = """.\\" Made from docs/INFORMATION_FILE.md. Rendered by: man -l docs/da65.info.5
-.TH DA65.INFO 5 "2026-11-25" "da65 profile 1" "File Formats"
+.TH DA65.INFO 5 "2026-11-27" "da65 profile 1" "File Formats"
 .SH NAME
 da65.info \\- information file of da65
 .SH DESCRIPTION
