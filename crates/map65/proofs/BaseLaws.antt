@@ -13,7 +13,7 @@ use Rattle.map65.proofs.ItemLaws.{begun, item_law}
 use Rattle.map65.proofs.ItemLemmas.{is_cut_at, joined-uncut, one-size}
 use Rattle.map65.proofs.NameLemmas.{base-covered, base-referenced, entry_start-default, entry_start-given, name-low, not-some}
 use Rattle.map65.proofs.NameLaws.{entry_start-entry_start, entry_start-inner, entry_start-referenced, under}
-use Rattle.map65.proofs.NamingLemmas.{entry_start-low, wide-shown}
+use Rattle.map65.proofs.NamingLemmas.{entry_start_low, wide-shown}
 use Rattle.map65.proofs.PieceLaws.{own-some}
 use Rattle.map65.specs.Bases.{BaseLaw, IsInCode, LiesBy, PlaceLaw}
 use Rattle.map65.specs.ImageView.{byte_at, is_inside}
@@ -51,8 +51,8 @@ from-name m a at b v low covers_it is =
     record { index = r.index; bound = r.low; low = omega (arith, ap (λ (x : Base). x.address) is, name-low m.info.names at v covers_it, low); text = ap (λ (x : Base). x.text) same; address = ap (λ (x : Base). x.address) same }
 
 from-entry_start : (m : MapView) (a : ℕ) (b : Base) → is_referenced m a ≡ true → entry_base m a ≡ b → (o : Option NameView) → covering m.info.names (entry_start m a) ≡ o → FromName m a b ⊎ FromAddress m a b
-from-entry_start m a b referenced is (Some v) covers_it = inl (from-name m a (entry_start m a) b v (entry_start-low m a) covers_it (sym (entry_start-given m a v covers_it) ∙ is))
-from-entry_start m a b referenced is None none = grind (arith, entry_start-default, entry_start-low, entry_start-referenced, entry_start-entry_start)
+from-entry_start m a b referenced is (Some v) covers_it = inl (from-name m a (entry_start m a) b v (entry_start_low m a) covers_it (sym (entry_start-given m a v covers_it) ∙ is))
+from-entry_start m a b referenced is None none = grind (arith, entry_start-default, entry_start_low, entry_start-referenced, entry_start-entry_start)
 
 from : (m : MapView) (a : ℕ) (b : Base) (o : Option NameView) (w : Bool) → covering m.info.names a ≡ o → is_referenced m a ≡ w → base_by o w (entry_base m a) ≡ Some b → FromName m a b ⊎ FromAddress m a b
 from m a b (Some v) w covers_it referenced is = inl (from-name m a a b v (omega arith) covers_it (some-base _ b is))

@@ -69,23 +69,23 @@ pub with_name-border : (c : ℕ) → with_name c / 256 ≡ c / 256
 unfolding with_name
 with_name-border c = omega arith
 
-pub with_name-again : (c : ℕ) → with_name (with_name c) ≡ with_name c
+pub with_name_again : (c : ℕ) → with_name (with_name c) ≡ with_name c
 unfolding with_name
-with_name-again c = omega arith
+with_name_again c = omega arith
 
 pub has_border-is : (c : ℕ) (b : Bool) → c / 256 ≡ bit b → has_border c ≡ b
 unfolding has_border
 has_border-is c true is = eq-eqb (c / 256 % 2) 1 (omega (arith, is))
 has_border-is c false is = ne_eqb (c / 256 % 2) 1 (omega (arith, is))
 
-pub with_border-again : (c : ℕ) → with_border (with_border c) ≡ with_border c
+pub with_border_again : (c : ℕ) → with_border (with_border c) ≡ with_border c
 unfolding with_border
-with_border-again c = omega arith
+with_border_again c = omega arith
 
 -- ---- all cells
 
-pub named-test : (p : ℕ → Bool) (cells : List ℕ) (a : ℕ) → AreNamed p cells → a < 65536 → is_named (get_or cells a 0) ≡ p a
-named-test p cells a named room = is_named-is (get_or cells a 0) (p a) (named.each a room)
+pub named_test : (p : ℕ → Bool) (cells : List ℕ) (a : ℕ) → AreNamed p cells → a < 65536 → is_named (get_or cells a 0) ≡ p a
+named_test p cells a named room = is_named-is (get_or cells a 0) (p a) (named.each a room)
 
 pub named-as : (p q : ℕ → Bool) (cells : List ℕ) → ((a : ℕ) → a < 65536 → p a ≡ q a) → AreNamed p cells → AreNamed q cells
 named-as p q cells same named = record { each = λ a room. named.each a room ∙ ap bit (same a room) }

@@ -81,16 +81,16 @@ piece-joined m zero a piece = refl
 piece-joined m (suc n) a piece =
     and_from _ _ (piece (a + 1) (omega arith) (omega arith)) (piece-joined m n (a + 1) (λ x low high. piece x (omega (arith, low)) (omega (arith, high))))
 
-pub size-whole : (m : MapView) (a : ℕ) → AreOnePiece m a (a + full_len_at m a - 1) → size_at m a ≡ full_len_at m a
+pub size_whole : (m : MapView) (a : ℕ) → AreOnePiece m a (a + full_len_at m a - 1) → size_at m a ≡ full_len_at m a
 unfolding size_at
-size-whole m a piece = grind (arith, piece-joined)
+size_whole m a piece = grind (arith, piece-joined)
 
-pub size-cut : (m : MapView) (a : ℕ) → (AreOnePiece m a (a + full_len_at m a - 1) → ⊥) → size_at m a ≡ 1
+pub size_cut : (m : MapView) (a : ℕ) → (AreOnePiece m a (a + full_len_at m a - 1) → ⊥) → size_at m a ≡ 1
 unfolding size_at
-size-cut m a apart = grind (arith, joined-piece)
+size_cut m a apart = grind (arith, joined-piece)
 
 counted : (m : MapView) → AreItems m (item_len m)
-counted m = grind (arith, item-then, item-if, begun, size-whole, size-cut)
+counted m = grind (arith, item-then, item-if, begun, size_whole, size_cut)
 
 -- ---- no others
 

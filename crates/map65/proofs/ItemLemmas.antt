@@ -50,8 +50,8 @@ joined-if m a run uncut = and_from _ _ run (ap not uncut)
 pub joined-in : (m : MapView) (a : ℕ) → is_joined m a ≡ true → InRun m a
 joined-in m a is = in-run m a (joined-run m a is)
 
-pub joined-high : (m : MapView) (a : ℕ) → is_joined m a ≡ true → a < end_of m.image
-joined-high m a is = (joined-in m a is).high
+pub joined_high : (m : MapView) (a : ℕ) → is_joined m a ≡ true → a < end_of m.image
+joined_high m a is = (joined-in m a is).high
 
 -- addresses that are joined one by one lie in one piece
 pub joined-piece : (m : MapView) (n a : ℕ) → are_joined m n a ≡ true → AreOnePiece m a (a + n)
@@ -138,7 +138,7 @@ size-fits m k inside =
     (λ one. omega (arith, one))
     (λ more.
     let last : ℕ = a + size_at m a - 1 in
-    omega (arith, joined-high m last (size-one-piece m a last (omega (arith, more, some)) (omega arith)), some))
+    omega (arith, joined_high m last (size-one-piece m a last (omega (arith, more, some)) (omega arith)), some))
     (cases_eq (size_at m a) 1)
 
 -- ---- how many bytes are left of a span

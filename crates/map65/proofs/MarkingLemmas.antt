@@ -5,10 +5,10 @@ use Rattle.std.proofs.Math.ListN.{length-set}
 use Rattle.std.proofs.lemmas.Bool.{and_parts, and_from, cases_eq, cases_lt, false≢true, lt-ltb, ltb-true, not-true}
 use Rattle.std.specs.Cmp.{both_ways}
 use Rattle.info65.specs.declared.information.range.RangeType.{RangeType}
-use Rattle.map65.proofs.CellLemmas.{named-test, cell-role, cell-wide, set-cell, with_len-lay, with_len-rest}
+use Rattle.map65.proofs.CellLemmas.{named_test, cell-role, cell-wide, set-cell, with_len-lay, with_len-rest}
 use Rattle.map65.proofs.ItemLaws.{Begun, begun}
-use Rattle.map65.proofs.ItemLemmas.{in-run, is_cut_at, inside-if, item-len-own, item_start-after, item_start-apart, item_start-within, joined-high, joined-if, joined-run, joined-uncut, size-fits, size-is, size-positive, start-apart}
-use Rattle.map65.proofs.RunLemmas.{plain-code, role_at-inside, run-cells, some-same}
+use Rattle.map65.proofs.ItemLemmas.{in-run, is_cut_at, inside-if, item-len-own, item_start-after, item_start-apart, item_start-within, joined_high, joined-if, joined-run, joined-uncut, size-fits, size-is, size-positive, start-apart}
+use Rattle.map65.proofs.RunLemmas.{plain-code, role_at-inside, run_cells, some_same}
 use Rattle.map65.specs.Code.Cells.{AreNamed, IsLaid, are_one_run, cell_of, is_cut, is_wide_cell, is_wide_role, lay_at, role_in_cell, with_len}
 use Rattle.map65.specs.Cells.{bit}
 use Rattle.map65.specs.Code.Marking.{AreMarkedBelow, is_joined_in}
@@ -22,11 +22,11 @@ use Rattle.map65.specs.Segments.{is_border}
 -- ---- roles
 
 -- a cell without a length holds its role
-pub role-known : (m : MapView) (a at : ℕ) (cells : List ℕ) (o : Option RangeType) → at ≡ a → m.image.start ≤ a → a < end_of m.image → a < 65536 → AreMarkedBelow m a cells → o ≡ role_in_cell (get_or cells at 0) → o ≡ Some (role_of m.info a)
-role-known m a at cells o place low high room old says = grind (arith, cell-role, role_at-inside)
+pub role_known : (m : MapView) (a at : ℕ) (cells : List ℕ) (o : Option RangeType) → at ≡ a → m.image.start ≤ a → a < end_of m.image → a < 65536 → AreMarkedBelow m a cells → o ≡ role_in_cell (get_or cells at 0) → o ≡ Some (role_of m.info a)
+role_known m a at cells o place low high room old says = grind (arith, cell-role, role_at-inside)
 
-pub role-here : (m : MapView) (a at : ℕ) (cells : List ℕ) (o : Option RangeType) (r : RangeType) → at ≡ a → m.image.start ≤ a → a < end_of m.image → a < 65536 → AreMarkedBelow m a cells → o ≡ role_in_cell (get_or cells at 0) → o ≡ Some r → r ≡ role_of m.info a
-role-here m a at cells o r place low high room old says is = some-same r (role_of m.info a) (sym is ∙ role-known m a at cells o place low high room old says)
+pub role_here : (m : MapView) (a at : ℕ) (cells : List ℕ) (o : Option RangeType) (r : RangeType) → at ≡ a → m.image.start ≤ a → a < end_of m.image → a < 65536 → AreMarkedBelow m a cells → o ≡ role_in_cell (get_or cells at 0) → o ≡ Some r → r ≡ role_of m.info a
+role_here m a at cells o r place low high room old says is = some_same r (role_of m.info a) (sym is ∙ role_known m a at cells o place low high room old says)
 
 -- ---- pieces
 
@@ -34,7 +34,7 @@ module _ (m : MapView) (n a : ℕ) (cells : List ℕ) (old : AreMarkedBelow m n 
   -- the cells say where a run ends
   run-here : a < 65536 → are_one_run (get_or cells (a - 1) 0) (get_or cells a 0) ≡ is_in_run m a
   run-here below =
-      run-cells m a (get_or cells (a - 1) 0) (get_or cells a 0) (omega (arith, after))
+      run_cells m a (get_or cells (a - 1) 0) (get_or cells a 0) (omega (arith, after))
       (plain-code _ (role_at m (a - 1)) 0 (omega arith) (old.plain (a - 1) (omega (arith, room, high)) (omega (arith, after))))
       (plain-code _ (role_at m a) 0 (omega arith) (old.plain a below (omega (arith, after))))
       (old.borders.each a below)
@@ -44,7 +44,7 @@ module _ (m : MapView) (n a : ℕ) (cells : List ℕ) (old : AreMarkedBelow m n 
   cut-cell last =
       let below : a < 65536 = omega (arith, room, last) in
       let wide : is_wide_cell (get_or cells a 0) ≡ is_wide (role_of m.info a) = cell-wide (get_or cells a 0) (role_at m a) 0 (omega arith) (old.plain a below (omega (arith, after))) ∙ ap is_wide_role (role_at-inside m a (omega (arith, low, after)) last) in
-      ap₂ (λ p q. p && q) (named-test (is_own m.info.names) cells a own below) wide ∙ and_comm (is_own m.info.names a) (is_wide (role_of m.info a))
+      ap₂ (λ p q. p && q) (named_test (is_own m.info.names) cells a own below) wide ∙ and_comm (is_own m.info.names a) (is_wide (role_of m.info a))
 
   joined-alike : is_joined_in cells a ≡ true → is_joined m a ≡ true
   unfolding is_joined_in
@@ -57,15 +57,15 @@ module _ (m : MapView) (n a : ℕ) (cells : List ℕ) (old : AreMarkedBelow m n 
   alike-joined : is_joined m a ≡ true → is_joined_in cells a ≡ true
   unfolding is_joined_in
   alike-joined joined =
-      let last : a < end_of m.image = joined-high m a joined in
+      let last : a < end_of m.image = joined_high m a joined in
       and_from _ _ (lt-ltb a (length cells) (omega (arith, room, last, old.count))) (and_from _ _ (run-here (omega (arith, room, last)) ∙ joined-run m a joined) (ap not (cut-cell last ∙ joined-uncut m a joined)))
 
   joined-cells : is_joined_in cells a ≡ is_joined m a
   joined-cells = both_ways (is_joined_in cells a) (is_joined m a) joined-alike alike-joined
 
 -- the result of the test is whether the address is joined
-pub joined-answer : (m : MapView) (n a at : ℕ) (cells : List ℕ) (answer b : Bool) → at ≡ a → AreMarkedBelow m n cells → AreNamed (is_own m.info.names) cells → end_of m.image ≤ 65536 → m.image.start ≤ n → n < a → a - 1 < end_of m.image → answer ≡ is_joined_in cells at → answer ≡ b → is_joined m a ≡ b
-joined-answer m n a at cells answer b place old own room low after high says is =
+pub joined_answer : (m : MapView) (n a at : ℕ) (cells : List ℕ) (answer b : Bool) → at ≡ a → AreMarkedBelow m n cells → AreNamed (is_own m.info.names) cells → end_of m.image ≤ 65536 → m.image.start ≤ n → n < a → a - 1 < end_of m.image → answer ≡ is_joined_in cells at → answer ≡ b → is_joined m a ≡ b
+joined_answer m n a at cells answer b place old own room low after high says is =
     sym (joined-cells m n a cells old own room low after high) ∙ sym (ap (is_joined_in cells) place) ∙ sym says ∙ is
 
 -- ---- sizes
@@ -75,8 +75,8 @@ unfolding item_len
 item-small m a = grind (arith, size-is)
 
 -- an item ends in the image
-pub item-fits : (m : MapView) (a : ℕ) → 0 < item_len m a → a + item_len m a ≤ end_of m.image
-item-fits m a some =
+pub item_fits : (m : MapView) (a : ℕ) → 0 < item_len m a → a + item_len m a ≤ end_of m.image
+item_fits m a some =
     let is = begun m a some in
     let k : ℕ = a - m.image.start in
     let place : m.image.start + k ≡ a = omega (arith, is.low) in
@@ -91,8 +91,8 @@ no-item m a not_begun = ⊎_elim (λ none. none) (λ some. absurd (not_begun (be
 -- ---- the cells after one item more
 
 -- an item at n, of so many bytes
-pub next-begins : (m : MapView) (n len : ℕ) → item_start m n ≡ n → len ≡ size_at m n → item_start m (n + len) ≡ n + len
-next-begins m n len begins is = let place : n + len ≡ n + size_at m n = omega (arith, is) in ap (item_start m) place ∙ item_start-after m n begins ∙ sym place
+pub next_begins : (m : MapView) (n len : ℕ) → item_start m n ≡ n → len ≡ size_at m n → item_start m (n + len) ≡ n + len
+next_begins m n len begins is = let place : n + len ≡ n + size_at m n = omega (arith, is) in ap (item_start m) place ∙ item_start-after m n begins ∙ sym place
 
 module _ (m : MapView) (n len : ℕ) (cells : List ℕ) (low : m.image.start ≤ n) (high : n < end_of m.image) (room : n < 65536) (begins : item_start m n ≡ n) (is : len ≡ size_at m n) (old : AreMarkedBelow m n cells) where
   inside-item : (a : ℕ) → n < a → a < n + len → item_len m a ≡ 0
@@ -117,8 +117,8 @@ module _ (m : MapView) (n len : ℕ) (cells : List ℕ) (low : m.image.start ≤
   len-fits : len < 8
   len-fits = omega (arith, is, size-is m n)
 
-  pub item-marked : (c : ℕ) → c ≡ with_len (get_or cells n 0) len → is_skip (role_of m.info n) ≡ false → AreMarkedBelow m (n + len) (set cells n c)
-  item-marked c cell shown =
+  pub item_marked : (c : ℕ) → c ≡ with_len (get_or cells n 0) len → is_skip (role_of m.info n) ≡ false → AreMarkedBelow m (n + len) (set cells n c)
+  item_marked c cell shown =
       let lt : n < length cells = omega (arith, old.count, room) in
       let here : c % 128 ≡ lay_at m n = ap (λ (x : ℕ). x % 128) cell ∙ with_len-lay (get_or cells n 0) (role_at m n) len len-fits here-plain ∙ ap (cell_of (role_at m n)) (sym (item-here shown)) in
       record {
@@ -134,8 +134,8 @@ module _ (m : MapView) (n len : ℕ) (cells : List ℕ) (low : m.image.start ≤
             (λ a below other after. old.plain a below (omega (arith, after)));
       }
 
-  pub item-named : (p : ℕ → Bool) (c : ℕ) → c ≡ with_len (get_or cells n 0) len → AreNamed p cells → AreNamed p (set cells n c)
-  item-named p c cell named =
+  pub item_named : (p : ℕ → Bool) (c : ℕ) → c ≡ with_len (get_or cells n 0) len → AreNamed p cells → AreNamed p (set cells n c)
+  item_named p c cell named =
       let lt : n < length cells = omega (arith, old.count, room) in
       record {
         each = set-cell (λ a x. x / 128 % 2 ≡ bit (p a)) cells n c lt
@@ -143,8 +143,8 @@ module _ (m : MapView) (n len : ℕ) (cells : List ℕ) (low : m.image.start ≤
             (λ a below other. named.each a below);
       }
 
-  pub skip-marked : is_skip (role_of m.info n) ≡ true → AreMarkedBelow m (n + len) cells
-  skip-marked skip = record {
+  pub skip_marked : is_skip (role_of m.info n) ≡ true → AreMarkedBelow m (n + len) cells
+  skip_marked skip = record {
     count = old.count;
     marked = λ a below before.
         ⊎_elim
@@ -157,11 +157,11 @@ module _ (m : MapView) (n len : ℕ) (cells : List ℕ) (low : m.image.start ≤
 
 -- ---- before the first item, and after the last
 
-pub first-begins : (m : MapView) (n : ℕ) → n ≡ m.image.start → item_start m n ≡ n
-first-begins m n is = item_start-apart m n (start-apart m n is)
+pub first_begins : (m : MapView) (n : ℕ) → n ≡ m.image.start → item_start m n ≡ n
+first_begins m n is = item_start-apart m n (start-apart m n is)
 
-pub marked-none : (m : MapView) (n : ℕ) (cells : List ℕ) → n ≡ m.image.start → AreMarkedBelow m 0 cells → AreMarkedBelow m n cells
-marked-none m n cells is old = grind (arith, no-item)
+pub marked_none : (m : MapView) (n : ℕ) (cells : List ℕ) → n ≡ m.image.start → AreMarkedBelow m 0 cells → AreMarkedBelow m n cells
+marked_none m n cells is old = grind (arith, no-item)
 
-pub all-marked : (m : MapView) (n : ℕ) (cells : List ℕ) → end_of m.image ≤ n → AreMarkedBelow m n cells → IsLaid m cells
-all-marked m n cells past old = grind (arith, no-item)
+pub all_marked : (m : MapView) (n : ℕ) (cells : List ℕ) → end_of m.image ≤ n → AreMarkedBelow m n cells → IsLaid m cells
+all_marked m n cells past old = grind (arith, no-item)

@@ -9,8 +9,8 @@ use Rattle.map65.proofs.ItemLaws.{begun, start-len}
 use Rattle.map65.proofs.ItemLemmas.{belongs, inside-if, item_start-within, one-role, size-positive, start-piece}
 use Rattle.map65.proofs.NameLemmas.{base-covered, base-unreferenced, base-referenced}
 use Rattle.map65.proofs.NamingLemmas.{address-at, address-count, entry_start-narrow, entry_start-wide, wide-shown}
-use Rattle.map65.proofs.MarkingLemmas.{item-fits}
-use Rattle.map65.proofs.TargetLemmas.{short-at}
+use Rattle.map65.proofs.MarkingLemmas.{item_fits}
+use Rattle.map65.proofs.TargetLemmas.{short_at}
 use Rattle.map65.specs.ImageView.{is_inside}
 use Rattle.map65.specs.Items.{item_len, item_start}
 use Rattle.map65.specs.MapView.{MapView}
@@ -41,7 +41,7 @@ under m a inside shown none =
 pub entry_start-inner : (m : MapView) (a first : ℕ) → IsInner m a first → entry_start m a ≡ first
 entry_start-inner m a first i =
     let is = begun m first i.begins in
-    entry_start-wide m a (and_from _ _ (inside-if m a (omega (arith, is.low, i.after)) (omega (arith, i.before, item-fits m first i.begins))) i.wide)
+    entry_start-wide m a (and_from _ _ (inside-if m a (omega (arith, is.low, i.after)) (omega (arith, i.before, item_fits m first i.begins))) i.wide)
     ∙ item_start-within m first a is.own (omega (arith, i.after)) (omega (arith, is.len, i.before))
 
 -- the first byte of an item is its own entry start
@@ -74,7 +74,7 @@ entry_start-entry_start m a = grind (arith, entry_start-inner, entry_start-item,
 -- ---- targets
 
 target-item : (m : MapView) (item t : ℕ) → target_at m item ≡ Some t → IsTarget m t
-target-item m item t has = grind (arith, short-at)
+target-item m item t has = grind (arith, short_at)
 
 -- ---- what is referenced
 

@@ -67,8 +67,8 @@ unfolding has_name kind_at
 base-none m a is = none-of (base_at m a) (kind_by m a) is
 
 -- one with a name that is not given
-pub base-entry_start : (m : MapView) (a : ℕ) → has_name m a ≡ true → covering m.info.names a ≡ None → base_at m a ≡ Some (entry_base m a)
-base-entry_start m a is none = let referenced = rw (named-is m a, none) at is in base-referenced m a none referenced
+pub base_entry_start : (m : MapView) (a : ℕ) → has_name m a ≡ true → covering m.info.names a ≡ None → base_at m a ≡ Some (entry_base m a)
+base_entry_start m a is none = let referenced = rw (named-is m a, none) at is in base-referenced m a none referenced
 
 pub entry_start-given : (m : MapView) (a : ℕ) (v : NameView) → covering m.info.names (entry_start m a) ≡ Some v → entry_base m a ≡ given_base v
 unfolding entry_base
@@ -80,10 +80,10 @@ entry_start-default m a is = ap (λ o. base_or o (default_base (entry_start m a)
 
 -- ---- what a caller is told of it
 
-pub kind-of : (m : MapView) (a : ℕ) (o : Option Base) → base_at m a ≡ o → kind_at m a ≡ option_map (kind_by m a) o
+pub kind_of : (m : MapView) (a : ℕ) (o : Option Base) → base_at m a ≡ o → kind_at m a ≡ option_map (kind_by m a) o
 unfolding kind_at
-kind-of m a o is = ap (option_map (kind_by m a)) is
+kind_of m a o is = ap (option_map (kind_by m a)) is
 
-pub text-of : (m : MapView) (a : ℕ) (o : Option Base) → base_at m a ≡ o → text_at m a ≡ text_by o
+pub text_of : (m : MapView) (a : ℕ) (o : Option Base) → base_at m a ≡ o → text_at m a ≡ text_by o
 unfolding text_at
-text-of m a o is = ap text_by is
+text_of m a o is = ap text_by is

@@ -12,13 +12,13 @@ use Rattle.info65.proofs.Public.{last_name, none_covers}
 use Rattle.info65.specs.Views.{NameView}
 use Rattle.info65.specs.declared.information.range.RangeType.{RangeType}
 use Rattle.info65.specs.declared.information.range.RangeType.TheVariants.{Skip}
-use Rattle.map65.proofs.CellLemmas.{named-as, cell-len, cell-role, cell-wide, with_name-again, with_name-bit, with_name-border, with_name-lay}
-use Rattle.map65.proofs.ChangeLemmas.{changes-as, changes-more, changes-none, changes-then}
+use Rattle.map65.proofs.CellLemmas.{named-as, cell-len, cell-role, cell-wide, with_name_again, with_name-bit, with_name-border, with_name-lay}
+use Rattle.map65.proofs.ChangeLemmas.{changes_as, changes_more, changes_none, changes_then}
 use Rattle.map65.proofs.NameLemmas.{named-is}
 use Rattle.map65.proofs.RunLemmas.{plain-code, role_at-inside}
 use Rattle.map65.proofs.ItemLaws.{begun, start-len}
 use Rattle.map65.proofs.ItemLemmas.{belongs, item_start-within, size-positive}
-use Rattle.map65.proofs.MarkingLemmas.{item-fits, item-small}
+use Rattle.map65.proofs.MarkingLemmas.{item_fits, item-small}
 use Rattle.map65.specs.Code.Cells.{AreCells, AreNamed, IsLaid, is_wide_cell, is_wide_role, len_in_cell, nowhere, role_in_cell, with_name}
 use Rattle.map65.specs.Cells.{AreCellsOf, bit, code_of}
 use Rattle.map65.specs.Code.Marking.{Changes, KeepsLay, Reaches, changed, is_covered, is_covered_below, is_referenced_below, is_within}
@@ -45,14 +45,14 @@ changed-bit : (p q : Bool) (c : ℕ) → c / 128 % 2 ≡ bit p → changed with_
 changed-bit p true c is = with_name-bit c ∙ ap bit (sym (or_right p true refl))
 changed-bit p false c is = is ∙ ap bit (sym (or-false p))
 
-pub names-keep : (p : ℕ → Bool) (old new : List ℕ) → Changes with_name p old new → KeepsLay old new
-names-keep p old new h = grind (arith, changed-lay, changed-border)
+pub names_keep : (p : ℕ → Bool) (old new : List ℕ) → Changes with_name p old new → KeepsLay old new
+names_keep p old new h = grind (arith, changed-lay, changed-border)
 
-pub names-added : (p q : ℕ → Bool) (old new : List ℕ) → Changes with_name q old new → AreNamed p old → AreNamed (λ a. p a || q a) new
-names-added p q old new h named = record { each = λ a room. ap (λ (x : ℕ). x / 128 % 2) (h.each a room) ∙ changed-bit (p a) (q a) (get_or old a 0) (named.each a room) }
+pub names_added : (p q : ℕ → Bool) (old new : List ℕ) → Changes with_name q old new → AreNamed p old → AreNamed (λ a. p a || q a) new
+names_added p q old new h named = record { each = λ a room. ap (λ (x : ℕ). x / 128 % 2) (h.each a room) ∙ changed-bit (p a) (q a) (get_or old a 0) (named.each a room) }
 
-pub laid-keeps : (m : MapView) (old new : List ℕ) → KeepsLay old new → IsLaid m old → IsLaid m new
-laid-keeps m old new keeps laid = grind arith
+pub laid_keeps : (m : MapView) (old new : List ℕ) → KeepsLay old new → IsLaid m old → IsLaid m new
+laid_keeps m old new keeps laid = grind arith
 
 -- ---- names that cover addresses
 
@@ -83,8 +83,8 @@ module _ (names : List NameView) (are : AreNames names) (i reach : ℕ) (below :
   covered-more : (a : ℕ) → is_covered_below names (i + 1) a ≡ (is_covered_below names i a || covers (name_at names i) a)
   covered-more a = list_any_more (λ v. covers v a) names i blank_name below
 
-  pub reaches-more : Reaches names (i + 1) (max reach ((name_at names i).address + (name_at names i).size))
-  reaches-more a low high =
+  pub reaches_more : Reaches names (i + 1) (max reach ((name_at names i).address + (name_at names i).size))
+  reaches_more a low high =
       ⊎_elim
       (λ within. list_any_kept (λ v. covers v a) names i (reaches a (λ j before. low j (omega (arith, before))) within))
       (λ past. covered-more a ∙ or_right _ _ (covers-is (name_at names i) a (low i (omega arith)) (omega (arith, high, past))))
@@ -109,13 +109,13 @@ module _ (names : List NameView) (are : AreNames names) (i reach : ℕ) (below :
       (λ none. ap (λ w. is_covered_below names i a || (w && nat_lt a ((name_at names i).address + (name_at names i).size))) (span-is a none) ∙ sym (covered-more a))
       (cases_Bool (is_covered_below names i a))
 
-  pub covered-next : (old mid new : List ℕ) → Changes with_name (is_covered_below names i) old mid → Changes with_name (is_within (max (name_at names i).address reach) ((name_at names i).address + (name_at names i).size)) mid new → Changes with_name (is_covered_below names (i + 1)) old new
-  covered-next old mid new first second =
-      changes-as with_name _ (is_covered_below names (i + 1)) old new (λ a room. span-covers a)
-      (changes-then with_name with_name-again (is_covered_below names i) (is_within (max (name_at names i).address reach) ((name_at names i).address + (name_at names i).size)) old mid new first second)
+  pub covered_next : (old mid new : List ℕ) → Changes with_name (is_covered_below names i) old mid → Changes with_name (is_within (max (name_at names i).address reach) ((name_at names i).address + (name_at names i).size)) mid new → Changes with_name (is_covered_below names (i + 1)) old new
+  covered_next old mid new first second =
+      changes_as with_name _ (is_covered_below names (i + 1)) old new (λ a room. span-covers a)
+      (changes_then with_name with_name_again (is_covered_below names i) (is_within (max (name_at names i).address reach) ((name_at names i).address + (name_at names i).size)) old mid new first second)
 
-pub reaches-none : (names : List NameView) (reach : ℕ) → reach ≡ 0 → Reaches names 0 reach
-reaches-none names reach is a low high = absurd (omega arith)
+pub reaches_none : (names : List NameView) (reach : ℕ) → reach ≡ 0 → Reaches names 0 reach
+reaches_none names reach is a low high = absurd (omega arith)
 
 -- a name covers its own address
 own-covered : (names : List NameView) → AreNames names → (a : ℕ) → is_own names a ≡ true → is_covered names a ≡ true
@@ -129,14 +129,14 @@ own-covered names are a is =
     let covers_it : covers n a ≡ true = covers-is n a (omega (arith, here)) (omega (arith, here, ap (λ (v : NameView). v.size) same, sized)) in
     sym (covered-is names a) ∙ list_any_at (λ v. covers v a) names found.0 n found.2 (ap (λ (v : NameView). covers v a) same ∙ covers_it)
 
-pub covered-end : (names : List NameView) (n : ℕ) (old new : List ℕ) → AreNames names → length names ≤ n → AreNamed (is_own names) old → Changes with_name (is_covered_below names n) old new → AreNamed (is_covered names) new
-covered-end names n old new are all named h =
+pub covered_end : (names : List NameView) (n : ℕ) (old new : List ℕ) → AreNames names → length names ≤ n → AreNamed (is_own names) old → Changes with_name (is_covered_below names n) old new → AreNamed (is_covered names) new
+covered_end names n old new are all named h =
     named-as (λ a. is_own names a || is_covered_below names n a) (is_covered names) new
     (λ a room.
     ap (λ l. is_own names a || list_any (λ v. covers v a) l) (take_all n names all)
     ∙ ap (λ b. is_own names a || b) (covered-is names a)
     ∙ absorbed (is_own names a) (is_covered names a) (own-covered names are a))
-    (names-added (is_own names) (is_covered_below names n) old new h named)
+    (names_added (is_own names) (is_covered_below names n) old new h named)
   where
     absorbed : (p q : Bool) → (p ≡ true → q ≡ true) → (p || q) ≡ q
     absorbed true q given = sym (given refl)
@@ -147,19 +147,21 @@ covered-end names n old new are all named h =
 laid-small : (m : MapView) (a : ℕ) → item_len m a < 8
 laid-small m a = omega (arith, item-small m a)
 
-pub laid-plain : (m : MapView) (cells : List ℕ) (a : ℕ) → IsLaid m cells → a < 65536 → get_or cells a 0 % 16 ≡ code_of (role_at m a)
-laid-plain m cells a laid room = plain-code (get_or cells a 0) (role_at m a) (item_len m a) (laid-small m a) (laid.each a room)
+pub laid_plain : (m : MapView) (cells : List ℕ) (a : ℕ) → IsLaid m cells → a < 65536 → get_or cells a 0 % 16 ≡ code_of (role_at m a)
+laid_plain m cells a laid room = plain-code (get_or cells a 0) (role_at m a) (item_len m a) (laid-small m a) (laid.each a room)
 
-pub laid-role : (m : MapView) (cells : List ℕ) (a : ℕ) → IsLaid m cells → a < 65536 → role_in_cell (get_or cells a 0) ≡ role_at m a
-laid-role m cells a laid room = cell-role (get_or cells a 0) (role_at m a) (item_len m a) (laid-small m a) (laid.each a room)
+pub laid_role : (m : MapView) (cells : List ℕ) (a : ℕ) → IsLaid m cells → a < 65536 → role_in_cell (get_or cells a 0) ≡ role_at m a
+laid_role m cells a laid room = cell-role (get_or cells a 0) (role_at m a) (item_len m a) (laid-small m a) (laid.each a room)
 
-pub laid-len : (m : MapView) (cells : List ℕ) (a : ℕ) → IsLaid m cells → a < 65536 → len_in_cell (get_or cells a 0) ≡ item_len m a
-laid-len m cells a laid room = cell-len (get_or cells a 0) (role_at m a) (item_len m a) (laid-small m a) (laid.each a room)
+pub laid_len : (m : MapView) (cells : List ℕ) (a : ℕ) → IsLaid m cells → a < 65536 → len_in_cell (get_or cells a 0) ≡ item_len m a
+laid_len m cells a laid room = cell-len (get_or cells a 0) (role_at m a) (item_len m a) (laid-small m a) (laid.each a room)
+
+pub ruleset laid_cells = (laid_plain, laid_role, laid_len)
 
 -- the cells of a map describe its addresses
 pub described : (m : MapView) (cells : List ℕ) → AreCells m cells → AreCellsOf m cells
 unfolding len_in_cell
-described m cells are = grind (arith, laid-plain, laid-len)
+described m cells are = grind (arith, laid_plain, laid_len)
 
 laid-wide : (m : MapView) (cells : List ℕ) (a : ℕ) → IsLaid m cells → a < 65536 → is_wide_cell (get_or cells a 0) ≡ is_wide_role (role_at m a)
 laid-wide m cells a laid room = cell-wide (get_or cells a 0) (role_at m a) (item_len m a) (laid-small m a) (laid.each a room)
@@ -186,12 +188,12 @@ pub entry_start-narrow : (m : MapView) (a : ℕ) → (is_inside m.image a && is_
 unfolding entry_start
 entry_start-narrow m a is = cond-false (is_inside m.image a && is_wide (role_of m.info a)) (item_start m a) a is
 
-pub entry_start-low : (m : MapView) (a : ℕ) → entry_start m a ≤ a
+pub entry_start_low : (m : MapView) (a : ℕ) → entry_start m a ≤ a
 unfolding entry_start
-entry_start-low m a = cond_both (is_inside m.image a && is_wide (role_of m.info a)) (item_start m a) a (λ n. n ≤ a) (λ _. (belongs m a).low) (λ _. omega arith)
+entry_start_low m a = cond_both (is_inside m.image a && is_wide (role_of m.info a)) (item_start m a) a (λ n. n ≤ a) (λ _. (belongs m a).low) (λ _. omega arith)
 
-pub entry_start-here : (m : MapView) (cells : List ℕ) (a : ℕ) → IsLaid m cells → a < 65536 → is_wide_cell (get_or cells a 0) ≡ false → entry_start m a ≡ a
-entry_start-here m cells a laid room is = entry_start-narrow m a (sym (wide-at m a) ∙ sym (laid-wide m cells a laid room) ∙ is)
+pub entry_start_here : (m : MapView) (cells : List ℕ) (a : ℕ) → IsLaid m cells → a < 65536 → is_wide_cell (get_or cells a 0) ≡ false → entry_start m a ≡ a
+entry_start_here m cells a laid room is = entry_start-narrow m a (sym (wide-at m a) ∙ sym (laid-wide m cells a laid room) ∙ is)
 
 -- a wide address of the image, and one before it that is not before the item that has the former
 module _ (m : MapView) (cells : List ℕ) (a at : ℕ) (laid : IsLaid m cells) (room : a < 65536) (is : is_wide_cell (get_or cells a 0) ≡ true) (low : entry_start m a ≤ at) (high : at ≤ a) where
@@ -202,8 +204,8 @@ module _ (m : MapView) (cells : List ℕ) (a at : ℕ) (laid : IsLaid m cells) (
   start-is = entry_start-wide m a wide-here
 
   -- where no item begins the search goes on before it
-  pub entry_start-before : item_len m at ≡ 0 → entry_start m a < at
-  entry_start-before none =
+  pub entry_start_before : item_len m at ≡ 0 → entry_start m a < at
+  entry_start_before none =
       let parts = and_parts (is_inside m.image a) (is_wide (role_of m.info a)) wide-here in
       let len = start-len m a parts.0 (wide-shown (role_of m.info a) parts.1) in
       ⊎_elim
@@ -212,21 +214,21 @@ module _ (m : MapView) (cells : List ℕ) (a at : ℕ) (laid : IsLaid m cells) (
       (cases_eq (entry_start m a) at)
 
   -- and else it is found
-  pub entry_start-found : 0 < item_len m at → at ≡ entry_start m a
-  entry_start-found some =
+  pub entry_start_found : 0 < item_len m at → at ≡ entry_start m a
+  entry_start_found some =
       let h = belongs m a in
       sym (begun m at some).own ∙ item_start-within m (item_start m a) at h.own (omega (arith, low, start-is)) (omega (arith, h.high, high)) ∙ sym start-is
 
 -- ---- targets
 
-pub refers-none : (m : MapView) (item : ℕ) (cells : List ℕ) → length cells ≡ 65536 → target_at m item ≡ None → Changes with_name (λ a. refers m a item) cells cells
+pub refers_none : (m : MapView) (item : ℕ) (cells : List ℕ) → length cells ≡ 65536 → target_at m item ≡ None → Changes with_name (λ a. refers m a item) cells cells
 unfolding refers
-refers-none m item cells count is = changes-as with_name nowhere (λ a. refers_by m (target_at m item) a) cells cells (λ a room. ap (λ o. refers_by m o a) (sym is)) (changes-none with_name cells count)
+refers_none m item cells count is = changes_as with_name nowhere (λ a. refers_by m (target_at m item) a) cells cells (λ a room. ap (λ o. refers_by m o a) (sym is)) (changes_none with_name cells count)
 
 -- a target and the first byte of its item are marked
-pub refers-some : (m : MapView) (item t h : ℕ) (old mid new : List ℕ) → target_at m item ≡ Some t → h ≡ entry_start m t → Changes with_name (λ a. t == a) old mid → Changes with_name (λ a. h == a) mid new → Changes with_name (λ a. refers m a item) old new
+pub refers_some : (m : MapView) (item t h : ℕ) (old mid new : List ℕ) → target_at m item ≡ Some t → h ≡ entry_start m t → Changes with_name (λ a. t == a) old mid → Changes with_name (λ a. h == a) mid new → Changes with_name (λ a. refers m a item) old new
 unfolding refers
-refers-some m item t h old mid new is at first second = grind (arith, with_name-again)
+refers_some m item t h old mid new is at first second = grind (arith, with_name_again)
 
 pub address-at : (n k a d : ℕ) → k < n → get_or (addresses n a) k d ≡ a + k
 unfolding addresses
@@ -237,28 +239,28 @@ unfolding addresses
 address-count n a = length-range_with_len a n
 
 -- the target of one item more
-pub referenced-next : (m : MapView) (k item : ℕ) (old mid new : List ℕ) → k < length m.image.bytes → item ≡ m.image.start + k → Changes with_name (is_referenced_below m k) old mid → Changes with_name (λ a. refers m a item) mid new → Changes with_name (is_referenced_below m (k + 1)) old new
-referenced-next m k item old mid new low is first second =
+pub referenced_next : (m : MapView) (k item : ℕ) (old mid new : List ℕ) → k < length m.image.bytes → item ≡ m.image.start + k → Changes with_name (is_referenced_below m k) old mid → Changes with_name (λ a. refers m a item) mid new → Changes with_name (is_referenced_below m (k + 1)) old new
+referenced_next m k item old mid new low is first second =
     let all : List ℕ = addresses (length m.image.bytes) m.image.start in
     let here : item ≡ get_or all k 0 = is ∙ sym (address-at (length m.image.bytes) k m.image.start 0 low) in
-    changes-more with_name with_name-again (λ (x a : ℕ). refers m a x) all k 0 old mid new (omega (arith, low, address-count (length m.image.bytes) m.image.start)) first
+    changes_more with_name with_name_again (λ (x a : ℕ). refers m a x) all k 0 old mid new (omega (arith, low, address-count (length m.image.bytes) m.image.start)) first
     (subst (λ (x : ℕ). Changes with_name (λ a. refers m a x) mid new) here second)
 
 -- an address has a name if a given name covers it or an item refers to it
-pub referenced-end : (m : MapView) (n : ℕ) (old new : List ℕ) → length m.image.bytes ≤ n → AreNamed (is_covered m.info.names) old → Changes with_name (is_referenced_below m n) old new → AreNamed (has_name m) new
+pub referenced_end : (m : MapView) (n : ℕ) (old new : List ℕ) → length m.image.bytes ≤ n → AreNamed (is_covered m.info.names) old → Changes with_name (is_referenced_below m n) old new → AreNamed (has_name m) new
 unfolding is_referenced
-referenced-end m n old new all named h =
+referenced_end m n old new all named h =
     named-as (λ a. is_covered m.info.names a || is_referenced_below m n a) (has_name m) new
     (λ a room. ap (λ l. is_covered m.info.names a || list_any (refers m a) l) (take_all n (addresses (length m.image.bytes) m.image.start) (omega (arith, all, address-count (length m.image.bytes) m.image.start))) ∙ sym (named-is m a))
-    (names-added (is_covered m.info.names) (is_referenced_below m n) old new h named)
+    (names_added (is_covered m.info.names) (is_referenced_below m n) old new h named)
 
 -- ---- the item that a cell holds
 
-pub laid-known : (m : MapView) (cells : List ℕ) (a c : ℕ) (o : Option RangeType) → IsLaid m cells → a < 65536 → m.image.start ≤ a → a < end_of m.image → c ≡ get_or cells a 0 → o ≡ role_in_cell c → o ≡ Some (role_of m.info a)
-laid-known m cells a c o laid room low high cell says = says ∙ ap role_in_cell cell ∙ laid-role m cells a laid room ∙ role_at-inside m a low high
+pub laid_known : (m : MapView) (cells : List ℕ) (a c : ℕ) (o : Option RangeType) → IsLaid m cells → a < 65536 → m.image.start ≤ a → a < end_of m.image → c ≡ get_or cells a 0 → o ≡ role_in_cell c → o ≡ Some (role_of m.info a)
+laid_known m cells a c o laid room low high cell says = says ∙ ap role_in_cell cell ∙ laid_role m cells a laid room ∙ role_at-inside m a low high
 
-pub laid-item : (m : MapView) (cells : List ℕ) (a c n : ℕ) → IsLaid m cells → a < 65536 → c ≡ get_or cells a 0 → n ≡ len_in_cell c → n ≡ item_len m a
-laid-item m cells a c n laid room cell says = says ∙ ap len_in_cell cell ∙ laid-len m cells a laid room
+pub laid_item : (m : MapView) (cells : List ℕ) (a c n : ℕ) → IsLaid m cells → a < 65536 → c ≡ get_or cells a 0 → n ≡ len_in_cell c → n ≡ item_len m a
+laid_item m cells a c n laid room cell says = says ∙ ap len_in_cell cell ∙ laid_len m cells a laid room
 
-pub laid-fits : (m : MapView) (a n : ℕ) → a < end_of m.image → n ≡ item_len m a → a + n ≤ end_of m.image
-laid-fits m a n high is = grind (arith, item-fits)
+pub laid_fits : (m : MapView) (a n : ℕ) → a < end_of m.image → n ≡ item_len m a → a + n ≤ end_of m.image
+laid_fits m a n high is = grind (arith, item_fits)

@@ -17,8 +17,8 @@ use Rattle.map65.specs.Segments.{is_border}
 -- ---- one range after the other
 
 -- the addresses of the image that belong to a range
-pub range-within : (image : ImageView) (range : RangeSpec) (from to a : ℕ) → from ≡ max range.first image.start → to ≡ max (min (range.last + 1) (end_of image)) from → is_within from to a ≡ (is_inside image a && has_address range a)
-range-within image range from to a low high = grind (arith, nat_tests)
+pub range_within : (image : ImageView) (range : RangeSpec) (from to a : ℕ) → from ≡ max range.first image.start → to ≡ max (min (range.last + 1) (end_of image)) from → is_within from to a ≡ (is_inside image a && has_address range a)
+range_within image range from to a low high = grind (arith, nat_tests)
 
 painted-next : (image : ImageView) (r : RangeSpec) (rs : List RangeSpec) (a : ℕ) → changed (painted r.role) (is_inside image a && has_address r a) (cell_of (role_by image rs a) 0) ≡ cell_of (role_by image (r ∷ rs) a) 0
 unfolding role_by role_in
@@ -32,8 +32,8 @@ unfolding role_by role_in cell_of code_of
 painted-code image a = grind arith
 
 -- before the ranges, the image is code
-pub code-painted : (image : ImageView) (old new : List ℕ) → ((a : ℕ) → a < 65536 → get_or old a 0 ≡ 0) → Changes (painted Code) (is_inside image) old new → ArePainted image [] new
-code-painted image old new blank h = grind (arith, painted-code)
+pub code_painted : (image : ImageView) (old new : List ℕ) → ((a : ℕ) → a < 65536 → get_or old a 0 ≡ 0) → Changes (painted Code) (is_inside image) old new → ArePainted image [] new
+code_painted image old new blank h = grind (arith, painted-code)
 
 role_by-all : (m : MapView) (a : ℕ) → role_by m.image m.info.ranges a ≡ role_at m a
 unfolding role_by role_at

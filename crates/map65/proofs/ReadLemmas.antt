@@ -96,3 +96,5 @@ image_seen (Some xs) old new s offset most bytes answer same is at many all = gr
 
 pub bound_after : (old mid new : Option (List ℕ)) (offset limit : ℕ) → TakesUpTo offset old mid → TakesUpTo limit mid new → TakesUpTo (offset + limit) old new
 bound_after old mid new offset limit p q = took_up_to old mid new p.bytes q.bytes (offset + limit) p.taken q.taken (omega (arith, p.bound, q.bound))
+
+pub ruleset read = (image_seen, of_bytes, stops_here)

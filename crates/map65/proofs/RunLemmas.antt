@@ -37,8 +37,8 @@ unfolding segment_at segment_covering
 segment-before m a here = sym (ap (option_map (λ (s : SegmentView). s.name)) (found-same m.info.segments a (omega (arith, here.low)) here.unbroken))
 
 -- address 0 is the first of its run
-pub first-run : (m : MapView) (a : ℕ) → a ≡ 0 → is_in_run m a ≡ false
-first-run m a is = false_from_ne_true (is_in_run m a) (λ run. absurd (omega (arith, is, (in-run m a run).low)))
+pub first_run : (m : MapView) (a : ℕ) → a ≡ 0 → is_in_run m a ≡ false
+first_run m a is = false_from_ne_true (is_in_run m a) (λ run. absurd (omega (arith, is, (in-run m a run).low)))
 
 -- ---- roles
 
@@ -53,8 +53,8 @@ pub record HasRole (m : MapView) (a : ℕ) (r : RangeType) : Type 0 where
   pub high : a < end_of m.image
   pub is : role_of m.info a ≡ r
 
-pub some-same : (r q : RangeType) → Some r ≡ Some q → r ≡ q
-some-same r q is = cc
+pub some_same : (r q : RangeType) → Some r ≡ Some q → r ≡ q
+some_same r q is = cc
 
 pub has-role : (m : MapView) (a : ℕ) (r : RangeType) → role_at m a ≡ Some r → HasRole m a r
 unfolding role_at
@@ -107,5 +107,5 @@ module _ (m : MapView) (a c d : ℕ) (some : 0 < a) (before : c % 16 ≡ code_of
       (and_from _ _ (ap not (ne_eqb (d % 16) 0 (λ none. omega (arith, code, none, some-code (role_of m.info a)))))
       (ap not (has_border-is d (is_border m.info.segments a) border ∙ at.unbroken)))
 
-  pub run-cells : are_one_run c d ≡ is_in_run m a
-  run-cells = both_ways (are_one_run c d) (is_in_run m a) run-alike alike-run
+  pub run_cells : are_one_run c d ≡ is_in_run m a
+  run_cells = both_ways (are_one_run c d) (is_in_run m a) run-alike alike-run

@@ -28,6 +28,6 @@ target-short : (m : MapView) (r : RangeType) (n a : ℕ) (bytes : List ℕ) → 
 unfolding target_for
 target-short m r n a bytes short = entry-short m (layout_of r).entry n a bytes short
 
-pub short-at : (m : MapView) (a : ℕ) → item_len m a < 2 → target_at m a ≡ None
+pub short_at : (m : MapView) (a : ℕ) → item_len m a < 2 → target_at m a ≡ None
 unfolding target_at
-short-at m a short = target-short m (role_of m.info a) (item_len m a) a (bytes_from m.image a) short
+short_at m a short = target-short m (role_of m.info a) (item_len m a) a (bytes_from m.image a) short

@@ -11,6 +11,7 @@ use info65::Info;
 use std::alloc::Allocator;
 
 /// Marks a border before an address. Nothing is marked for $10000, which is no address.
+#[tactic(auto, using(crate::proofs::ChangeLemmas::changes))]
 fn mark_border(cells: &mut [u16], at: usize)
     requires { length cells.old ≡ 65536 }
     ensures { Changes with_border (λ a. at == a) cells.old cells.new }
@@ -21,6 +22,7 @@ fn mark_border(cells: &mut [u16], at: usize)
 }
 
 /// Marks the borders of a segment: before its first address, and after its last.
+#[tactic(auto, using(crate::proofs::CellLemmas::with_border_again, crate::proofs::ChangeLemmas::changes))]
 fn mark_segment(cells: &mut [u16], first: u16, last: u16)
     requires { length cells.old ≡ 65536 }
     ensures { Changes with_border (λ a. first == a || last + 1 == a) cells.old cells.new }

@@ -99,6 +99,7 @@ impl<'a, A: Allocator> Map<'a, A> {
     }
 
     /// Returns the length of the item that begins at the address, and 0 if none does.
+    #[tactic(auto, using(crate::proofs::MarkingLemmas::item_fits))]
     pub fn item_len(&self, address: u16) -> u8
         ensures value { result ≡ item_len self.now address }
         ensures fits { 0 < result → address + result ≤ end_of self.now.image }
@@ -108,6 +109,7 @@ impl<'a, A: Allocator> Map<'a, A> {
 
     /// Returns whether the address lies in the run of the address before it: both lie in the image and have one role,
     /// and no segment begins or ends between them. A run begins at an address of the image for which this is false.
+    #[tactic(auto, using(crate::proofs::RunLemmas::first_run, crate::proofs::RunLemmas::run_cells))]
     pub fn is_in_run(&self, address: u16) -> bool
         ensures { result ≡ is_in_run self.now address }
     {
@@ -118,6 +120,7 @@ impl<'a, A: Allocator> Map<'a, A> {
     }
 
     /// Returns the name of the segment that the address belongs to, and `None` outside all segments.
+    #[tactic(auto, unfolding(crate::specs::Segments::segment_at))]
     pub fn segment_at(&self, address: u16) -> Option<&'a [u8]>
         ensures { option_map (λ n. n.now) result ≡ segment_at self.now address }
     {
@@ -148,6 +151,7 @@ impl<'a, A: Allocator> Map<'a, A> {
     }
 
     /// The cell of the address.
+    #[tactic(auto, using(crate::proofs::CellLemmas::named_test, crate::proofs::NamingLemmas::laid_cells))]
     fn cell(&self, address: u16) -> u16
         ensures role { role_in_cell result ≡ role_at self.now address }
         ensures len { len_in_cell result ≡ item_len self.now address }

@@ -23,6 +23,7 @@ use std::alloc::Allocator;
 // ---- roles
 
 /// Writes the role into the cells from `from` to before `to`.
+#[tactic(auto, using(crate::proofs::ChangeLemmas::spans))]
 fn paint(cells: &mut [u16], from: usize, to: usize, role: RangeType)
     requires count { length cells.old ≡ 65536 }
     requires room { to ≤ 65536 }
@@ -35,6 +36,7 @@ fn paint(cells: &mut [u16], from: usize, to: usize, role: RangeType)
 }
 
 /// Writes the role of the range into the cells of those addresses of the image that belong to it.
+#[tactic(auto, using(crate::proofs::ChangeLemmas::changes_as, crate::proofs::PaintLemmas::range_within))]
 fn paint_range<A: Allocator>(cells: &mut [u16], image: &Image<A>, range: RangeSpec)
     requires { length cells.old ≡ 65536 }
     ensures { Changes (painted range.role) (λ a. is_inside image.now a && has_address range a) cells.old cells.new }

@@ -18,6 +18,7 @@ use isa65::DecodeTable;
 use std::alloc::Allocator;
 
 /// Sets the bit for a name in the address's cell.
+#[tactic(auto, using(crate::proofs::ChangeLemmas::changes_one))]
 fn mark(cells: &mut [u16], address: u16)
     requires { length cells.old ≡ 65536 }
     ensures { Changes with_name (λ a. address == a) cells.old cells.new }
@@ -42,6 +43,7 @@ pub fn mark_own<A: Allocator>(cells: &mut [u16], info: &Info<A>)
 }
 
 /// Marks the addresses from `from` to before `to`.
+#[tactic(auto, using(crate::proofs::CellLemmas::with_name_again, crate::proofs::ChangeLemmas::spans))]
 fn mark_span(cells: &mut [u16], from: usize, to: usize)
     requires count { length cells.old ≡ 65536 }
     requires room { to ≤ 65536 }

@@ -51,7 +51,7 @@ fn most_of(size: Option<u32>) -> usize
 /// byte more than an image may have is read. The faults, in their order: `Read` if a read failed, `Short`
 /// if the input has fewer than INPUTSIZE bytes, `Empty`, `TooLarge`. `Memory` is returned only if memory
 /// ran out.
-#[tactic(auto, unfolding(crate::specs::Image::image_of))]
+#[tactic(auto, unfolding(crate::specs::Image::image_of), using(crate::proofs::ReadLemmas::read))]
 pub fn read_image<A: Allocator, R: Source>(
     alloc: A,
     info: &Info<A>,

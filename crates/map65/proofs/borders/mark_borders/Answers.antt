@@ -5,13 +5,13 @@ use Rattle.info65.specs.Views.{SegmentView}
 use Rattle.map65.specs.Code.Cells.{with_border}
 use Rattle.map65.specs.Code.Marking.{Changes}
 use Rattle.map65.specs.Segments.{borders, is_border}
-use Rattle.map65.proofs.CellLemmas.{with_border-again}
-use Rattle.map65.proofs.ChangeLemmas.{changes-more, changes-none}
+use Rattle.map65.proofs.CellLemmas.{with_border_again}
+use Rattle.map65.proofs.ChangeLemmas.{changes_more, changes_none}
 use Rattle.map65.proofs.borders.mark_borders.Goals as goal
 
 pub loop-i-init : goal.loop-i-init
 unfolding is_border
-loop-i-init g c = changes-none with_border c.args.cells.now c.requires
+loop-i-init g c = changes_none with_border c.args.cells.now c.requires
 
 pub loop-i-preserved : goal.loop-i-preserved
 unfolding is_border
@@ -24,7 +24,7 @@ loop-i-preserved g c =
     sym (ap (λ (l : List SegmentView). get_or l c.loop-i.i (segment_seen s)) c.segments-segments.ensures.segments)
     ∙ get_or-map segment_seen items c.loop-i.i s (segment_seen s) c.loop-i-test.true
     ∙ ap segment_seen (sym c.index-segments-i.is) in
-    changes-more with_border with_border-again borders segments c.loop-i.i (segment_seen s) c.args.cells.now c.loop-i.cells c.mark_segment.new.cells (omega (arith, all, c.loop-i-test.true)) c.loop-i.invariant
+    changes_more with_border with_border_again borders segments c.loop-i.i (segment_seen s) c.args.cells.now c.loop-i.cells c.mark_segment.new.cells (omega (arith, all, c.loop-i-test.true)) c.loop-i.invariant
     (subst (λ (v : SegmentView). Changes with_border (borders v) c.loop-i.cells c.mark_segment.new.cells) (sym here) c.mark_segment.ensures)
 
 pub returns : goal.returns

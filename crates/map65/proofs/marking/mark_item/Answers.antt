@@ -5,44 +5,44 @@ use Rattle.map65.specs.Code.Marking.{AreMarkedBelow}
 use Rattle.map65.specs.MapView.{MapView}
 use Rattle.map65.specs.Pieces.{is_own}
 use Rattle.map65.specs.Roles.{is_skip, role_of}
-use Rattle.map65.proofs.MarkingLemmas.{item-named, item-marked, next-begins, role-here, role-known, skip-marked}
+use Rattle.map65.proofs.MarkingLemmas.{item_named, item_marked, next_begins, role_here, role_known, skip_marked}
 use Rattle.map65.proofs.marking.mark_item.Goals as goal
 
 pub unwrap-role-requires : goal.unwrap-role-requires
 unwrap-role-requires g c =
     let m : MapView = record { info = c.args.info.now; image = c.args.image.now } in
-    subst IsSome (sym (role-known m c.args.address c.from-at.result c.args.cells.now c.role_in.result c.from-at.ensures c.requires.low c.requires.high (omega arith) c.requires.marked c.role_in.ensures)) refl
+    subst IsSome (sym (role_known m c.args.address c.from-at.result c.args.cells.now c.role_in.result c.from-at.ensures c.requires.low c.requires.high (omega arith) c.requires.marked c.role_in.ensures)) refl
 
 pub size_at-len-requires-clause-role : goal.size_at-len-requires-clause-role
 size_at-len-requires-clause-role g c =
     let m : MapView = record { info = c.args.info.now; image = c.args.image.now } in
-    role-here m c.args.address c.from-at.result c.args.cells.now c.role_in.result c.unwrap-role.result c.from-at.ensures c.requires.low c.requires.high (omega arith) c.requires.marked c.role_in.ensures c.unwrap-role.ensures
+    role_here m c.args.address c.from-at.result c.args.cells.now c.role_in.result c.unwrap-role.result c.from-at.ensures c.requires.low c.requires.high (omega arith) c.requires.marked c.role_in.ensures c.unwrap-role.ensures
 
 pub returns-then-not-is_skip : goal.returns-then-not-is_skip
 returns-then-not-is_skip g c =
     let m : MapView = record { info = c.args.info.now; image = c.args.image.now } in
-    let role : c.unwrap-role.result ≡ role_of c.args.info.now c.args.address = role-here m c.args.address c.from-at.result c.args.cells.now c.role_in.result c.unwrap-role.result c.from-at.ensures c.requires.low c.requires.high (omega arith) c.requires.marked c.role_in.ensures c.unwrap-role.ensures in
+    let role : c.unwrap-role.result ≡ role_of c.args.info.now c.args.address = role_here m c.args.address c.from-at.result c.args.cells.now c.role_in.result c.unwrap-role.result c.from-at.ensures c.requires.low c.requires.high (omega arith) c.requires.marked c.role_in.ensures c.unwrap-role.ensures in
     let shown : is_skip (role_of c.args.info.now c.args.address) ≡ false = sym (ap is_skip role) ∙ sym c.is_skip.ensures ∙ c.if-not-is_skip.true in
     let cell = c.with_len.ensures ∙ ap (λ (at : ℕ). with_len (get_or c.args.cells.now at 0) c.size_at-len.result) c.from-at.ensures in
     record {
       positive = c.size_at-len.ensures.positive;
       small = c.size_at-len.ensures.small;
-      begins = next-begins m c.args.address c.size_at-len.result c.requires.begins c.size_at-len.ensures.value;
+      begins = next_begins m c.args.address c.size_at-len.result c.requires.begins c.size_at-len.ensures.value;
       marked = subst (λ (at : ℕ). AreMarkedBelow m (c.args.address + c.size_at-len.result) (set c.args.cells.now at c.with_len.result)) (sym c.from-at.ensures)
-          (item-marked m c.args.address c.size_at-len.result c.args.cells.now c.requires.low c.requires.high (omega arith) c.requires.begins c.size_at-len.ensures.value c.requires.marked c.with_len.result cell shown);
+          (item_marked m c.args.address c.size_at-len.result c.args.cells.now c.requires.low c.requires.high (omega arith) c.requires.begins c.size_at-len.ensures.value c.requires.marked c.with_len.result cell shown);
       own = subst (λ (at : ℕ). AreNamed (is_own c.args.info.now.names) (set c.args.cells.now at c.with_len.result)) (sym c.from-at.ensures)
-          (item-named m c.args.address c.size_at-len.result c.args.cells.now c.requires.low c.requires.high (omega arith) c.requires.begins c.size_at-len.ensures.value c.requires.marked (is_own c.args.info.now.names) c.with_len.result cell c.requires.own);
+          (item_named m c.args.address c.size_at-len.result c.args.cells.now c.requires.low c.requires.high (omega arith) c.requires.begins c.size_at-len.ensures.value c.requires.marked (is_own c.args.info.now.names) c.with_len.result cell c.requires.own);
     }
 
 pub returns-else-not-is_skip : goal.returns-else-not-is_skip
 returns-else-not-is_skip g c =
     let m : MapView = record { info = c.args.info.now; image = c.args.image.now } in
-    let role : c.unwrap-role.result ≡ role_of c.args.info.now c.args.address = role-here m c.args.address c.from-at.result c.args.cells.now c.role_in.result c.unwrap-role.result c.from-at.ensures c.requires.low c.requires.high (omega arith) c.requires.marked c.role_in.ensures c.unwrap-role.ensures in
+    let role : c.unwrap-role.result ≡ role_of c.args.info.now c.args.address = role_here m c.args.address c.from-at.result c.args.cells.now c.role_in.result c.unwrap-role.result c.from-at.ensures c.requires.low c.requires.high (omega arith) c.requires.marked c.role_in.ensures c.unwrap-role.ensures in
     let skip : is_skip (role_of c.args.info.now c.args.address) ≡ true = sym (ap is_skip role) ∙ sym c.is_skip.ensures ∙ c.if-not-is_skip.false in
     record {
       positive = c.size_at-len.ensures.positive;
       small = c.size_at-len.ensures.small;
-      begins = next-begins m c.args.address c.size_at-len.result c.requires.begins c.size_at-len.ensures.value;
-      marked = skip-marked m c.args.address c.size_at-len.result c.args.cells.now c.requires.low c.requires.high (omega arith) c.requires.begins c.size_at-len.ensures.value c.requires.marked skip;
+      begins = next_begins m c.args.address c.size_at-len.result c.requires.begins c.size_at-len.ensures.value;
+      marked = skip_marked m c.args.address c.size_at-len.result c.args.cells.now c.requires.low c.requires.high (omega arith) c.requires.begins c.size_at-len.ensures.value c.requires.marked skip;
       own = c.requires.own;
     }

@@ -1,7 +1,7 @@
 use Rattle.std.proofs.Common.{◌≡◌, ◌∙◌, ◌≤◌, ap, arith, length}
 use Rattle.map65.specs.ImageView.{end_of}
 use Rattle.map65.specs.MapView.{MapView}
-use Rattle.map65.proofs.MarkingLemmas.{all-marked, first-begins, marked-none}
+use Rattle.map65.proofs.MarkingLemmas.{all_marked, first_begins, marked_none}
 use Rattle.map65.proofs.marking.mark_items.Goals as goal
 
 pub items-init : goal.items-init
@@ -10,8 +10,8 @@ items-init g c =
     let at : c.from-at.result ≡ c.args.image.now.start = c.from-at.ensures ∙ c.start.ensures in
     record {
       low = omega (arith, at);
-      begins = first-begins m _ at;
-      marked = marked-none m _ c.args.cells.now at c.requires.marked;
+      begins = first_begins m _ at;
+      marked = marked_none m _ c.args.cells.now at c.requires.marked;
       own = c.requires.own;
     }
 
@@ -21,7 +21,7 @@ returns g c =
     let bytes = ap length c.bytes.ensures.bytes in
     let past : end_of c.args.image.now ≤ c.items.at = omega (arith, c.from-at.ensures ∙ c.start.ensures, bytes, c.items-test.false) in
     record {
-      laid = all-marked m c.items.at c.items.cells past c.items.invariant.marked;
+      laid = all_marked m c.items.at c.items.cells past c.items.invariant.marked;
       own = c.items.invariant.own;
       placed = c.bytes.ensures.placed;
     }

@@ -1,7 +1,7 @@
 use Rattle.std.proofs.Common.{ap, ◌∙◌}
 use Rattle.info65.specs.Views.{SettingsView}
 use Rattle.map65.specs.Image.{image_by, most_of}
-use Rattle.map65.proofs.ReadLemmas.{image_seen, of_bytes, stops_here}
+use Rattle.map65.proofs.ReadLemmas.{image_seen}
 use Rattle.map65.proofs.reading.read_image.Goals as goal
 
 pub returns-clause-image : goal.returns-clause-image
@@ -11,13 +11,3 @@ returns-clause-image g c = λ _.
     (ap (λ (s : SettingsView). s.offset) (c.settings.view_is ∙ c.settings-settings.ensures.settings))
     (c.most_of.ensures ∙ ap (λ (s : SettingsView). most_of s.size) (c.settings.view_is ∙ c.settings-settings.ensures.settings))
     c.in_ok-bytes.ensures.bytes
-
-pub returns-clause-count : goal.returns-clause-count
-returns-clause-count g c = rw (c.from_bytes.ensures.value, c.in_ok-bytes.ensures.count) (of_bytes _ _ _ _)
-
-pub returns-clause-rest : goal.returns-clause-rest
-returns-clause-rest g c =
-    stops_here c.args.info.now.settings _ _ _ _ c.in_ok-bytes.bytes.items _ _ _ _ c.from_bytes.ensures.value
-    (ap (λ (s : SettingsView). s.offset) (c.settings.view_is ∙ c.settings-settings.ensures.settings))
-    (c.most_of.ensures ∙ ap (λ (s : SettingsView). most_of s.size) (c.settings.view_is ∙ c.settings-settings.ensures.settings))
-    c.in_ok-bytes.ensures.rest
