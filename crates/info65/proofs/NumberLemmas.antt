@@ -50,3 +50,5 @@ pub number_great : {R : Type 0} (bad high : R) (good : ℕ → R) (radix most : 
     → Some value ≡ number_of_digits radix ds → most < value → high ≡ number_upto bad high good radix most ds
 unfolding number_of_digits
 number_great bad high good radix most ds value h great = grind (arith, nat_tests)
+
+pub ruleset digits_read = (next_digit, next_value, saturates)

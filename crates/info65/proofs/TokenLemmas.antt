@@ -51,3 +51,6 @@ at_blank line b bs isnt blank = rw (ne_eqb b 10 isnt, blank) refl
 pub at_comment : (line b : ℕ) (bs : List ℕ) → (b ≡ 10 → ⊥) → is_blank b ≡ false → opens_comment (b ∷ bs) ≡ true → tokens_of line (b ∷ bs) ≡ tokens_after 0 true line bs
 unfolding tokens_after
 at_comment line b bs isnt blank opens = rw (ne_eqb b 10 isnt, blank, opens) refl
+
+-- what stands between tokens
+pub ruleset passed_over = (at_blank, at_comment, at_line_feed)

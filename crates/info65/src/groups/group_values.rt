@@ -9,6 +9,7 @@ use crate::syntax::attribute::{Attribute, GroupKind};
 use std::alloc::Allocator;
 
 /// The attribute is given.
+#[tactic(auto, using(crate::proofs::GroupLemmas::has_value))]
 pub fn has(given: &[Assignment], attribute: Attribute) -> bool
     ensures { result ≡ has attribute (map assignment_seen given.now) }
 {
@@ -87,6 +88,7 @@ pub fn global_value<'a, A: Allocator>(
 }
 
 // The attribute is given in a group GLOBAL.
+#[tactic(auto, using(crate::proofs::GroupLemmas::has_value))]
 fn has_global<A: Allocator>(groups: &[Group<A>], attribute: Attribute) -> bool
     ensures { result ≡ has attribute (global_given (map group_seen groups.now)) }
 {

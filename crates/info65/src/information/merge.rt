@@ -71,6 +71,7 @@ pub fn settings_of<'a, A: Allocator + Copy, B: Allocator>(
 }
 
 // A number that the command line chooses, or else that of the groups GLOBAL, or else the default.
+#[tactic(auto, using(crate::proofs::FormLemmas::at_most_120))]
 fn number_of<A: Allocator>(
     chosen: Option<u8>,
     groups: &[Group<A>],

@@ -44,6 +44,7 @@ pub fn mark<A: Allocator>(table: &mut Vec<bool, A>, first: u16, last: u16) -> Re
     Ok(())
 }
 
+#[tactic(auto, using(crate::proofs::IndexLemmas::marked_end))]
 fn set(table: &mut [bool], first: u16, last: u16)
     requires size { length table.old ≡ 0x1_0000 }
     requires ordered { first ≤ last }

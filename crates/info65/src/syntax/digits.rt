@@ -5,7 +5,7 @@ ghost use Rattle.info65.specs.Digits.{number_of_digits};
 
 /// Returns the number that the digits write, or 2^32 if it is greater. Returns `None` if there is no digit, or a byte
 /// that is not a digit of this radix.
-#[tactic(auto, unfolding(crate::specs::Digits::number_of_digits))]
+#[tactic(auto, unfolding(crate::specs::Digits::number_of_digits), using(crate::proofs::NumberLemmas::digits_read))]
 #[inline(always)]
 pub fn number_of_digits(digits: &[u8], radix: u32) -> Option<u64>
     requires low { 2 ≤ radix }

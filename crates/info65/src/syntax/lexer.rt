@@ -113,6 +113,7 @@ fn after_comment(bytes: &[u8]) -> &[u8]
 }
 
 // What is left after blanks and comments, and its line.
+#[tactic(auto, using(crate::proofs::TokenLemmas::passed_over))]
 #[inline(always)]
 fn after_blanks(bytes: &[u8], first_line: u32) -> (&[u8], u32)
     requires { first_line + length bytes.now < 2 ^ 32 }

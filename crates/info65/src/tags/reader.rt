@@ -24,6 +24,7 @@ fn put<A: Allocator>(found: &mut Vec<Tag, A>, tag: Option<Tag>) -> Result<(), Al
 }
 
 /// What the reader does next.
+#[tactic(auto, using(crate::proofs::TagLemmas::turns))]
 fn turn(lexer: &mut Lexer<'_>, place: Place) -> Result<Turn, InfoFault>
     ensures { Turns place lexer.old result lexer.new }
 {
