@@ -58,3 +58,5 @@ list_none read before ps e = rw e refl
 
 pub list_shorter : {B : Type 0} (read : List Part → Option (B × List Part)) → Shortens read → (ps rest left : List Part) (x : B) → read ps ≡ Some (x, rest) → left ≡ drop 1 rest → length left < length ps
 list_shorter read s ps rest left x e l = rw l (omega (arith, s.shorter ps (x, rest) e, length-drop 1 rest))
+
+pub ruleset lists = (list_none, list_next, list_last, list_more, list_shorter)

@@ -205,6 +205,7 @@ pub fn second_pass<'a, L: Allocator + Clone, A: Allocator + Clone, C: Allocator 
 /// defined as `name := number` on a line above.
 ///
 /// A fault of kind `Memory`, at line 0, comes only if an allocation was refused.
+#[tactic(auto, using(crate::proofs::PassLaws::means))]
 pub fn assemble_source<L: Allocator + Clone, A: Allocator + Clone>(
     alloc: A,
     source: &Source<'_, '_, '_, L>,

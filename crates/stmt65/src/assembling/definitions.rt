@@ -36,6 +36,7 @@ impl<'t, 'l, 'n, 'b, L: Allocator + Clone, A: Allocator> Definitions<'t, 'l, 'n,
     /// The definitions of all lines of a text. A line that is none defines nothing.
     ///
     /// Fails if an allocation is refused.
+    #[tactic(auto, unfolding(crate::specs::Definitions::definitions_of), using(crate::proofs::HeldLemmas::definitions_held))]
     pub fn new(alloc: &'b A, source: &'b Source<'t, 'l, 'n, L>) -> Result<Self, AllocError>
         ensures { IfOk result (λ d. d ≡ source_definitions source.now) }
     {

@@ -94,7 +94,7 @@ pub fn code_placed<
 }
 
 /// Codes a line whose names all stand above it, and returns whether it is one. Below a fault all are, since none is coded any more.
-#[tactic(auto, using(crate::proofs::PassLaws::takes_none))]
+#[tactic(auto, using(crate::proofs::PassLaws::takes_none, crate::proofs::PassLaws::takes_early))]
 pub fn code_early<'a, L: Allocator + Clone, A: Allocator + Clone, B: Allocator>(
     work: &mut Work<'a, A>,
     number: usize,
@@ -154,6 +154,7 @@ pub fn keep<'a, A: Allocator + Clone>(
 }
 
 /// Takes down a line that says nothing that the assembler knows.
+#[tactic(auto, using(crate::proofs::PassLaws::takes_refused))]
 pub fn refuse<'a, A: Allocator>(work: &mut Work<'a, A>, number: usize)
     ensures { (s : AState) → Takes work.old work.new number s None }
 {

@@ -87,6 +87,7 @@ fn first_of(tests: &[(AsmFaultKind, bool)]) -> Option<AsmFaultKind>
 }
 
 /// The lowest fault of a line in its state; `all` are the definitions of the whole text, `above` those above the line.
+#[tactic(auto, using(crate::proofs::HeldLemmas::fault_is))]
 pub fn fault_of<'a, A: Allocator + Clone, B: Allocator>(
     all: &Names<'_, '_, A>,
     above: &Names<'_, '_, A>,

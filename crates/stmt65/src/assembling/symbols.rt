@@ -89,6 +89,7 @@ fn named_place<A: Allocator>(
 
 impl<'a, A: Allocator + Clone> Symbols<'a, A> {
     /// No definitions.
+    #[tactic(auto, using(crate::proofs::SymbolLaws::index_empty))]
     pub fn new(alloc: A) -> Result<Self, AllocError>
         ensures { IfOk result (λ s. s ≡ []) }
     {
@@ -147,6 +148,7 @@ impl<'a, A: Allocator + Clone> Symbols<'a, A> {
     }
 
     /// Adds a definition after the others.
+    #[tactic(auto, using(crate::proofs::SymbolLaws::indexed))]
     pub fn define(&mut self, definition: Definition<'a>) -> Result<(), AllocError>
         ensures { OnOk result (self.new ≡ self.old ++ definition_of definition.entry ∷ []) }
     {

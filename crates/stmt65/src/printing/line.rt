@@ -105,6 +105,7 @@ fn put_bytes(out: &mut Line, bytes: &[u8])
     }
 }
 
+#[tactic(auto, using(crate::proofs::WidthLemmas::each_in_width))]
 fn put_data(out: &mut Line, columns: &Columns, bytes: &[u8])
     requires room { array_vec_len out.old ≤ 82 }
     requires some { 1 ≤ length bytes.now }
@@ -118,6 +119,7 @@ fn put_data(out: &mut Line, columns: &Columns, bytes: &[u8])
     put_bytes(out, bytes);
 }
 
+#[tactic(auto, using(crate::proofs::WidthLemmas::each_in_width))]
 fn put_text_data(out: &mut Line, columns: &Columns, bytes: &[u8])
     requires room { array_vec_len out.old ≤ 82 }
     requires some { 1 ≤ length bytes.now }
@@ -131,6 +133,7 @@ fn put_text_data(out: &mut Line, columns: &Columns, bytes: &[u8])
     put_text(out, bytes);
 }
 
+#[tactic(auto, using(crate::proofs::WidthLemmas::each_in_width))]
 fn put_numbers(out: &mut Line, columns: &Columns, directive: Directive, bytes: &[u8])
     requires room { array_vec_len out.old ≤ 82 }
     requires table { IsTable directive bytes.now }

@@ -49,6 +49,7 @@ fn put_entry(out: &mut Line, directive: Directive, bytes: &[u8])
 }
 
 /// Appends the first entry, and returns the bytes after it.
+#[tactic(auto, using(crate::proofs::TableTexts::entry_put))]
 fn put_first_entry<'a>(out: &mut Line, directive: Directive, bytes: &'a [u8]) -> &'a [u8]
     requires some { entry_len directive ≤ length bytes.now }
     requires room { array_vec_len out.old + 3 * length bytes.now ≤ 512 }

@@ -121,7 +121,7 @@ fn alone_at(language: Language, bytes: &[u8]) -> (Part<'_>, usize)
 }
 
 /// The part that begins with the first byte, and how many of the bytes after it belong to it.
-#[tactic(auto, unfolding(crate::specs::Lexing::part_at))]
+#[tactic(auto, unfolding(crate::specs::Lexing::part_at), using(crate::proofs::PartLemmas::longest))]
 fn part_at(language: Language, bytes: &[u8]) -> (Part<'_>, usize)
     requires { 0 < length bytes.now }
     ensures part { part_of result.0 ≡ (part_at language (slice_index bytes.now 0) (drop 1 bytes.now)).0 }
@@ -173,7 +173,7 @@ fn after_blanks(bytes: &[u8]) -> &[u8]
 }
 
 /// The first part of the line, and the bytes after it.
-#[tactic(auto, using(crate::proofs::PartLemmas::lexing))]
+#[tactic(auto, using(crate::proofs::PartLemmas::lexing, crate::proofs::PartLemmas::first_step))]
 pub fn first_part(language: Language, bytes: &[u8]) -> Option<(Part<'_>, &[u8])>
     ensures { MatchOption result (parts language bytes.now ≡ [])
         (λ found. parts language bytes.now ≡ part_of found.0 ∷ parts language found.1.now) }

@@ -152,6 +152,7 @@ fn next_half<'a>(half: Half, parts: &mut Parts<'a>) -> Option<Datum<'a>>
 }
 
 /// Values or data joined by commas, with nothing after them.
+#[tactic(auto, using(crate::proofs::ListLemmas::lists))]
 fn list_in<'a, R: Copy, T: Listed<'a, R> + Drop, A: Allocator>(
     alloc: A,
     rule: R,
