@@ -17,7 +17,7 @@ WIDER = {
     "map65": 13,
     "usage65": 10,
     "da65": 55,
-    "reach65": 40,
+    "reach65": 20,
     "files65": 4,
     "da65_cli": 12,
     "as65": 23,

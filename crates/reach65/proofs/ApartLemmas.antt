@@ -71,27 +71,14 @@ code-is m marks a is = grind (arith, Any-from_list_any)
 
 pub tests_apart : (m : MapView) (marks : List Bool) (b : ℕ) → is_after marks b (len_at m b) 1 ≡ false → is_after marks b (len_at m b) 2 ≡ false
     → is_before m marks b 1 ≡ false → is_before m marks b 2 ≡ false → IsApart m marks b
-tests_apart m marks b one two three four = record {
-  each = λ c x marked has_b has_c.
-      let mine = has-span m b x has_b in
-      let its = has-span m c x has_c in
-      elim (cases_order b c) as (λ _. b ≡ c) [
-        | inl same ↦ same
-        | inr rest ↦ elim rest as (λ _. b ≡ c) [
-          | inl later ↦ absurd (after-none marks b c (len_at m b) (op-short (instruction_at m b)) later (omega (arith, mine.high, its.low)) marked one two)
-          | inr earlier ↦ absurd (before-none m marks b c earlier (omega (arith, mine.low, its.high)) marked three four)
-        ]
-      ];
-}
+tests_apart m marks b one two three four = grind (arith, has-span, cases_order, after-none, op-short, before-none)
 
 -- ---- bytes of code
 
 -- a marked instruction that has an address begins there, or one or two bytes before
 none-has : (m : MapView) (marks : List Bool) (x : ℕ) → is_before m marks x 0 ≡ false → is_before m marks x 1 ≡ false → is_before m marks x 2 ≡ false
     → (b : ℕ) → is_marked marks b ≡ true → has_byte m b x ≡ true → ⊥
-none-has m marks x zero_before one two b marked has =
-    let its = has-span m b x has in
-    before-none-of m marks x b its.low its.high marked zero_before one two
+none-has m marks x zero_before one two b marked has = grind (arith, has-span, before-none-of)
 
 pub no_code : (m : MapView) (marks : List Bool) (x : ℕ) → is_before m marks x 0 ≡ false → is_before m marks x 1 ≡ false → is_before m marks x 2 ≡ false
     → is_code m marks x ≡ false

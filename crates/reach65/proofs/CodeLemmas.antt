@@ -1,13 +1,12 @@
 -- With the ranges that are proposed each reached instruction is an item.
-use Rattle.std.proofs.Common.{◌≡◌, ◌∙◌, ℕ, zero, suc, ◌+◌, ◌-◌, ◌<◌, ◌≤◌, ◌&&◌, ◌||◌, nat_le, Bool, true, false, List, [], ◌∷◌, ◌++◌, length, get_or, Option, Some, None, refl, ap, sym, subst, arith, inl, inr, ◌⊎◌, cond}
-use Rattle.std.proofs.lemmas.Bool.{and_from, and_right, cases_Bool, cases_eq, cases_lt, cond-false, cond_both, le-leb, leb-true, lt-ltb, not-false, not_from_true, or_parts, or_right}
+use Rattle.std.proofs.Common.{◌≡◌, ◌∙◌, ℕ, zero, suc, ◌+◌, ◌-◌, ◌<◌, ◌≤◌, ◌&&◌, nat_le, Bool, true, false, List, [], ◌∷◌, ◌++◌, length, get_or, Option, Some, None, refl, ap, sym, subst, arith, inl, inr, ◌⊎◌}
+use Rattle.std.proofs.lemmas.Bool.{and_from, and_right, cases_Bool, cases_eq, cases_lt, cond_both, le-leb, leb-true, lt-ltb, not-false, not_from_true, or_right}
 use Rattle.std.proofs.lemmas.List.Folds.{Any-from_list_any, list_any_at}
 use Rattle.isa65.specs.Mode.{len_of}
 use Rattle.isa65.proofs.ModeLaws.{len-positive}
 use Rattle.isa65.specs.Opcodes.{decoded}
 use Rattle.isa65.specs.Cpu.{table_of}
 use Rattle.isa65.specs.declared.op.Op.{Op}
-use Rattle.info65.specs.Ranges.{has_address}
 use Rattle.info65.specs.Views.{InfoView}
 use Rattle.info65.specs.declared.information.range.RangeSpec.{RangeSpec}
 use Rattle.info65.specs.declared.information.range.RangeType.{RangeType}
@@ -20,7 +19,7 @@ use Rattle.map65.specs.Pieces.{AreOnePiece, AreOneRun, IsFirst, is_in_run, is_jo
 use Rattle.map65.specs.Roles.{is_skip, is_wide, role_at, role_in, role_of}
 use Rattle.map65.specs.Segments.{is_border}
 use Rattle.map65.specs.Spans.{addresses}
-use Rattle.reach65.proofs.PieceLemmas.{pieces-cover}
+use Rattle.reach65.proofs.PieceLemmas.{pieces_cover}
 use Rattle.reach65.specs.Flow.{if_whole, instruction_at, op_in}
 use Rattle.reach65.specs.Laws.{AreWhole, CodeLaw, IsOfCode, IsReachedBefore, IsWith, with_info}
 use Rattle.reach65.specs.Pieces.{ArePieces, Ground, IsPiece, IsStretch, is_free}
@@ -32,21 +31,17 @@ use Rattle.reach65.specs.Taken.{AreMarkedBy, has_byte, is_code, is_given, is_tak
 role-none : (rs : List RangeSpec) (a : ℕ) → is_given rs a ≡ false → role_in rs a ≡ role.Code
 unfolding is_given role_in
 role-none [] a none = refl
-role-none (r ∷ rs) a none = let parts = or_parts (has_address r a) (is_given rs a) none in cond-false (has_address r a) r.role (role_in rs a) parts.0 ∙ role-none rs a parts.1
+role-none (r ∷ rs) a none = grind (arith, role-none rs a)
 
 role-given : (rs later : List RangeSpec) (a : ℕ) → is_given rs a ≡ true → role_in (rs ++ later) a ≡ role_in rs a
 unfolding is_given role_in
 role-given [] later a is = cc
-role-given (r ∷ rs) later a is = by_first (has_address r a) (is_given rs a) (role_in (rs ++ later) a) (role_in rs a) r.role is (role-given rs later a)
-  where
-    by_first : (x y : Bool) (p q o : RangeType) → (x || y) ≡ true → (y ≡ true → p ≡ q) → cond x o p ≡ cond x o q
-    by_first true y p q o is rest = refl
-    by_first false y p q o is rest = rest is
+role-given (r ∷ rs) later a is = grind (arith, role-given rs later a)
 
 role-later : (rs later : List RangeSpec) (a : ℕ) → is_given rs a ≡ false → role_in (rs ++ later) a ≡ role_in later a
 unfolding is_given role_in
 role-later [] later a none = refl
-role-later (r ∷ rs) later a none = let parts = or_parts (has_address r a) (is_given rs a) none in cond-false (has_address r a) r.role (role_in (rs ++ later) a) parts.0 ∙ role-later rs later a parts.1
+role-later (r ∷ rs) later a none = grind (arith, role-later rs later a)
 
 -- a piece is no code
 piece-other : (g : Ground) (r : RangeType) (from end : ℕ) → IsPiece g r from end → r ≡ role.Code → ⊥
@@ -60,12 +55,7 @@ stretch-other g r from end (inr piece) is = piece-other g r from end piece.1 is
 pieces-other : (g : Ground) (from a : ℕ) (rs : List RangeSpec) → ArePieces g from rs → is_given rs a ≡ true → role_in rs a ≡ role.Code → ⊥
 unfolding ArePieces is_given role_in
 pieces-other g from a [] are given is = cc
-pieces-other g from a (r ∷ rs) are given is =
-    by_first (has_address r a) (is_given rs a) (role_in rs a) given is (stretch-other g r.role r.first (r.last + 1) are.3) (pieces-other g (r.last + 1) a rs are.4)
-  where
-    by_first : (x y : Bool) (q : RangeType) → (x || y) ≡ true → cond x r.role q ≡ role.Code → (r.role ≡ role.Code → ⊥) → (y ≡ true → q ≡ role.Code → ⊥) → ⊥
-    by_first true y q given is first rest = first is
-    by_first false y q given is first rest = rest given is
+pieces-other g from a (r ∷ rs) are given is = grind (arith, stretch-other, pieces-other g (r.last + 1) a rs)
 
 -- ---- the instruction of an address
 
@@ -162,7 +152,7 @@ module _ (m : MapView) (marks taken words returns texts : List Bool) (pieces : L
   role-kept x inside code is =
       ap (λ l. role_in l x) new.ranges ∙ elim (cases_Bool (is_given m.info.ranges x)) as (λ _. role_in (m.info.ranges ++ pieces) x ≡ role.Code) [
         | inl given ↦ role-given m.info.ranges pieces x given ∙ code
-        | inr none ↦ role-later m.info.ranges pieces x none ∙ role-none pieces x (pieces-cover ground pieces are x ∙ unfree x inside (code-taken m marks x is))
+        | inr none ↦ role-later m.info.ranges pieces x none ∙ role-none pieces x (pieces_cover ground pieces are x ∙ unfree x inside (code-taken m marks x is))
       ]
 
   -- what is code belongs to a range that was given, or is reached
@@ -172,7 +162,7 @@ module _ (m : MapView) (marks taken words returns texts : List Bool) (pieces : L
         | inl is ↦ given is
         | inr none ↦ elim (cases_Bool (is_given pieces x)) as (λ _. IsOfCode m marks x) [
           | inl proposed ↦ absurd (pieces-other ground 0 x pieces are proposed (sym (role-later m.info.ranges pieces x none) ∙ sym (ap (λ l. role_in l x) new.ranges) ∙ code))
-          | inr apart ↦ given-taken m marks x (free-not x inside (sym (pieces-cover ground pieces are x) ∙ apart)) none
+          | inr apart ↦ given-taken m marks x (free-not x inside (sym (pieces_cover ground pieces are x) ∙ apart)) none
         ]
       ]
 
@@ -256,6 +246,4 @@ module _ (m : MapView) (marks taken words returns texts : List Bool) (pieces : L
       })
 
 pub code_law : (m : MapView) → CodeLaw m
-code_law m tags entries marks taken words returns texts pieces info placed reached spoken are new whole = record {
-  each = λ a op marked is before. items-below m marks taken words returns texts pieces info placed spoken are new whole (suc a) a op (omega arith) marked is before;
-}
+code_law m tags entries marks taken words returns texts pieces info placed reached spoken are new whole = grind (arith, items-below)

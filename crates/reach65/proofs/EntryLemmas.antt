@@ -11,11 +11,11 @@ use Rattle.reach65.specs.Entries.{pointer_at, pointer_for}
 use Rattle.map65.proofs.Public.{role_at-inside}
 
 -- an address of the image has a role
-pub has-role : (m : MapView) (a : ℕ) (o : Option RangeType) → m.image.start ≤ a → a < end_of m.image → o ≡ role_at m a → o ≡ None → ⊥
-has-role m a o low high known none = grind (arith, role_at-inside)
+pub has_role : (m : MapView) (a : ℕ) (o : Option RangeType) → m.image.start ≤ a → a < end_of m.image → o ≡ role_at m a → o ≡ None → ⊥
+has_role m a o low high known none = grind (arith, role_at-inside)
 
 -- what a table's entry refers to follows from its role, its length and its bytes
-pub pointer-here : (m : MapView) (a : ℕ) (o : Option RangeType) (r : RangeType) → m.image.start ≤ a → a < end_of m.image → o ≡ role_at m a → o ≡ Some r
+pub pointer_here : (m : MapView) (a : ℕ) (o : Option RangeType) (r : RangeType) → m.image.start ≤ a → a < end_of m.image → o ≡ role_at m a → o ≡ Some r
     → pointer_for m a (layout_of r).entry (item_len m a) (bytes_from m.image a) ≡ pointer_at m a
 unfolding pointer_at pointer_for target_at target_for
-pointer-here m a o r low high known some = grind (arith, role_at-inside)
+pointer_here m a o r low high known some = grind (arith, role_at-inside)

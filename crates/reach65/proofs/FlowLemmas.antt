@@ -1,13 +1,11 @@
 -- Where instructions lead.
-use Rattle.std.proofs.Common.{◌≡◌, ◌<◌, ℕ, Bool, true, false, List, [], ◌∷◌, length, inl, inr, refl, Option, Some, None, option_and_then, arith}
-use Rattle.std.specs.Prelude.{if◌then◌else◌}
-use Rattle.std.proofs.lemmas.Bool.{cond_both}
+use Rattle.std.proofs.Common.{◌≡◌, ◌<◌, ℕ, true, List, [], ◌∷◌, length, inl, inr, refl, Option, Some, None, option_and_then, arith}
 use Rattle.map65.proofs.Public.{within}
 use Rattle.map65.specs.ImageView.{bytes_from, ImageView, IsPlaced, is_inside}
 use Rattle.map65.specs.MapView.{MapView}
 use Rattle.map65.specs.Targets.{only_inside}
 use Rattle.isa65.specs.declared.op.Op.{Op}
-use Rattle.reach65.specs.Flow.{FlowView, LeadsTo, end_after, goal_at, goal_by, goal_of, instruction_at, is_last, next_at, next_of, text_of}
+use Rattle.reach65.specs.Flow.{FlowView, LeadsTo, goal_at, goal_by, goal_of, instruction_at, next_at, next_of, text_of}
 use Rattle.reach65.specs.Inlines.{inline_of}
 use Rattle.info65.specs.declared.tags.tag.Tag.{Tag}
 
@@ -20,9 +18,7 @@ then-inside image (Some t) b is = only_inside-is image t b is
 
 next_of-inside : (f : FlowView) (a : ℕ) (o : Option Op) (b : ℕ) → next_of f a o ≡ Some b → is_inside f.map.image b ≡ true
 next_of-inside f a None b is = cc
-next_of-inside f a (Some op) b is =
-    cond_both (is_last op.mnemonic) None (option_and_then (only_inside f.map.image) (end_after f a op)) (λ o. o ≡ Some b → is_inside f.map.image b ≡ true)
-    (λ _ none. cc) (λ _ to. then-inside f.map.image (end_after f a op) b to) is
+next_of-inside f a (Some op) b is = grind (arith, then-inside)
 
 goal_by-inside : (m : MapView) (a : ℕ) (o : Option Op) (b : ℕ) → goal_by m a o ≡ Some b → is_inside m.image b ≡ true
 goal_by-inside m a None b is = cc
@@ -45,11 +41,7 @@ no-inline [] None none = refl
 no-inline [] (Some t) none = refl
 no-inline (tag ∷ tags) o none = absurd (omega (arith, none))
 
-if-none : (x : Bool) (o : Option Tag) → o ≡ None → (if x then o else None) ≡ None
-if-none true o none = none
-if-none false o none = refl
-
 -- no text stands behind a call if there are no groups
 pub no_text : (f : FlowView) (a : ℕ) (op : Op) → length f.tags ≡ 0 → text_of f a op ≡ None
 unfolding text_of
-no_text f a op none = if-none _ _ (no-inline f.tags (goal_of op.mnemonic op.mode a (bytes_from f.map.image a)) none)
+no_text f a op none = grind (arith, no-inline)

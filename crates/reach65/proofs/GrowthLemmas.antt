@@ -1,5 +1,5 @@
 -- The growth of a search, one candidate after the other.
-use Rattle.std.proofs.Common.{◌≡◌, ◌≤◌, ◌<◌, ℕ, Bool, true, List, length, get_or, Some, subst, sym}
+use Rattle.std.proofs.Common.{◌≡◌, ◌≢◌, ◌⊎◌, ◌+◌, ◌≤◌, ◌<◌, ℕ, Bool, true, List, arith, length, get_or, Some, inl, inr, subst, sym}
 use Rattle.std.specs.List.{Contains}
 use Rattle.std.proofs.lemmas.List.Elements.{Contains-get_or}
 use Rattle.isa65.specs.declared.op.Op.{Op}
@@ -7,7 +7,7 @@ use Rattle.reach65.specs.Code.Growing.{HasPair, IsGrown, extent_of}
 use Rattle.reach65.specs.Code.Searching.{HasJoined, IsAsBefore, IsDone, State}
 use Rattle.reach65.specs.Entries.{pointers}
 use Rattle.reach65.specs.Flow.{FlowView, end_after, instruction_at}
-use Rattle.reach65.specs.Growth.{AreBeside, BeginsCode, Grows, IsCandidate, IsFollowed, MayJoin, alone, behind, in_halves, in_row, in_table, joined, unchanged}
+use Rattle.reach65.specs.Growth.{AreBeside, BeginsCode, Grows, IsCandidate, IsFollowed, IsWordOf, MayJoin, after, alone, before, behind, in_halves, in_row, in_table, joined, unchanged}
 use Rattle.reach65.specs.Pairs.{pairs_at}
 use Rattle.reach65.specs.Reached.{AreReached, is_marked}
 use Rattle.reach65.specs.declared.pairs.Pair.{Pair}
@@ -26,6 +26,13 @@ may_alone f s a candidate = alone candidate
 pub table_may : (f : FlowView) (s : State) (tables : List ℕ) (k : ℕ) → tables ≡ pointers f.map → k < length tables → MayJoin f (extent_of s) (get_or tables k 0) 3
 table_may f s tables k is low = in_table (subst (λ l. Contains l (get_or tables k 0)) is (Contains-get_or tables k 0 low))
 
+-- two different words, one after the other
+pub are_beside : (f : FlowView) (marks : List Bool) (less at beside a b : ℕ) → IsWordOf f marks less at a → IsWordOf f marks less beside b → a ≢ b
+    → (beside ≡ at + 2) ⊎ (at ≡ beside + 2) → AreBeside f marks less a b
+are_beside f marks less at beside a b one other differ (inl is) = before at (record { first = one; second = subst (λ k. IsWordOf f marks less k b) is other; differ = differ })
+are_beside f marks less at beside a b one other differ (inr is) =
+    after beside (record { first = other; second = subst (λ k. IsWordOf f marks less k a) is one; differ = λ same. differ (sym same) })
+
 -- ---- growth
 
 same-extent : (old new : State) → IsAsBefore old new → extent_of new ≡ extent_of old
@@ -41,10 +48,7 @@ pub grown_same : (f : FlowView) (s : State) → IsDone f s → IsGrown f s s
 grown_same f s done = record { done = done; grown = λ first was. was }
 
 pub grown_before : (f : FlowView) (old new : State) → IsDone f old → IsAsBefore old new → IsGrown f old new
-grown_before f old new done same = record {
-  done = record { reached = subst (λ e. AreReached f e.entries e.marks) (sym (same-extent old new same)) done.reached; todo = same.todo };
-  grown = λ first was. subst (Grows f first) (sym (same-extent old new same)) was;
-}
+grown_before f old new done same = grind (arith, same-extent)
 
 pub grown_joined : (f : FlowView) (old new : State) (a least : ℕ) → MayJoin f (extent_of old) a least → HasJoined f least old a new → IsGrown f old new
 grown_joined f old new a least candidate has = record {

@@ -10,7 +10,7 @@ pub mod TextPieceRows
 pub mod FindRows
 pub mod TakenLemmas
 pub mod LabelLemmas
-mod LoopLemmas
+pub mod LoopLemmas
 pub mod SurveyLemmas
 pub mod LenLemmas
 pub mod PieceLemmas
@@ -19,4 +19,4 @@ pub mod CodeRows
 pub mod TextLemmas
 pub mod TextLaws
 pub mod TextRows
-mod VariableLemmas
+pub mod VariableLemmas

@@ -1,61 +1,36 @@
 -- One piece after the other.
-use Rattle.std.proofs.Common.{All, zero, suc, ◌≡◌, ◌+◌, ◌-◌, ◌<◌, ◌≤◌, ◌∙◌, ◌==◌, ◌&&◌, ◌||◌, not, nat_le, ℕ, true, false, List, [], ◌∷◌, ◌++◌, append_assoc, ap, arith, inl, inr, refl, subst, sym}
+use Rattle.std.proofs.Common.{All, zero, suc, ◌≡◌, ◌+◌, ◌-◌, ◌<◌, ◌≤◌, ◌∙◌, not, nat_le, ℕ, true, false, List, [], ◌∷◌, ◌++◌, append_assoc, arith, inl, inr, refl, subst, sym}
 use Rattle.std.proofs.lemmas.Bool.Decides.{nat_tests}
-use Rattle.std.proofs.lemmas.Bool.{and_left, and_parts, and_right, cases_eq, cases_lt, cond_both, le-leb, lt-leb, le-ltb, not-false, not_from_false, or_left, or_parts}
+use Rattle.std.proofs.lemmas.Bool.{and_left, and_parts, and_right, cases_eq, cases_lt, cond_both, le-leb, lt-leb, le-ltb, not_from_false, or_left}
 use Rattle.std.proofs.lemmas.List.{append-nil}
 use Rattle.info65.specs.Ranges.{has_address}
 use Rattle.info65.specs.declared.information.range.RangeSpec.{RangeSpec}
 use Rattle.info65.specs.declared.information.range.RangeType.{RangeType}
 use Rattle.info65.specs.declared.information.range.RangeType.TheVariants as role
-use Rattle.map65.specs.ImageView.{byte_at, end_of}
+use Rattle.map65.specs.ImageView.{end_of}
 use Rattle.reach65.specs.Code.Cutting.{IsRun}
 use Rattle.reach65.specs.Pieces.{ArePieces, Ground, IsKnown, IsPiece, IsStretch, LiesIn, are_same, begins_text, is_break, is_filler, is_free, is_open, is_plain, is_return, is_same, is_word, past_zero}
-use Rattle.reach65.proofs.LenLemmas.{plain-free, text-free}
-use Rattle.reach65.specs.Reached.{is_marked}
+use Rattle.reach65.proofs.LenLemmas.{text-free}
 use Rattle.reach65.specs.Taken.{is_given}
 
 -- ---- free addresses
 
 -- nothing past the image is free
-pub past-free : (g : Ground) (a : ℕ) → end_of g.image ≤ a → is_free g a ≡ false
+pub past_free : (g : Ground) (a : ℕ) → end_of g.image ≤ a → is_free g a ≡ false
 unfolding is_free
-past-free g a past = and_left _ _ (and_right (nat_le g.image.start a) _ (le-ltb a (end_of g.image) past))
-
-pub past-word : (g : Ground) (a : ℕ) → end_of g.image ≤ a → is_word g a ≡ false
-unfolding is_word
-past-word g a past = and_left _ _ (past-free g a past)
-
-pub past-return : (g : Ground) (a : ℕ) → end_of g.image ≤ a → is_return g a ≡ false
-unfolding is_return
-past-return g a past = and_left _ _ (past-free g a past)
+past_free g a past = and_left _ _ (and_right (nat_le g.image.start a) _ (le-ltb a (end_of g.image) past))
 
 pub past-plain : (g : Ground) (a : ℕ) → end_of g.image ≤ a → is_plain g a ≡ false
 unfolding is_plain
-past-plain g a past = and_left _ _ (past-free g a past)
+past-plain g a past = and_left _ _ (past_free g a past)
 
-pub past-same : (g : Ground) (from a : ℕ) → end_of g.image ≤ a → is_same g from a ≡ false
+pub past_same : (g : Ground) (from a : ℕ) → end_of g.image ≤ a → is_same g from a ≡ false
 unfolding is_same
-past-same g from a past = and_left _ _ (past-plain g a past)
+past_same g from a past = and_left _ _ (past-plain g a past)
 
-pub past-break : (g : Ground) (a : ℕ) → end_of g.image ≤ a → is_break g a ≡ true
+pub past_break : (g : Ground) (a : ℕ) → end_of g.image ≤ a → is_break g a ≡ true
 unfolding is_break
-past-break g a past = or_left _ _ (not_from_false (is_plain g a) (past-plain g a past))
-
-word-free : (g : Ground) (a : ℕ) → is_word g a ≡ true → is_free g a ≡ true
-unfolding is_word
-word-free g a is = (and_parts (is_free g a) (is_marked g.words a) is).0
-
-return-free : (g : Ground) (a : ℕ) → is_return g a ≡ true → is_free g a ≡ true
-unfolding is_return
-return-free g a is = (and_parts (is_free g a) (is_marked g.returns a) is).0
-
-same-free : (g : Ground) (from a : ℕ) → is_same g from a ≡ true → is_free g a ≡ true
-unfolding is_same
-same-free g from a is = plain-free g a (and_parts (is_plain g a) (byte_at g.image a == byte_at g.image from) is).0
-
-break-free : (g : Ground) (a : ℕ) → is_break g a ≡ false → is_free g a ≡ true
-unfolding is_break
-break-free g a is = plain-free g a (not-false (is_plain g a) (or_parts (not (is_plain g a)) (is_filler g a || begins_text g a) is).0)
+past_break g a past = or_left _ _ (not_from_false (is_plain g a) (past-plain g a past))
 
 before-free : (g : Ground) (a : ℕ) → a < g.image.start → is_free g a ≡ false
 unfolding is_free
@@ -65,20 +40,18 @@ unfree-filler : (g : Ground) (a : ℕ) → is_free g a ≡ false → is_filler g
 unfolding is_filler are_same is_same is_plain
 unfree-filler g a none = and_left _ _ (and_left _ _ (and_left _ _ none))
 
-pub before-filler : (g : Ground) (a : ℕ) → a < g.image.start → is_filler g a ≡ false
-before-filler g a low = unfree-filler g a (before-free g a low)
+pub before_filler : (g : Ground) (a : ℕ) → a < g.image.start → is_filler g a ≡ false
+before_filler g a low = unfree-filler g a (before-free g a low)
 
-pub past-filler : (g : Ground) (a : ℕ) → end_of g.image ≤ a → is_filler g a ≡ false
-past-filler g a past = unfree-filler g a (past-free g a past)
+pub past_filler : (g : Ground) (a : ℕ) → end_of g.image ≤ a → is_filler g a ≡ false
+past_filler g a past = unfree-filler g a (past_free g a past)
 
 -- ---- equal bytes, one after the other
 
 -- a byte that stands at two addresses is the same as at others by either
 same-by : (g : Ground) (a b x : ℕ) → is_same g a b ≡ true → is_same g a x ≡ is_same g b x
 unfolding is_same
-same-by g a b x is =
-    let equal : byte_at g.image b ≡ byte_at g.image a = grind (arith, nat_tests) in
-    ap (λ n. is_plain g x && byte_at g.image x == n) (sym equal)
+same-by g a b x is = grind (arith, nat_tests)
 
 same-here : (g : Ground) (a : ℕ) → is_plain g a ≡ true → is_same g a (a + 0) ≡ true
 unfolding is_same
@@ -86,10 +59,7 @@ same-here g a plain = let none : a + 0 ≡ a = omega arith in rw (none, plain) g
 
 pub run_none : (g : Ground) (a : ℕ) → is_plain g a ≡ false → IsRun g a 0
 unfolding is_same
-run_none g a plain = record {
-  same = λ k low. absurd (omega (arith, low));
-  stops = let none : a + 0 ≡ a = omega arith in rw (none, plain) refl;
-}
+run_none g a plain = grind arith
 
 pub run_one : (g : Ground) (a : ℕ) → is_plain g a ≡ true → is_same g a (a + 1) ≡ false → IsRun g a 1
 run_one g a plain other = record {
@@ -110,8 +80,8 @@ run_more g a n plain is run = record {
       subst (λ x. is_same g a x ≡ false) at (same-by g a (a + 1) (a + 1 + n) is ∙ run.stops);
 }
 
-pub run-past : (g : Ground) (a : ℕ) → end_of g.image ≤ a → IsRun g a 0
-run-past g a past = run_none g a (past-plain g a past)
+pub run_past : (g : Ground) (a : ℕ) → end_of g.image ≤ a → IsRun g a 0
+run_past g a past = run_none g a (past-plain g a past)
 
 -- so many bytes are the same exactly if the run has as many
 are-run : (g : Ground) (from m n a : ℕ) → ((k : ℕ) → k < n → is_same g from (a + k) ≡ true) → is_same g from (a + n) ≡ false → are_same g from a m ≡ nat_le m n
@@ -130,65 +100,60 @@ are-run g from (suc m) (suc n) a same stops =
     (subst (λ x. is_same g from x ≡ false) on stops) in
     rw (here, rest) grind (arith, nat_tests)
 
-pub filler-run : (g : Ground) (a n : ℕ) → IsRun g a n → is_filler g a ≡ nat_le 16 n
+pub filler_run : (g : Ground) (a n : ℕ) → IsRun g a n → is_filler g a ≡ nat_le 16 n
 unfolding is_filler
-filler-run g a n run = are-run g a 16 n a run.same run.stops
+filler_run g a n run = are-run g a 16 n a run.same run.stops
 
 -- ---- the first address of a piece
 
-pub filler-same : (g : Ground) (a : ℕ) → is_filler g a ≡ true → is_same g a a ≡ true
+pub filler_same : (g : Ground) (a : ℕ) → is_filler g a ≡ true → is_same g a a ≡ true
 unfolding is_filler are_same
-filler-same g a is = (and_parts (is_same g a a) (are_same g a (a + 1) 15) is).0
+filler_same g a is = (and_parts (is_same g a a) (are_same g a (a + 1) 15) is).0
 
-pub plain-unbroken : (g : Ground) (a : ℕ) → is_free g a ≡ true → is_word g a ≡ false → is_return g a ≡ false → is_filler g a ≡ false → begins_text g a ≡ false → is_break g a ≡ false
+pub plain_unbroken : (g : Ground) (a : ℕ) → is_free g a ≡ true → is_word g a ≡ false → is_return g a ≡ false → is_filler g a ≡ false → begins_text g a ≡ false → is_break g a ≡ false
 unfolding is_break is_plain is_return is_word
-plain-unbroken g a free word less filler text = grind (arith, free, word, less, filler, text)
+plain_unbroken g a free word less filler text = grind (arith, free, word, less, filler, text)
 
 -- each address of a piece is free
 piece-free : (g : Ground) (r : RangeType) (from end a : ℕ) → IsPiece g r from end → from ≤ a → a < end → is_free g a ≡ true
-piece-free g role.AddrTable from end a piece low high = word-free g a (piece.0 a low high)
-piece-free g role.RtsTable from end a piece low high = return-free g a (piece.0 a low high)
+unfolding is_break is_plain is_return is_same is_word
+piece-free g role.AddrTable from end a piece low high = let here = piece.0 a low high in grind arith
+piece-free g role.RtsTable from end a piece low high = let here = piece.0 a low high in grind arith
 piece-free g role.TextTable from end a piece low high = text-free g from end a piece.0 low high
-piece-free g role.ByteTable from end a (inl piece) low high = same-free g from a (piece.1 a low high)
-piece-free g role.ByteTable from end a (inr (inl piece)) low high = break-free g a (piece.0 a low high)
+piece-free g role.ByteTable from end a (inl piece) low high = let here = piece.1 a low high in grind arith
+piece-free g role.ByteTable from end a (inr (inl piece)) low high = let here = piece.0 a low high in grind arith
 piece-free g role.ByteTable from end a (inr (inr piece)) low high = text-free g from end a piece.0 low high
 piece-free g _ from end a piece low high = absurd piece
 
 -- each address of a text that is known is free
 known-free : (g : Ground) (from end a : ℕ) → IsKnown g from end → from ≤ a → a < end → is_free g a ≡ true
 unfolding is_open past_zero
-known-free g from end a known low high =
-    elim (cases_lt a known.last) as (λ _. is_free g a ≡ true) [
-      | inl before ↦ (and_parts (is_free g a) (not (byte_at g.image a == 0)) (known.before a low before)).0
-      | inr here ↦ cond_both (is_free g known.last) (known.last + 1) known.last (λ e. e ≡ end → is_free g a ≡ true)
-          (λ free ends. subst (λ x. is_free g x ≡ true) (omega (arith, here, high, ends)) free)
-          (λ _ ends. absurd (omega (arith, here, high, ends))) known.ends
-    ]
+known-free g from end a known low high = grind (arith, cases_lt, and_parts, cond_both)
 
 pub stretch-free : (g : Ground) (r : RangeType) (from end a : ℕ) → IsStretch g r from end → from ≤ a → a < end → is_free g a ≡ true
 stretch-free g r from end a (inl known) low high = known-free g from end a known.2 low high
 stretch-free g r from end a (inr piece) low high = piece-free g r from end a piece.1 low high
 
 -- what lies past the image is not open
-pub past-open : (g : Ground) (a : ℕ) → end_of g.image ≤ a → is_open g a ≡ false
+pub past_open : (g : Ground) (a : ℕ) → end_of g.image ≤ a → is_open g a ≡ false
 unfolding is_open
-past-open g a past = and_left _ _ (past-free g a past)
+past_open g a past = and_left _ _ (past_free g a past)
 
 -- ---- pieces in order
 
 -- those that were found and the next one
-pub pieces-pushed : (g : Ground) (from next : ℕ) (r : RangeSpec) (found all : List RangeSpec)
+pub pieces_pushed : (g : Ground) (from next : ℕ) (r : RangeSpec) (found all : List RangeSpec)
     → ((later : List RangeSpec) → ArePieces g from later → ArePieces g 0 (found ++ later)) → all ≡ found ++ r ∷ [] → next ≡ r.last + 1
     → from ≤ r.first → ((a : ℕ) → from ≤ a → a < r.first → is_free g a ≡ false) → r.first ≤ r.last → IsStretch g r.role r.first (r.last + 1)
     → (later : List RangeSpec) → ArePieces g next later → ArePieces g 0 (all ++ later)
 unfolding ArePieces
-pieces-pushed g from next r found all old is place low before ordered piece later rest = grind (arith, append_assoc)
+pieces_pushed g from next r found all old is place low before ordered piece later rest = grind (arith, append_assoc)
 
 -- those that were found, if nothing is free after them
-pub pieces-end : (g : Ground) (from : ℕ) (found : List RangeSpec)
+pub pieces_end : (g : Ground) (from : ℕ) (found : List RangeSpec)
     → ((later : List RangeSpec) → ArePieces g from later → ArePieces g 0 (found ++ later)) → ((a : ℕ) → from ≤ a → is_free g a ≡ false) → ArePieces g 0 found
 unfolding ArePieces
-pieces-end g from found old none = rw append-nil at (old [] none)
+pieces_end g from found old none = rw append-nil at (old [] none)
 
 -- ---- what they cover
 
@@ -204,10 +169,7 @@ in-range r a low high = rw (le-leb r.first a low, le-leb a r.last high) refl
 no-pieces : (g : Ground) (from a : ℕ) (rs : List RangeSpec) → a < from → ArePieces g from rs → is_given rs a ≡ false
 unfolding is_given ArePieces
 no-pieces g from a [] below are = refl
-no-pieces g from a (r ∷ rs) below are =
-    let low : from ≤ r.first = are.0 in
-    let ordered : r.first ≤ r.last = are.2 in
-    rw (below-range r a (omega (arith, below, low))) (no-pieces g (r.last + 1) a rs (omega (arith, below, low, ordered)) are.4)
+no-pieces g from a (r ∷ rs) below are = grind (arith, below-range, no-pieces g (r.last + 1) a rs)
 
 covers-from : (g : Ground) (from a : ℕ) (rs : List RangeSpec) → from ≤ a → ArePieces g from rs → is_given rs a ≡ is_free g a
 unfolding is_given ArePieces
@@ -221,12 +183,12 @@ covers-from g from a (r ∷ rs) low are =
       ]
     ]
 
-pub pieces-cover : (g : Ground) (rs : List RangeSpec) → ArePieces g 0 rs → (a : ℕ) → is_given rs a ≡ is_free g a
-pieces-cover g rs are a = covers-from g 0 a rs (omega arith) are
+pub pieces_cover : (g : Ground) (rs : List RangeSpec) → ArePieces g 0 rs → (a : ℕ) → is_given rs a ≡ is_free g a
+pieces_cover g rs are a = covers-from g 0 a rs (omega arith) are
 
 -- nothing is free from an address on, if nothing is up to an address past the image
-pub free-none : (g : Ground) (from at : ℕ) → end_of g.image ≤ at → ((a : ℕ) → from ≤ a → a < at → is_free g a ≡ false) → (a : ℕ) → from ≤ a → is_free g a ≡ false
-free-none g from at past before a low = grind (arith, past-free)
+pub free_none : (g : Ground) (from at : ℕ) → end_of g.image ≤ at → ((a : ℕ) → from ≤ a → a < at → is_free g a ≡ false) → (a : ℕ) → from ≤ a → is_free g a ≡ false
+free_none g from at past before a low = grind (arith, past_free)
 
 -- ---- pieces in the image
 
@@ -241,8 +203,8 @@ piece-lies g r order piece = record {
   high = (free-within g r.last (stretch-free g r.role r.first (r.last + 1) r.last piece order (omega arith))).1;
 }
 
-pub pieces-lie : (g : Ground) (from : ℕ) (ranges : List RangeSpec) → ArePieces g from ranges → All (LiesIn g.image) ranges
+pub pieces_lie : (g : Ground) (from : ℕ) (ranges : List RangeSpec) → ArePieces g from ranges → All (LiesIn g.image) ranges
 unfolding ArePieces
-pieces-lie g from [] pieces k d some = absurd (omega (arith, some))
-pieces-lie g from (r ∷ later) (low, before, order, piece, rest) zero d some = piece-lies g r order piece
-pieces-lie g from (r ∷ later) (low, before, order, piece, rest) (suc k) d some = pieces-lie g (r.last + 1) later rest k d (omega (arith, some))
+pieces_lie g from [] pieces k d some = absurd (omega (arith, some))
+pieces_lie g from (r ∷ later) (low, before, order, piece, rest) zero d some = piece-lies g r order piece
+pieces_lie g from (r ∷ later) (low, before, order, piece, rest) (suc k) d some = pieces_lie g (r.last + 1) later rest k d (omega (arith, some))

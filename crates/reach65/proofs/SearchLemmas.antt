@@ -7,11 +7,11 @@ use Rattle.std.proofs.Math.ListN.{length-set}
 use Rattle.std.proofs.lemmas.List.Elements.{Contains-append_left, Contains-push, Contains-push_cases}
 use Rattle.std.proofs.lemmas.List.Sums.{sum_by-set}
 use Rattle.map65.specs.ImageView.{IsPlaced, is_inside}
-use Rattle.reach65.specs.Code.Searching.{HasEntries, HasNext, IsAtEnd, IsBegun, IsDone, IsFollowed, IsSearch, Nothing, State, put, put_entry, put_inside, put_some}
+use Rattle.reach65.specs.Code.Searching.{HasEntries, HasNext, IsAtEnd, IsBegun, IsDone, IsFollowed, IsSearch, Nothing, State, put, put_entry, put_inside, put_leads, put_some}
 use Rattle.reach65.specs.Flow.{FlowView, goal_at, next_at}
 use Rattle.map65.proofs.Public.{within}
 use Rattle.reach65.proofs.FlowLemmas.{leads-below}
-use Rattle.reach65.proofs.TakenLemmas.{blank-false}
+use Rattle.reach65.proofs.TakenLemmas.{blank_false}
 use Rattle.reach65.specs.Reached.{AreReached, Reached, entry, led, is_marked, no_marks}
 
 -- ---- what a step does
@@ -30,12 +30,12 @@ unfolding put
 by_put s a P old new = cond_both (is_marked s.marks a) s (record s { marks = set s.marks a true; todo = s.todo ++ a ∷ []; added = s.added ++ a ∷ [] }) P old new
 
 pub put-marked : (s : State) (a : ℕ) → a < length s.marks → is_marked (put s a).marks a ≡ true
-put-marked s a room = by_put s a (λ t. is_marked t.marks a ≡ true) (λ is. is) (λ _. get_or-set_same s.marks a true false room)
+unfolding put
+put-marked s a room = grind (arith, get_or-set_same)
 
 pub put-grows : (s : State) (a b : ℕ) → a < length s.marks → is_marked s.marks b ≡ true → is_marked (put s a).marks b ≡ true
-put-grows s a b room is =
-    by_put s a (λ t. is_marked t.marks b ≡ true) (λ _. is)
-    (λ _. marks_set s.marks a b (λ v. v ≡ true) room (λ here i. true) (λ there. is))
+unfolding put
+put-grows s a b room is = grind (arith, get_or-set_same, get_or-set_other)
 
 -- ---- how much is left to do
 
@@ -61,7 +61,7 @@ next-left old new a marks todo = omega (arith, ap open_of marks, ap length todo,
 -- ---- what holds at each step
 
 blank-unmarked : (marks : List Bool) (a : ℕ) → marks ≡ no_marks → is_marked marks a ≡ true → ⊥
-blank-unmarked marks a is marked = both_ways (is_marked marks a) (blank-false marks a is) marked
+blank-unmarked marks a is marked = both_ways (is_marked marks a) (blank_false marks a is) marked
 
 abbrev no_address : List ℕ
 no_address = []
@@ -123,14 +123,7 @@ search-followed f entries a s done was = grind arith
 pub reached-marked : (f : FlowView) (entries : List ℕ) (s : State) → s.todo ≡ [] → IsSearch f entries Nothing s → HasEntries f entries s.marks
     → (a : ℕ) → Reached f entries a → is_marked s.marks a ≡ true
 reached-marked f entries s todo was all _ (entry a has inside) = all.each a has inside
-reached-marked f entries s todo was all _ (led b a from leads) =
-    elim (was.followed b (reached-marked f entries s todo was all b from)) as (λ _. is_marked s.marks a ≡ true) [
-      | inl before ↦ absurd (contains-nil b (subst (λ l. Contains l b) todo before))
-      | inr rest ↦ elim rest as (λ _. is_marked s.marks a ≡ true) [
-        | inl never ↦ absurd never
-        | inr done ↦ done.each a leads
-      ]
-    ]
+reached-marked f entries s todo was all _ (led b a from leads) = grind (arith, contains-nil, reached-marked f entries s todo was all b from)
 
 pub search-end : (f : FlowView) (entries : List ℕ) (s : State) → s.todo ≡ [] → IsSearch f entries Nothing s → HasEntries f entries s.marks → AreReached f entries s.marks
 search-end f entries s todo was all = grind (arith, reached-marked)
@@ -203,7 +196,8 @@ module _ (f : FlowView) (entries : List ℕ) (old new mid end : State) (a : ℕ)
 -- ---- the entries
 
 pub put-entries : (s : State) (a : ℕ) → (put s a).entries ≡ s.entries
-put-entries s a = by_put s a (λ t. t.entries ≡ s.entries) (λ _ i. s.entries) (λ _ i. s.entries)
+unfolding put
+put-entries s a = grind arith
 
 put_some-entries : (s : State) (o : Option ℕ) → (put_some s o).entries ≡ s.entries
 put_some-entries s None = λ i. s.entries
@@ -214,8 +208,8 @@ reached-more f entries a _ (entry b has inside) = entry b (Contains-append_left 
 reached-more f entries a _ (led c b from leads) = led c b (reached-more f entries a c from) leads
 
 -- a search without entries
-pub new-begun : (f : FlowView) (s : State) → length s.marks ≡ 65536 → s.entries ≡ [] → s.marks ≡ no_marks → s.todo ≡ [] → IsBegun f s
-new-begun f s count entries marks todo = record {
+pub new_begun : (f : FlowView) (s : State) → length s.marks ≡ 65536 → s.entries ≡ [] → s.marks ≡ no_marks → s.todo ≡ [] → IsBegun f s
+new_begun f s count entries marks todo = record {
   search = search-new f s.entries s count marks todo;
   entries = record { each = λ x has _. absurd (contains-nil x (subst (λ l. Contains l x) entries has)) };
 }
@@ -226,16 +220,11 @@ module _ (f : FlowView) (s : State) (a : ℕ) (placed : IsPlaced f.map.image) (o
   with_entry = record s { entries = s.entries ++ a ∷ [] }
 
   going_on : IsSearch f (s.entries ++ a ∷ []) Nothing with_entry
-  going_on = record {
-    count = old.search.count;
-    reached = λ b is. reached-more f s.entries a b (old.search.reached b is);
-    todo = λ b has. reached-more f s.entries a b (old.search.todo b has);
-    followed = old.search.followed;
-  }
+  going_on = grind (arith, reached-more)
 
-  pub entry-begun : IsBegun f (put_entry f.map.image s a)
+  pub entry_begun : IsBegun f (put_entry f.map.image s a)
   unfolding put_entry put_inside
-  entry-begun =
+  entry_begun =
       cond_both (is_inside f.map.image a) (put with_entry a) with_entry (IsBegun f)
       (λ inside.
       let small : a < 65536 = omega (arith, placed.room, (within f.map a inside).high) in
@@ -259,45 +248,27 @@ module _ (f : FlowView) (s : State) (a : ℕ) (placed : IsPlaced f.map.image) (o
         };
       })
 
-pub entry-entries : (f : FlowView) (s : State) (a : ℕ) → (put_entry f.map.image s a).entries ≡ s.entries ++ a ∷ []
+pub entry_entries : (f : FlowView) (s : State) (a : ℕ) → (put_entry f.map.image s a).entries ≡ s.entries ++ a ∷ []
 unfolding put_entry put_inside
-entry-entries f s a =
-    let t : State = record s { entries = s.entries ++ a ∷ [] } in
-    cond_both (is_inside f.map.image a) (put t a) t (λ u. u.entries ≡ s.entries ++ a ∷ []) (λ _. put-entries t a) (λ _ i. s.entries ++ a ∷ [])
+entry_entries f s a = grind (arith, cond_both, put-entries)
 
 -- ---- one instruction of a search
 
-module _ (f : FlowView) (old new end : State) (a : ℕ) (placed : IsPlaced f.map.image) (next : HasNext old new a) (leads : end ≡ put_some (put_some new (next_at f a)) (goal_at f.map a)) (was : IsBegun f old) where
-  pub leads-entries : end.entries ≡ old.entries
-  leads-entries = ap (λ s. s.entries) leads ∙ put_some-entries (put_some new (next_at f a)) (goal_at f.map a) ∙ put_some-entries new (next_at f a) ∙ next.entries
+module _ (f : FlowView) (old new end : State) (a : ℕ) (placed : IsPlaced f.map.image) (next : HasNext old new a) (leads : end ≡ put_leads f new a) (was : IsBegun f old) where
+  pub leads_entries : end.entries ≡ old.entries
+  leads_entries = ap (λ s. s.entries) leads ∙ put_some-entries (put_some new (next_at f a)) (goal_at f.map a) ∙ put_some-entries new (next_at f a) ∙ next.entries
 
-  pub leads-begun : IsBegun f end
-  leads-begun = record {
-    search = subst (λ l. IsSearch f l Nothing end) (sym leads-entries) (followed-both f old.entries old new (put_some new (next_at f a)) end a placed next.marks next.todo (λ i. put_some new (next_at f a)) leads was.search);
-    entries = subst (λ l. HasEntries f l end.marks) (sym leads-entries) (followed-entries f old.entries old new (put_some new (next_at f a)) end a placed next.marks next.todo (λ i. put_some new (next_at f a)) leads was.search was.entries);
+  pub leads_begun : IsBegun f end
+  leads_begun = record {
+    search = subst (λ l. IsSearch f l Nothing end) (sym leads_entries) (followed-both f old.entries old new (put_some new (next_at f a)) end a placed next.marks next.todo (λ i. put_some new (next_at f a)) leads was.search);
+    entries = subst (λ l. HasEntries f l end.marks) (sym leads_entries) (followed-entries f old.entries old new (put_some new (next_at f a)) end a placed next.marks next.todo (λ i. put_some new (next_at f a)) leads was.search was.entries);
   }
 
-  pub leads-left : left_to_do end + 1 ≡ left_to_do old
-  leads-left = followed-left f old.entries old new (put_some new (next_at f a)) end a placed next.marks next.todo (λ i. put_some new (next_at f a)) leads was.search
+  pub leads_left : left_to_do end + 1 ≡ left_to_do old
+  leads_left = followed-left f old.entries old new (put_some new (next_at f a)) end a placed next.marks next.todo (λ i. put_some new (next_at f a)) leads was.search
 
 at-end : (f : FlowView) (old new : State) → IsAtEnd old new → IsBegun f old → IsBegun f new
-at-end f old new end was = record {
-  search = record {
-    count = ap length end.marks ∙ was.search.count;
-    reached = λ b is. subst (λ l. Reached f l b) (sym end.entries) (was.search.reached b (sym (ap (λ l. is_marked l b) end.marks) ∙ is));
-    todo = λ b has. absurd (contains-nil b (subst (λ l. Contains l b) end.todo has));
-    followed = λ b is. elim (was.search.followed b (sym (ap (λ l. is_marked l b) end.marks) ∙ is)) as (λ _. Contains new.todo b ⊎ (Nothing b ⊎ IsFollowed f new.marks b)) [
-      | inl before ↦ absurd (contains-nil b (subst (λ l. Contains l b) end.none before))
-      | inr rest ↦ elim rest as (λ _. Contains new.todo b ⊎ (Nothing b ⊎ IsFollowed f new.marks b)) [
-        | inl never ↦ absurd never
-        | inr done ↦ inr (inr (subst (λ l. IsFollowed f l b) (sym end.marks) done))
-      ]
-    ];
-  };
-  entries = record { each = λ x has inside. ap (λ l. is_marked l x) end.marks ∙ was.entries.each x (subst (λ l. Contains l x) end.entries has) inside };
-}
+at-end f old new end was = grind (arith, contains-nil)
 
 pub begun_done : (f : FlowView) (old new : State) → IsAtEnd old new → IsBegun f old → IsDone f new
-begun_done f old new end was =
-    let here : IsBegun f new = at-end f old new end was in
-    record { reached = search-end f new.entries new end.todo here.search here.entries; todo = end.todo }
+begun_done f old new end was = grind (arith, at-end, search-end)

@@ -1,5 +1,5 @@
 -- A survey of what is reached, one instruction after the other.
-use Rattle.std.proofs.Common.{◌≡◌, ◌∙◌, ◌+◌, ◌<◌, ◌≤◌, ◌&&◌, ◌||◌, ◌==◌, nat_le, nat_lt, ℕ, Bool, true, false, List, length, get_or, take, ap, arith, refl, subst, sym, Some, None}
+use Rattle.std.proofs.Common.{◌≡◌, ◌∙◌, ◌+◌, ◌≤◌, ◌&&◌, ◌||◌, ◌==◌, nat_le, nat_lt, ℕ, Bool, true, false, List, length, ap, arith, refl, subst, sym, Some, None}
 use Rattle.std.proofs.lemmas.Bool.Decides.{nat_tests}
 use Rattle.std.specs.List.{list_any}
 use Rattle.std.proofs.Math.Bool.{or-false}
@@ -11,8 +11,9 @@ use Rattle.reach65.specs.Routines.{branch_at, call_at, goes_on, is_called, is_go
 use Rattle.reach65.specs.Survey.{AreSurvey, Survey}
 use Rattle.reach65.specs.Taken.{AreMarkedBy, has_byte, is_code, is_given, is_taken}
 use Rattle.reach65.specs.Variables.{is_operand, operand_at}
-use Rattle.reach65.proofs.LoopLemmas.{addresses_of, any-end, any-next}
-use Rattle.reach65.proofs.TakenLemmas.{blank-false, marked_by}
+use Rattle.map65.specs.Spans.{addresses}
+use Rattle.reach65.proofs.LoopLemmas.{any_more}
+use Rattle.reach65.proofs.TakenLemmas.{blank_false, marked_by}
 
 -- ---- the bytes of an instruction
 
@@ -51,35 +52,30 @@ adds_unmarked f a s unmarked = rw unmarked (adds-never f s)
 
 -- ---- one address after the other
 
-pub adds-first : (f : FlowView) (xs : List ℕ) (s : Survey) → Adds f (λ p. list_any (λ a. is_marked s.reached a && p a) (take 0 xs)) s s
-adds-first f xs s = adds-never f s
+pub adds_first : (f : FlowView) (reached : List Bool) (start : ℕ) (s : Survey) → Adds f (λ p. list_any (λ a. is_marked reached a && p a) (addresses 0 start)) s s
+unfolding addresses
+adds_first f reached start s = adds-never f s
 
-pub adds-next : (f : FlowView) (reached : List Bool) (xs : List ℕ) (k x : ℕ) (first old new : Survey) → first.reached ≡ reached → k < length xs → x ≡ get_or xs k 0
-    → Adds f (λ p. list_any (λ a. is_marked reached a && p a) (take k xs)) first old → Adds f (λ p. is_marked old.reached x && p x) old new
-    → Adds f (λ p. list_any (λ a. is_marked reached a && p a) (take (k + 1) xs)) first new
-adds-next f reached xs k x first old new is low here before more =
+pub adds_next : (f : FlowView) (reached : List Bool) (k start at : ℕ) (first old new : Survey) → first.reached ≡ reached → at ≡ start + k
+    → Adds f (λ p. list_any (λ a. is_marked reached a && p a) (addresses k start)) first old → Adds f (λ p. is_marked old.reached at && p at) old new
+    → Adds f (λ p. list_any (λ a. is_marked reached a && p a) (addresses (k + 1) start)) first new
+adds_next f reached k start at first old new is here before more =
     let same : old.reached ≡ reached = before.same ∙ is in
-    let next : Adds f (λ p. is_marked reached x && p x) old new = subst (λ l. Adds f (λ p. is_marked l x && p x) old new) same more in
+    let next : Adds f (λ p. is_marked reached (start + k) && p (start + k)) old new =
+    subst (λ x. Adds f (λ p. is_marked reached x && p x) old new) here (subst (λ l. Adds f (λ p. is_marked l at && p at) old new) same more) in
     record {
       same = more.same ∙ before.same;
-      code = λ b. any-next (λ a. is_marked reached a && has_byte f.map a b) xs k x 0 _ _ _ low here (next.code b) (before.code b);
-      gone_on = λ b. any-next (λ a. is_marked reached a && goes_on f b a) xs k x 0 _ _ _ low here (next.gone_on b) (before.gone_on b);
-      called = λ b. any-next (λ a. is_marked reached a && is_it (call_at f.map a) b) xs k x 0 _ _ _ low here (next.called b) (before.called b);
-      operands = λ b. any-next (λ a. is_marked reached a && is_it (operand_at f.map a) b) xs k x 0 _ _ _ low here (next.operands b) (before.operands b);
-      texts = λ b. any-next (λ a. is_marked reached a && is_it (text_at f a) b) xs k x 0 _ _ _ low here (next.texts b) (before.texts b);
+      code = λ b. any_more (λ a. is_marked reached a && has_byte f.map a b) k start _ _ _ (next.code b) (before.code b);
+      gone_on = λ b. any_more (λ a. is_marked reached a && goes_on f b a) k start _ _ _ (next.gone_on b) (before.gone_on b);
+      called = λ b. any_more (λ a. is_marked reached a && is_it (call_at f.map a) b) k start _ _ _ (next.called b) (before.called b);
+      operands = λ b. any_more (λ a. is_marked reached a && is_it (operand_at f.map a) b) k start _ _ _ (next.operands b) (before.operands b);
+      texts = λ b. any_more (λ a. is_marked reached a && is_it (text_at f a) b) k start _ _ _ (next.texts b) (before.texts b);
     }
 
-pub adds-end : (f : FlowView) (reached : List Bool) (k : ℕ) (first now : Survey) → length (addresses_of f.map.image) ≤ k
-    → Adds f (λ p. list_any (λ a. is_marked reached a && p a) (take k (addresses_of f.map.image))) first now → Adds f (any_marked f.map reached) first now
+pub adds_end : (f : FlowView) (reached : List Bool) (k : ℕ) (first now : Survey) → k ≡ length f.map.image.bytes
+    → Adds f (λ p. list_any (λ a. is_marked reached a && p a) (addresses k f.map.image.start)) first now → Adds f (any_marked f.map reached) first now
 unfolding any_marked
-adds-end f reached k first now done before = record {
-  same = before.same;
-  code = λ b. any-end _ (addresses_of f.map.image) k _ _ done (before.code b);
-  gone_on = λ b. any-end _ (addresses_of f.map.image) k _ _ done (before.gone_on b);
-  called = λ b. any-end _ (addresses_of f.map.image) k _ _ done (before.called b);
-  operands = λ b. any-end _ (addresses_of f.map.image) k _ _ done (before.operands b);
-  texts = λ b. any-end _ (addresses_of f.map.image) k _ _ done (before.texts b);
-}
+adds_end f reached k first now done before = rw done at before
 
 -- ---- all
 
@@ -93,17 +89,4 @@ taken-by f reached b v said = grind arith
 
 pub are_survey : (f : FlowView) (reached : List Bool) (old mid new : Survey) → old ≡ blank_survey reached → Adds f (any_marked f.map old.reached) old mid → AddsRanges f mid new → AreSurvey f new
 unfolding is_code is_gone_on is_called is_operand is_text_start
-are_survey f reached old mid new blank adds ranges =
-    let same : new.reached ≡ old.reached = ap (λ s. s.reached) ranges.same ∙ adds.same in
-    let n = ranges.counts in
-    rw same (record {
-      code = by_walk (is_code f.map old.reached) old.code mid.code new.code (ap (λ s. s.code) blank) (ap (λ s. s.code) ranges.same) n.0 adds.code;
-      gone_on = by_walk (is_gone_on f old.reached) old.gone_on mid.gone_on new.gone_on (ap (λ s. s.gone_on) blank) (ap (λ s. s.gone_on) ranges.same) n.1 adds.gone_on;
-      called = by_walk (is_called f.map old.reached) old.called mid.called new.called (ap (λ s. s.called) blank) (ap (λ s. s.called) ranges.same) n.2 adds.called;
-      operands = by_walk (is_operand f.map old.reached) old.operands mid.operands new.operands (ap (λ s. s.operands) blank) (ap (λ s. s.operands) ranges.same) n.3 adds.operands;
-      texts = by_walk (is_text_start f old.reached) old.texts mid.texts new.texts (ap (λ s. s.texts) blank) (ap (λ s. s.texts) ranges.same) n.5 adds.texts;
-      taken = record {
-        count = n.4;
-        each = λ b _. taken-by f old.reached b (is_marked new.taken b) (ranges.taken b ∙ ap (λ v. v || is_given f.map.info.ranges b) (adds.code b ∙ ap (λ v. v || is_code f.map old.reached b) (blank-false old.code b (ap (λ s. s.code) blank))));
-      };
-    })
+are_survey f reached old mid new blank adds ranges = grind (arith, by_walk, taken-by, blank_false)

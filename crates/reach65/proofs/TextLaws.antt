@@ -73,14 +73,7 @@ pieces-added g from old (r ∷ rs) placed are past = (
 
 gives-both : (o : OptionsView) (ranges : List RangeSpec) (labels : List ℕ) (all middle : Stream) → Opens o (range_items ranges) all middle → Later o (label_items labels) middle [] → GivesBoth o ranges labels all
 unfolding tokens_after
-gives-both o ranges labels all middle first second = record {
-  whole = grind arith;
-  first = first.tokens;
-  second = second.opens.tokens;
-  are = grind (arith, append-nil);
-  ranges_spelled = first.spelled;
-  labels_spelled = second.opens.spelled;
-}
+gives-both o ranges labels all middle first second = grind (arith, append-nil)
 
 text-gives : (o : OptionsView) (m : MapView) (ranges : List RangeSpec) (labels text : List ℕ) (p : IsProposal m.image ranges labels text) → AreTables ranges → AllByRecursion (λ a. a ≤ 0xFFFF) labels → (line : ℕ)
     → GivesBoth o ranges labels (tokens_after 0 true line ((p.first ++ 10 ∷ []) ++ (flat_map comment_line p.before ++ (range_lines m.image ranges ++ (label_lines labels ++ flat_map comment_line p.after)))))

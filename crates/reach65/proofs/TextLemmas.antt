@@ -1,6 +1,6 @@
 -- The text that is proposed, as the reader of information files sees it.
-use Rattle.std.proofs.Common.{◌≡◌, ◌∙◌, ◌==◌, ◌+◌, ◌*◌, ◌/◌, ◌%◌, ◌<◌, ◌≤◌, ◌⊎◌, ℕ, Bool, true, false, not, List, [], ◌∷◌, ◌++◌, append_assoc, ap, arith, inl, inr, length, map, nat_lt, refl, take}
-use Rattle.std.specs.Prelude.{Some, Ok, codes, if◌then◌else◌}
+use Rattle.std.proofs.Common.{◌≡◌, ◌∙◌, ◌==◌, ◌+◌, ◌*◌, ◌/◌, ◌%◌, ◌<◌, ◌≤◌, ◌⊎◌, ℕ, true, false, not, List, [], ◌∷◌, ◌++◌, append_assoc, ap, arith, inl, inr, length, map, refl, take}
+use Rattle.std.specs.Prelude.{Some, Ok, codes}
 use Rattle.std.specs.Char.{digit_value, is_ascii_hexdigit}
 use Rattle.std.specs.List.{AllByRecursion, flat_map}
 use Rattle.std.proofs.lemmas.Bool.{and_from, and_parts, le-leb, not-true}
@@ -133,9 +133,9 @@ four-digits line n rest low =
 abbrev number_items : Attribute → ℕ → List Item
 number_items a n = value a (an_address n) ∷ mark semicolon ∷ []
 
-address-of : (o : OptionsView) (a : Attribute) (line n : ℕ) (text : List ℕ) → form_of a ≡ form.Address → n ≤ 0xFFFF → value_of o a (record { kind = number n; text = text; line = line }) ≡ Ok (an_address n)
+address_of : (o : OptionsView) (a : Attribute) (line n : ℕ) (text : List ℕ) → form_of a ≡ form.Address → n ≤ 0xFFFF → value_of o a (record { kind = number n; text = text; line = line }) ≡ Ok (an_address n)
 unfolding value_of
-address-of o a line n text is low = rw (is, le-leb n 0xFFFF low) refl
+address_of o a line n text is low = rw (is, le-leb n 0xFFFF low) refl
 
 number-opens : (o : OptionsView) (a : Attribute) (line n : ℕ) (rest : List ℕ) → form_of a ≡ form.Address → n ≤ 0xFFFF → Opens o (number_items a n) (tokens_of line (36 ∷ (digits4 n ++ 59 ∷ rest))) (tokens_of line rest)
 unfolding tokens_after
@@ -144,7 +144,7 @@ number-opens o a line n rest is low =
     record {
       tokens = record { kind = number n; text = text; line = line } ∷ record { kind = semicolon; text = codes ";"; line = line } ∷ [];
       is = rw (four-digits line n rest low, semicolon-lexeme line rest) refl;
-      spelled = (address-of o a line n text is low, (refl, tt));
+      spelled = (address_of o a line n text is low, (refl, tt));
     }
 
 start-form : form_of attribute.Start ≡ form.Address
@@ -172,11 +172,7 @@ shown-line t (b ∷ bs) = rw (shown (in_ascii t b), shown-line t bs) refl
     shown b = grind (arith, nat_tests)
 
 dots-line : (n : ℕ) → is_line (dots_above n) ≡ true
-dots-line n = by_size (nat_lt 32 n)
-  where
-    by_size : (x : Bool) → is_line (if x then codes " .." else []) ≡ true
-    by_size true = refl
-    by_size false = refl
+dots-line n = grind arith
 
 title-line : (t : Alphabet) (bs : List ℕ) → is_line bs ≡ true → is_line (title t ++ bs) ≡ true
 title-line alphabet.Ascii bs is = is
@@ -185,9 +181,7 @@ title-line alphabet.Petscii bs is = is
 
 shown-is-line : (t : Alphabet) (bs : List ℕ) → is_line (shown_bytes t bs) ≡ true
 unfolding shown_bytes
-shown-is-line t bs =
-    title-line t (map (shown_char t) (take 32 bs) ++ dots_above (length bs))
-    (list_all-append (λ b. not (b == 10)) (map (shown_char t) (take 32 bs)) (dots_above (length bs)) ∙ and_from _ _ (shown-line t (take 32 bs)) (dots-line (length bs)))
+shown-is-line t bs = grind (arith, title-line, list_all-append, and_from, shown-line, dots-line)
 
 -- ---- the line of a range
 
@@ -264,16 +258,11 @@ string-of line a b c d rest a_is b_is c_is d_is =
 
 name-string : (line n : ℕ) (rest : List ℕ) → lexeme_at line (34 ∷ (default_name n ++ 34 ∷ rest)) ≡ Ok (record { kind = string (default_name n); more = 6 })
 unfolding default_name
-name-string line n rest =
-    string-of line (hex_digit (n / 4096 % 16)) (hex_digit (n / 256 % 16)) (hex_digit (n / 16 % 16)) (hex_digit (n % 16)) rest
-    (hex-text (n / 4096 % 16) (below-16 (n / 4096))) (hex-text (n / 256 % 16) (below-16 (n / 256))) (hex-text (n / 16 % 16) (below-16 (n / 16))) (hex-text (n % 16) (below-16 n))
+name-string line n rest = grind (arith, string-of, hex-text, below-16)
 
 name-value : (o : OptionsView) (line n : ℕ) (text : List ℕ) → value_of o attribute.Name (record { kind = string (default_name n); text = text; line = line }) ≡ Ok (a_name (default_name n))
 unfolding value_of
 name-value o line n text = rw (name-form, default-form n) refl
-
-abbrev label_end : ℕ → List Item
-label_end n = value attribute.Name (a_name (default_name n)) ∷ mark semicolon ∷ mark closing_brace ∷ mark semicolon ∷ []
 
 abbrev end-tokens : ℕ → List TokenView
 end-tokens line = record { kind = semicolon; text = codes ";"; line = line } ∷ record { kind = closing_brace; text = codes "}"; line = line } ∷ record { kind = semicolon; text = codes ";"; line = line } ∷ []

@@ -1,6 +1,6 @@
 -- Trials: what they mark, and what is left when it is taken back.
-use Rattle.std.proofs.Common.{◌≡◌, ◌⊎◌, ◌+◌, ◌<◌, ◌∙◌, ℕ, Bool, true, false, List, [], ◌∷◌, ◌++◌, length, get_or, set, Option, Some, None, ap, ap₂, arith, sym, subst, inl, inr, cond, length-append}
-use Rattle.std.specs.List.{Contains, sum_by}
+use Rattle.std.proofs.Common.{◌≡◌, ◌⊎◌, ◌+◌, ◌<◌, ◌∙◌, ℕ, Bool, true, false, List, [], ◌∷◌, ◌++◌, length, set, Option, Some, None, ap, arith, sym, subst, inl, inr, length-append}
+use Rattle.std.specs.List.{Contains}
 use Rattle.std.proofs.lemmas.Bool.{both_ways, cond_both}
 use Rattle.std.proofs.lemmas.List.{set-get_or, set-set}
 use Rattle.std.proofs.Math.ListN.{length-set}
@@ -8,22 +8,22 @@ use Rattle.std.proofs.lemmas.List.Elements.{Contains-append_left, Contains-push,
 use Rattle.std.proofs.lemmas.List.Sums.{sum_by-set}
 use Rattle.map65.specs.ImageView.{IsPlaced, is_inside}
 use Rattle.map65.proofs.Public.{within}
-use Rattle.reach65.specs.Code.Searching.{AreApart, AreChecked, AreSound, IsAsBefore, IsBegun, IsDone, IsTrial, State, HasBegun, HasJoined, HasNext, IsAtEnd, put, put_entry, put_inside, put_some, unset}
+use Rattle.reach65.specs.Code.Searching.{AreChecked, AreSound, IsAsBefore, IsBegun, IsDone, IsTrial, State, HasBegun, HasJoined, HasNext, IsAtEnd, put, put_entry, put_inside, put_leads, put_some, unset}
 use Rattle.reach65.specs.Code.Growing.{extent_of}
 use Rattle.reach65.specs.Flow.{FlowView, goal_at, next_at}
 use Rattle.reach65.specs.Growth.{IsSoundAt}
 use Rattle.reach65.specs.Reached.{entry, led, is_marked}
-use Rattle.reach65.specs.Sound.{IsApart, IsSound, is_fine, marked_count}
+use Rattle.reach65.specs.Sound.{IsSound, is_fine, marked_count}
 use Rattle.reach65.proofs.FlowLemmas.{leads-below}
-use Rattle.reach65.proofs.SearchLemmas.{by_put, contains-nil, entry-begun, entry-entries, marks_set}
+use Rattle.reach65.proofs.SearchLemmas.{by_put, contains-nil, entry_begun, entry_entries, marks_set}
 
 -- ---- marks that are taken back
 
 -- the last one is taken back first
-pub unset-push : (marks : List Bool) (l : List ℕ) (a : ℕ) → unset marks (l ++ a ∷ []) ≡ unset (set marks a false) l
+pub unset_push : (marks : List Bool) (l : List ℕ) (a : ℕ) → unset marks (l ++ a ∷ []) ≡ unset (set marks a false) l
 unfolding unset
-unset-push marks [] a = λ i. set marks a false
-unset-push marks (b ∷ l) a = ap (λ k. set k b false) (unset-push marks l a)
+unset_push marks [] a = λ i. set marks a false
+unset_push marks (b ∷ l) a = ap (λ k. set k b false) (unset_push marks l a)
 
 -- a mark that was set is taken back
 set-back : (marks : List Bool) (a : ℕ) → is_marked marks a ≡ false → set (set marks a true) a false ≡ marks
@@ -31,17 +31,14 @@ set-back marks a free = set-set marks a true false ∙ ap (λ b. set marks a b) 
 
 set-counts : (marks : List Bool) (a : ℕ) → a < length marks → is_marked marks a ≡ false → marked_count (set marks a true) ≡ marked_count marks + 1
 unfolding marked_count
-set-counts marks a room free =
-    let sums : sum_by (λ b. cond b 1 0) (set marks a true) + cond (get_or marks a false) 1 0 ≡ sum_by (λ b. cond b 1 0) marks + 1 = sum_by-set (λ (b : Bool). cond b 1 0) marks a true false room in
-    let none : cond {A = ℕ} (get_or marks a false) 1 0 ≡ 0 = ap (λ (b : Bool). cond b 1 0) free in
-    omega (arith, sums, none)
+set-counts marks a room free = grind (arith, sum_by-set)
 
 pub trial-put : (before : List Bool) (s : State) (a : ℕ) → a < length s.marks → IsTrial before s → IsTrial before (put s a)
 unfolding unset
 trial-put before s a room old =
     by_put s a (IsTrial before) (λ _. old)
     (λ free. record {
-      undone = unset-push (set s.marks a true) s.added a ∙ ap (λ l. unset l s.added) (set-back s.marks a free) ∙ old.undone;
+      undone = unset_push (set s.marks a true) s.added a ∙ ap (λ l. unset l s.added) (set-back s.marks a free) ∙ old.undone;
       count = omega (arith, set-counts s.marks a room free, old.count, length-append s.added (a ∷ []));
       fresh = λ b. marks_set s.marks a b (λ v. v ≡ true → is_marked before b ≡ true ⊎ Contains (s.added ++ a ∷ []) b) room
           (λ here _. inr (subst (Contains (s.added ++ a ∷ [])) (sym here) (Contains-push s.added a)))
@@ -52,7 +49,8 @@ trial-put before s a room old =
     })
 
 put-length : (s : State) (a : ℕ) → length (put s a).marks ≡ length s.marks
-put-length s a = by_put s a (λ t. length t.marks ≡ length s.marks) (λ _ i. length s.marks) (λ _. length-set s.marks a true)
+unfolding put
+put-length s a = grind (arith, length-set)
 
 trial-put_some : (before : List Bool) (s : State) (o : Option ℕ) → ((b : ℕ) → o ≡ Some b → b < length s.marks) → IsTrial before s → IsTrial before (put_some s o)
 trial-put_some before s None low old = old
@@ -65,36 +63,29 @@ put_some-length s (Some a) = put-length s a
 -- with the same marks, and the same that were added
 same-trial : (before : List Bool) (old new : State) → new.marks ≡ old.marks → new.added ≡ old.added → IsTrial before old → IsTrial before new
 unfolding unset
-same-trial before old new marks added was = record {
-  undone = ap₂ unset marks added ∙ was.undone;
-  count = ap marked_count marks ∙ was.count ∙ ap (λ l. marked_count before + length l) (sym added);
-  fresh = λ b is. elim (was.fresh b (sym (ap (λ l. is_marked l b) marks) ∙ is)) as (λ _. is_marked before b ≡ true ⊎ Contains new.added b) [
-    | inl marked ↦ inl marked
-    | inr has ↦ inr (subst (λ l. Contains l b) (sym added) has)
-  ];
-}
+same-trial before old new marks added was = grind arith
 
-pub trial-next : (before : List Bool) (old new : State) (a : ℕ) → HasNext old new a → IsTrial before old → IsTrial before new
-trial-next before old new a next was = same-trial before old new next.marks next.added was
+pub trial_next : (before : List Bool) (old new : State) (a : ℕ) → HasNext old new a → IsTrial before old → IsTrial before new
+trial_next before old new a next was = same-trial before old new next.marks next.added was
 
-pub trial-same : (before : List Bool) (old new : State) → new ≡ old → IsTrial before old → IsTrial before new
-trial-same before old new is was = subst (IsTrial before) (sym is) was
+pub trial_same : (before : List Bool) (old new : State) → new ≡ old → IsTrial before old → IsTrial before new
+trial_same before old new is was = subst (IsTrial before) (sym is) was
 
-pub trial-end : (before : List Bool) (old new : State) → IsAtEnd old new → IsTrial before old → IsTrial before new
-trial-end before old new end was = same-trial before old new end.marks end.added was
+pub trial_end : (before : List Bool) (old new : State) → IsAtEnd old new → IsTrial before old → IsTrial before new
+trial_end before old new end was = same-trial before old new end.marks end.added was
 
 leads-trial : (f : FlowView) (before : List Bool) (new end : State) (a : ℕ) → IsPlaced f.map.image → length new.marks ≡ 65536
-    → end ≡ put_some (put_some new (next_at f a)) (goal_at f.map a) → IsTrial before new → IsTrial before end
+    → end ≡ put_leads f new a → IsTrial before new → IsTrial before end
 leads-trial f before new end a placed count is old =
     subst (IsTrial before) (sym is)
     (trial-put_some before (put_some new (next_at f a)) (goal_at f.map a)
     (λ b to. omega (arith, leads-below f a b placed (inr to), count, put_some-length new (next_at f a)))
     (trial-put_some before new (next_at f a) (λ b to. omega (arith, leads-below f a b placed (inl to), count)) old))
 
-pub trial-leads : (f : FlowView) (before : List Bool) (old new end : State) (a : ℕ) → IsPlaced f.map.image → HasNext old new a
-    → end ≡ put_some (put_some new (next_at f a)) (goal_at f.map a) → IsBegun f old → IsTrial before old → IsTrial before end
-trial-leads f before old new end a placed next is begun was =
-    leads-trial f before new end a placed (ap length next.marks ∙ begun.search.count) is (trial-next before old new a next was)
+pub trial_leads : (f : FlowView) (before : List Bool) (old new end : State) (a : ℕ) → IsPlaced f.map.image → HasNext old new a
+    → end ≡ put_leads f new a → IsBegun f old → IsTrial before old → IsTrial before end
+trial_leads f before old new end a placed next is begun was =
+    leads-trial f before new end a placed (ap length next.marks ∙ begun.search.count) is (trial_next before old new a next was)
 
 -- ---- what was added is fine, or still to be looked at
 
@@ -126,16 +117,11 @@ checked-next f old new a next fine was = record {
   ];
 }
 
-pub checked-leads : (f : FlowView) (old new end : State) (a : ℕ) → HasNext old new a → is_fine f a ≡ true → end ≡ put_some (put_some new (next_at f a)) (goal_at f.map a) → AreChecked f old → AreChecked f end
-checked-leads f old new end a next fine is was =
-    subst (AreChecked f) (sym is) (checked-put_some f (put_some new (next_at f a)) (goal_at f.map a) (checked-put_some f new (next_at f a) (checked-next f old new a next fine was)))
+pub checked_leads : (f : FlowView) (old new end : State) (a : ℕ) → HasNext old new a → is_fine f a ≡ true → end ≡ put_leads f new a → AreChecked f old → AreChecked f end
+checked_leads f old new end a next fine is was = grind (arith, checked-put_some, checked-next)
 
-pub all-fine : (f : FlowView) (old new : State) → IsAtEnd old new → AreChecked f old → (b : ℕ) → Contains new.added b → is_fine f b ≡ true
-all-fine f old new end was b has =
-    elim (was.each b (subst (λ l. Contains l b) end.added has)) as (λ _. is_fine f b ≡ true) [
-      | inl there ↦ absurd (contains-nil b (subst (λ l. Contains l b) end.none there))
-      | inr fine ↦ fine
-    ]
+pub all_fine : (f : FlowView) (old new : State) → IsAtEnd old new → AreChecked f old → (b : ℕ) → Contains new.added b → is_fine f b ≡ true
+all_fine f old new end was b has = grind (arith, contains-nil)
 
 trial-checked : (f : FlowView) (s : State) (a : ℕ) → AreChecked f (put_entry f.map.image (record s { added = [] }) a)
 unfolding put_entry put_inside
@@ -143,6 +129,9 @@ trial-checked f s a =
     let t : State = record s { entries = s.entries ++ a ∷ []; added = [] } in
     let first : AreChecked f t = record { each = λ b has. absurd (contains-nil b has) } in
     cond_both (is_inside f.map.image a) (put t a) t (AreChecked f) (λ _. checked-put f t a first) (λ _. first)
+
+-- what holds where a trial ends
+pub ruleset trial_steps = (all_fine, trial_end, trial_next, trial_same)
 
 -- ---- the beginning of a trial
 
@@ -168,29 +157,16 @@ trial-begun f s a placed count =
 
 pub has_begun : (f : FlowView) (s t : State) (a : ℕ) → IsPlaced f.map.image → IsDone f s → t ≡ put_entry f.map.image (record s { added = [] }) a → HasBegun f s a t
 has_begun f s t a placed done is = subst (HasBegun f s a) (sym is) (record {
-  begun = entry-begun f (record s { added = [] }) a placed (done-begun f s done);
-  entries = entry-entries f (record s { added = [] }) a;
+  begun = entry_begun f (record s { added = [] }) a placed (done-begun f s done);
+  entries = entry_entries f (record s { added = [] }) a;
   trial = trial-begun f s a placed done.reached.count;
   checked = trial-checked f s a;
 })
 
 -- ---- the end of a trial
 
-pub are_sound : (f : FlowView) (least : ℕ) (marks : List Bool) (added : List ℕ) → ((b : ℕ) → Contains added b → is_fine f b ≡ true) → AreApart f least marks added → AreSound f least marks added
-are_sound f least marks added fine apart = record { fine = fine; apart = apart.each; many = apart.many }
-
 sound-trial : (f : FlowView) (least : ℕ) (before : List Bool) (s : State) → IsTrial before s → AreSound f least s.marks s.added → IsSound f least before s.marks
-sound-trial f least before s trial are = record {
-  fine = λ b now was. elim (trial.fresh b now) as (λ _. is_fine f b ≡ true) [
-    | inl marked ↦ absurd (both_ways (is_marked before b) was marked)
-    | inr added ↦ are.fine b added
-  ];
-  apart = λ b now was. elim (trial.fresh b now) as (λ _. IsApart f.map s.marks b) [
-    | inl marked ↦ absurd (both_ways (is_marked before b) was marked)
-    | inr added ↦ are.apart b added
-  ];
-  many = omega (arith, trial.count, are.many);
-}
+sound-trial f least before s trial are = grind (arith, both_ways)
 
 pub trial_joined : (f : FlowView) (least : ℕ) (old mid new : State) (a : ℕ) → HasBegun f old a mid → new.entries ≡ mid.entries → IsDone f new → IsTrial old.marks new → AreSound f least new.marks new.added
     → HasJoined f least old a new

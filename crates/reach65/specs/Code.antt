@@ -4,3 +4,4 @@ pub mod Apart
 pub mod Growing
 pub mod Surveying
 pub mod Cutting
+pub mod Marking

@@ -1,6 +1,6 @@
 //! Where reading begins.
 
-ghost use Rattle.std.specs.Prelude.{◌≡◌, ◌+◌, ◌++◌, ◌<◌, ◌≤◌, ℕ, IfOk, IfSome, OnOk, length};
+ghost use Rattle.std.specs.Prelude.{◌≡◌, ◌+◌, ◌++◌, ◌<◌, ◌≤◌, ℕ, IfOk, OnOk, length};
 ghost use Rattle.std.specs.Option.{option_to_list};
 ghost use Rattle.map65.specs.ImageView.{end_of};
 ghost use Rattle.map65.specs.MapView.{MapView};
@@ -40,6 +40,7 @@ fn pointer_for(entry: Entry, len: u8, bytes: &[u8]) -> Option<u16>
 }
 
 /// The address that the entry of a table of addresses, or of returns, refers to that begins at the address.
+#[tactic(auto, using(crate::proofs::EntryLemmas::has_role, crate::proofs::EntryLemmas::pointer_here))]
 fn pointer_at<A: Allocator>(map: &Map<'_, A>, address: u16) -> Option<u16>
     requires low { map.now.image.start ≤ address }
     requires high { address < end_of map.now.image }
@@ -51,6 +52,7 @@ fn pointer_at<A: Allocator>(map: &Map<'_, A>, address: u16) -> Option<u16>
 }
 
 /// Returns what the tables of addresses and of returns refer to, in the order of their entries. Fails only if an allocation failed.
+#[tactic(auto, unfolding(crate::specs::Entries::pointers), using(std::proofs::lemmas::Grind::common_steps, crate::proofs::LoopLemmas::addresses_none, crate::proofs::LoopLemmas::addresses_more))]
 pub fn pointers_of<A: Allocator, B: Allocator>(
     alloc: A,
     map: &Map<'_, B>,
@@ -58,23 +60,12 @@ pub fn pointers_of<A: Allocator, B: Allocator>(
     ensures { IfOk result (λ found. found.items ≡ pointers map.now) }
 {
     let mut found = Vec::new(alloc);
-    put_pointers(&mut found, map)?;
-    Ok(found)
-}
-
-/// Adds what the tables of addresses and of returns refer to.
-fn put_pointers<A: Allocator, B: Allocator>(
-    found: &mut Vec<u16, A>,
-    map: &Map<'_, B>,
-) -> Result<(), AllocError>
-    ensures { OnOk result (found.new.items ≡ found.old.items ++ pointers map.now) }
-{
     let image = map.image();
     let start = usize::from(image.start());
     'pointers: for k in 0..image.bytes().len() {
-        put_some(found, pointer_at(map, (start + k) as u16))?;
+        put_some(&mut found, pointer_at(map, (start + k) as u16))?;
     }
-    Ok(())
+    Ok(found)
 }
 
 // ---- ranges of code
@@ -91,6 +82,7 @@ fn code_start(range: RangeSpec) -> Option<u16>
 }
 
 /// Adds the first address of each range of code.
+#[tactic(auto, unfolding(crate::specs::Entries::code_starts))]
 fn put_code_starts<A: Allocator>(
     found: &mut Vec<u16, A>,
     ranges: &[RangeSpec],

@@ -2,7 +2,7 @@
 
 ghost use Rattle.std.specs.Prelude.{◌≡◌, ◌+◌, ◌≤◌, ◌<◌, length, IfSome, Some};
 ghost use Rattle.isa65.specs.Mode.{len_of, row_len};
-ghost use Rattle.map65.specs.ImageView.{byte_at, bytes_from, end_of};
+ghost use Rattle.map65.specs.ImageView.{IsPlaced, byte_at, bytes_from, end_of};
 ghost use Rattle.reach65.specs.Flow.{end_after, goal_at, goal_by, goal_of, instruction_at, is_last, next_at, next_of, row_goal, text_by, text_of};
 
 use crate::inlines::{inline_of, text_end, zero_end_in};
@@ -40,6 +40,24 @@ pub fn is_last(mnemonic: Mnemonic) -> bool
         || mnemonic == Mnemonic::Rts
         || mnemonic == Mnemonic::Rti
         || mnemonic == Mnemonic::Brk
+}
+
+/// The image.
+pub fn image_of<'m, A: Allocator>(flow: &Flow<'_, 'm, A>) -> &'m Image<A>
+    ensures image { result.now ≡ flow.now.map.image }
+    ensures placed { IsPlaced flow.now.map.image }
+{
+    flow.map().image()
+}
+
+/// Where the image begins, and how many bytes it has.
+pub fn start_and_len<A: Allocator>(flow: &Flow<'_, '_, A>) -> (usize, usize)
+    ensures start { result.0 ≡ flow.now.map.image.start }
+    ensures len { result.1 ≡ length flow.now.map.image.bytes }
+    ensures room { result.0 + result.1 ≤ 65536 }
+{
+    let image = image_of(flow);
+    (usize::from(image.start()), image.bytes().len())
 }
 
 /// The byte at an address of the image.

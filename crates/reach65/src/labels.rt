@@ -1,78 +1,48 @@
 //! The addresses that get labels with default names.
 
-ghost use Rattle.std.specs.Prelude.{◌≡◌, ◌==◌, ◌||◌, ◌++◌, ◌<◌, ℕ, IfOk, OnOk, length};
+ghost use Rattle.std.specs.Prelude.{[], ◌≡◌, ◌==◌, ◌++◌, ◌<◌, IfOk, OnOk, length};
 ghost use Rattle.std.specs.List.{list_any};
+ghost use Rattle.reach65.specs.Code.Marking.{Marks};
 ghost use Rattle.reach65.specs.Labels.{AreNewLabels, is_unnamed, is_wanted, label_at, labels_from, labels_of};
-ghost use Rattle.reach65.specs.Reached.{is_marked};
 
-use crate::marks::blank_marks;
+use crate::marks::{blank_marks, mark_some};
 use crate::pairs::Pair;
 use info65::Info;
 use map65::ADDRESSES;
 use std::alloc::{AllocError, Allocator};
 
-/// Marks the address.
-fn mark(marks: &mut [bool], address: u16)
-    requires count { length marks.old ≡ 65536 }
-    ensures count { length marks.new ≡ 65536 }
-    ensures each { (a : ℕ) → is_marked marks.new a ≡ (is_marked marks.old a || address == a) }
-{
-    marks[usize::from(address)] = true;
-}
-
-/// Marks the address that a pair forms.
-fn mark_pair(marks: &mut [bool], pair: Pair)
-    requires count { length marks.old ≡ 65536 }
-    ensures count { length marks.new ≡ 65536 }
-    ensures each { (a : ℕ) → is_marked marks.new a ≡ (is_marked marks.old a || pair.address == a) }
-{
-    mark(marks, pair.address);
-}
-
 /// Marks the addresses that the pairs form.
-fn mark_pairs(marks: &mut [bool], pairs: &[Pair])
-    requires count { length marks.old ≡ 65536 }
-    ensures count { length marks.new ≡ 65536 }
-    ensures each { (a : ℕ) → is_marked marks.new a ≡ (is_marked marks.old a || list_any (λ p. p.address == a) pairs.now) }
+fn mark_pairs<A: Allocator>(marks: &mut Vec<bool, A>, pairs: &[Pair])
+    requires count { length marks.old.items ≡ 65536 }
+    ensures { Marks (λ a. list_any (λ p. p.address == a) pairs.now) marks.old.items marks.new.items }
 {
     'pairs: for &pair in pairs {
-        mark_pair(marks, pair);
+        mark_some(marks, Some(pair.address));
     }
 }
 
 /// Marks the addresses.
-fn mark_addresses(marks: &mut [bool], addresses: &[u16])
-    requires count { length marks.old ≡ 65536 }
-    ensures count { length marks.new ≡ 65536 }
-    ensures each { (a : ℕ) → is_marked marks.new a ≡ (is_marked marks.old a || list_any (λ v. v == a) addresses.now) }
+fn mark_addresses<A: Allocator>(marks: &mut Vec<bool, A>, addresses: &[u16])
+    requires count { length marks.old.items ≡ 65536 }
+    ensures { Marks (λ a. list_any (λ v. v == a) addresses.now) marks.old.items marks.new.items }
 {
     'addresses: for &address in addresses {
-        mark(marks, address);
+        mark_some(marks, Some(address));
     }
 }
 
-/// Marks the addresses of the pairs, and the variables.
-#[tactic(auto, unfolding(crate::specs::Labels::is_wanted))]
-fn mark_wanted(marks: &mut [bool], pairs: &[Pair], variables: &[u16])
-    requires count { length marks.old ≡ 65536 }
-    ensures count { length marks.new ≡ 65536 }
-    ensures each { (a : ℕ) → is_marked marks.new a ≡ (is_marked marks.old a || is_wanted pairs.now variables.now a) }
-{
-    mark_pairs(marks, pairs);
-    mark_addresses(marks, variables);
-}
-
 /// Marks of the addresses of the pairs, and of the variables.
+#[tactic(auto, unfolding(crate::specs::Labels::is_wanted))]
 fn wanted<A: Allocator>(
     alloc: A,
     pairs: &[Pair],
     variables: &[u16],
 ) -> Result<Vec<bool, A>, AllocError>
-    ensures count { IfOk result (λ marks. length marks.items ≡ 65536) }
-    ensures each { IfOk result (λ marks. (a : ℕ) → is_marked marks.items a ≡ is_wanted pairs.now variables.now a) }
+    ensures { IfOk result (λ v. Marks (is_wanted pairs.now variables.now) [] v.items) }
 {
     let mut marks = blank_marks(alloc)?;
-    mark_wanted(marks.as_mut_slice(), pairs, variables);
+    mark_pairs(&mut marks, pairs);
+    mark_addresses(&mut marks, variables);
     Ok(marks)
 }
 
@@ -104,6 +74,7 @@ fn put_unnamed<A: Allocator, B: Allocator>(
 }
 
 /// The marked addresses that no name covers, in order.
+#[tactic(auto, using(crate::proofs::LabelLemmas::labels_none, crate::proofs::LabelLemmas::labels_more))]
 fn unnamed<A: Allocator, B: Allocator>(
     alloc: A,
     info: &Info<B>,

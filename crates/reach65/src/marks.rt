@@ -1,7 +1,8 @@
 //! Marks of addresses, one for each from $0000 to $FFFF.
 
-ghost use Rattle.std.specs.Prelude.{◌≡◌, ◌≤◌, ◌&&◌, ◌||◌, ℕ, IfOk, false, length, nat_le, nat_lt, replicate};
+ghost use Rattle.std.specs.Prelude.{◌≡◌, ◌≤◌, ◌&&◌, ℕ, IfOk, false, length, nat_le, nat_lt, replicate};
 ghost use Rattle.info65.specs.Ranges.{has_address};
+ghost use Rattle.reach65.specs.Code.Marking.{Marks};
 ghost use Rattle.reach65.specs.Reached.{is_marked, no_marks};
 ghost use Rattle.reach65.specs.Routines.{is_it};
 ghost use Rattle.reach65.specs.Taken.{is_given};
@@ -11,8 +12,10 @@ use map65::ADDRESSES;
 use std::alloc::{AllocError, Allocator};
 
 /// This many marks, none of which is set.
+#[tactic(auto, using(crate::proofs::TakenLemmas::none_set))]
 fn unset_marks<A: Allocator>(alloc: A, count: usize) -> Result<Vec<bool, A>, AllocError>
-    ensures { IfOk result (λ v. v.items ≡ replicate count false) }
+    ensures marks { IfOk result (λ v. v.items ≡ replicate count false) }
+    ensures each { IfOk result (λ v. (a : ℕ) → is_marked v.items a ≡ false) }
 {
     vec![in alloc; false; count]
 }
@@ -22,6 +25,7 @@ fn unset_marks<A: Allocator>(alloc: A, count: usize) -> Result<Vec<bool, A>, All
 pub fn blank_marks<A: Allocator>(alloc: A) -> Result<Vec<bool, A>, AllocError>
     ensures marks { IfOk result (λ v. v.items ≡ no_marks) }
     ensures count { IfOk result (λ v. length v.items ≡ 65536) }
+    ensures each { IfOk result (λ v. (a : ℕ) → is_marked v.items a ≡ false) }
 {
     unset_marks(alloc, ADDRESSES)
 }
@@ -29,8 +33,7 @@ pub fn blank_marks<A: Allocator>(alloc: A) -> Result<Vec<bool, A>, AllocError>
 /// Marks the address, if there is one.
 pub fn mark_some<A: Allocator>(marks: &mut Vec<bool, A>, address: Option<u16>)
     requires count { length marks.old.items ≡ 65536 }
-    ensures count { length marks.new.items ≡ 65536 }
-    ensures each { (b : ℕ) → is_marked marks.new.items b ≡ (is_marked marks.old.items b || is_it address b) }
+    ensures { Marks (is_it address) marks.old.items marks.new.items }
 {
     if let Some(address) = address {
         marks[usize::from(address)] = true;
@@ -42,8 +45,7 @@ pub fn mark_span<A: Allocator>(marks: &mut Vec<bool, A>, from: usize, to: usize)
     requires count { length marks.old.items ≡ 65536 }
     requires order { from ≤ to }
     requires room { to ≤ 65536 }
-    ensures count { length marks.new.items ≡ 65536 }
-    ensures each { (a : ℕ) → is_marked marks.new.items a ≡ (is_marked marks.old.items a || (nat_le from a && nat_lt a to)) }
+    ensures { Marks (λ a. nat_le from a && nat_lt a to) marks.old.items marks.new.items }
 {
     'span: for at in from..to {
         marks[at] = true;
@@ -53,8 +55,7 @@ pub fn mark_span<A: Allocator>(marks: &mut Vec<bool, A>, from: usize, to: usize)
 /// Marks the addresses of a range.
 pub fn mark_range<A: Allocator>(marks: &mut Vec<bool, A>, range: RangeSpec)
     requires count { length marks.old.items ≡ 65536 }
-    ensures count { length marks.new.items ≡ 65536 }
-    ensures each { (a : ℕ) → is_marked marks.new.items a ≡ (is_marked marks.old.items a || has_address range a) }
+    ensures { Marks (has_address range) marks.old.items marks.new.items }
 {
     let first = usize::from(range.first);
     let end = usize::from(range.last) + 1;
@@ -62,10 +63,10 @@ pub fn mark_range<A: Allocator>(marks: &mut Vec<bool, A>, range: RangeSpec)
 }
 
 /// Marks the addresses of the ranges.
+#[tactic(auto, unfolding(crate::specs::Taken::is_given))]
 pub fn mark_ranges<A: Allocator>(marks: &mut Vec<bool, A>, ranges: &[RangeSpec])
     requires count { length marks.old.items ≡ 65536 }
-    ensures count { length marks.new.items ≡ 65536 }
-    ensures each { (a : ℕ) → is_marked marks.new.items a ≡ (is_marked marks.old.items a || is_given ranges.now a) }
+    ensures { Marks (is_given ranges.now) marks.old.items marks.new.items }
 {
     'given: for &range in ranges {
         mark_range(marks, range);

@@ -5,7 +5,7 @@ ghost use Rattle.isa65.specs.Mode.{len_of};
 ghost use Rattle.map65.specs.ImageView.{end_of, is_inside};
 ghost use Rattle.reach65.specs.Pairs.{by_again, by_loads, by_places, by_stores, is_near, joined, load_at, loaded, operand_address, pairs_at, pairs_of, rank_of, reached_op, store_at, stored};
 
-use crate::flow::{Flow, byte_at, bytes_from};
+use crate::flow::{Flow, byte_at, bytes_from, start_and_len};
 use isa65::{Mnemonic, Mode, Op};
 use map65::{ADDRESSES, Image, word_of};
 use std::alloc::{AllocError, Allocator};
@@ -324,6 +324,7 @@ pub fn put_pairs_at<A: Allocator, B: Allocator>(
 
 /// Returns each pair of immediates in reached code that forms an address of the image or one of the 256 after it, by the address of its
 /// first instruction. Fails only if an allocation failed.
+#[tactic(auto, unfolding(crate::specs::Pairs::pairs_of), using(std::proofs::lemmas::Grind::common_steps, crate::proofs::LoopLemmas::addresses_none, crate::proofs::LoopLemmas::addresses_more))]
 pub fn pairs_of<A: Allocator, B: Allocator>(
     alloc: A,
     flow: &Flow<'_, '_, B>,
@@ -333,9 +334,8 @@ pub fn pairs_of<A: Allocator, B: Allocator>(
     ensures { IfOk result (λ found. found.items ≡ pairs_of flow.now.map reached.now) }
 {
     let mut found = Vec::new(alloc);
-    let image = flow.map().image();
-    let start = usize::from(image.start());
-    'pairs: for k in 0..image.bytes().len() {
+    let (start, len) = start_and_len(flow);
+    'pairs: for k in 0..len {
         put_pairs_at(&mut found, flow, reached, start + k)?;
     }
     Ok(found)

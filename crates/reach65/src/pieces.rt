@@ -2,8 +2,8 @@
 
 ghost use Rattle.std.specs.Prelude.{◌≡◌, ◌≢◌, ◌+◌, ◌<◌, ◌≤◌, ℕ, IfNone, IfOk, IfSome, IsTrue, false, true, get_or, length, replicate, take};
 ghost use Rattle.map65.specs.ImageView.{byte_at, bytes_from, end_of, is_inside};
-ghost use Rattle.reach65.specs.Code.Cutting.{AreLens, AreTails, IsRun, IsTail, no_lens};
-ghost use Rattle.reach65.specs.Pieces.{ArePieces, IsKnown, IsPiece, IsStretch, LieIn, begins_text, chars_at, is_break, is_filler, is_free, is_open, is_plain, is_return, is_same, is_word, is_written, text_len};
+ghost use Rattle.reach65.specs.Code.Cutting.{AreLens, AreTails, IsRun, IsTail, NoneIn, is_of, no_lens};
+ghost use Rattle.reach65.specs.Pieces.{ArePieces, IsKnown, IsPiece, IsStretch, LieIn, begins_text, chars_at, is_break, is_filler, is_free, is_open, is_plain, is_same, is_written, text_len};
 ghost use Rattle.reach65.specs.Reached.{is_marked};
 ghost use Rattle.reach65.specs.Rows.{free_word};
 ghost use Rattle.reach65.specs.Taken.{AreMarkedBy, is_given};
@@ -121,20 +121,12 @@ impl<'a, A: Allocator> Ground<'a, A> {
         is_inside(self.image, address) && !self.taken[address]
     }
 
-    /// Whether the address is a free one of a word.
-    #[tactic(auto, unfolding(crate::specs::Pieces::is_word))]
-    fn is_word(&self, address: usize) -> bool
-        ensures { result ≡ is_word self.now address }
+    /// Whether the address is a free one that has one of these marks.
+    fn is_of(&self, marks: &[bool], address: usize) -> bool
+        requires { length marks.now ≡ 65536 }
+        ensures { result ≡ is_of self.now marks.now address }
     {
-        self.is_free(address) && self.words[address]
-    }
-
-    /// Whether the address is a free one of a word that is less one.
-    #[tactic(auto, unfolding(crate::specs::Pieces::is_return))]
-    fn is_return(&self, address: usize) -> bool
-        ensures { result ≡ is_return self.now address }
-    {
-        self.is_free(address) && self.returns[address]
+        self.is_free(address) && marks[address]
     }
 
     /// Whether the address is a free one of no word.
@@ -181,6 +173,7 @@ impl<'a, A: Allocator> Ground<'a, A> {
     }
 
     /// Marks where filler begins.
+    #[tactic(auto, using(crate::proofs::PieceLemmas::before_filler, crate::proofs::PieceLemmas::past_filler, crate::proofs::PieceLemmas::run_past))]
     fn fillers<B: Allocator>(&self, alloc: B) -> Result<Vec<bool, B>, AllocError>
         ensures { IfOk result (λ marks. AreMarkedBy (is_filler self.now) marks.items) }
     {
@@ -239,6 +232,7 @@ impl<'a, A: Allocator> Ground<'a, A> {
     }
 
     /// How many characters the longest text has that begins at each address.
+    #[tactic(auto, using(crate::proofs::LenLemmas::set_all))]
     fn text_lens<B: Allocator>(
         &self,
         alloc: B,
@@ -282,12 +276,13 @@ impl<'a, A: Allocator> Ground<'a, A> {
     }
 
     /// The first free address from this one on, if there is one.
+    #[tactic(auto, using(crate::proofs::PieceLemmas::free_none))]
     fn first_free(&self, from: usize) -> Option<usize>
         ensures low { IfSome result (λ at. from ≤ at) }
         ensures start { IfSome result (λ at. self.now.image.start ≤ at) }
         ensures below { IfSome result (λ at. at < end_of self.now.image) }
         ensures room { IfSome result (λ at. at < 65536) }
-        ensures before { IfSome result (λ at. (a : ℕ) → from ≤ a → a < at → is_free self.now a ≡ false) }
+        ensures before { IfSome result (λ at. NoneIn (is_free self.now) from at) }
         ensures here { IfSome result (λ at. is_free self.now at ≡ true) }
         ensures none { IfNone result ((a : ℕ) → from ≤ a → is_free self.now a ≡ false) }
     {
@@ -300,36 +295,20 @@ impl<'a, A: Allocator> Ground<'a, A> {
         None
     }
 
-    /// Where the words end that have the address: the first address after it of no word.
-    fn words_end(&self, from: usize) -> usize
+    /// Where the words end, by these marks, that have the address: the first address after it of none.
+    #[tactic(auto, using(crate::proofs::PieceLemmas::past_free))]
+    fn words_end(&self, marks: &[bool], from: usize) -> usize
+        requires count { length marks.now ≡ 65536 }
         requires below { from < end_of self.now.image }
-        requires here { is_word self.now from ≡ true }
+        requires here { is_of self.now marks.now from ≡ true }
         ensures low { from < result }
         ensures high { result ≤ 65536 }
-        ensures inside { (a : ℕ) → from ≤ a → a < result → is_word self.now a ≡ true }
-        ensures after { is_word self.now result ≡ false }
+        ensures inside { (a : ℕ) → from ≤ a → a < result → is_of self.now marks.now a ≡ true }
+        ensures after { is_of self.now marks.now result ≡ false }
     {
         let end = self.image_end();
         'words: for at in from + 1..end {
-            if !self.is_word(at) {
-                return at;
-            }
-        }
-        end
-    }
-
-    /// Where the words that are less one end that have the address: the first address after it of none.
-    fn returns_end(&self, from: usize) -> usize
-        requires below { from < end_of self.now.image }
-        requires here { is_return self.now from ≡ true }
-        ensures low { from < result }
-        ensures high { result ≤ 65536 }
-        ensures inside { (a : ℕ) → from ≤ a → a < result → is_return self.now a ≡ true }
-        ensures after { is_return self.now result ≡ false }
-    {
-        let end = self.image_end();
-        'returns: for at in from + 1..end {
-            if !self.is_return(at) {
+            if !self.is_of(marks, at) {
                 return at;
             }
         }
@@ -337,6 +316,7 @@ impl<'a, A: Allocator> Ground<'a, A> {
     }
 
     /// Where the filler ends that begins at the address: the first address after it with another byte.
+    #[tactic(auto, using(crate::proofs::PieceLemmas::past_same))]
     fn filler_end(&self, from: usize) -> usize
         requires start { self.now.image.start ≤ from }
         requires below { from < end_of self.now.image }
@@ -353,18 +333,6 @@ impl<'a, A: Allocator> Ground<'a, A> {
             }
         }
         end
-    }
-
-    /// Where the filler ends that begins at the address.
-    fn filler_piece(&self, first: usize) -> usize
-        requires start { self.now.image.start ≤ first }
-        requires below { first < end_of self.now.image }
-        requires filler { is_filler self.now first ≡ true }
-        ensures low { first < result }
-        ensures high { result ≤ 65536 }
-        ensures piece { IsPiece self.now RangeType.ByteTable first result }
-    {
-        self.filler_end(first)
     }
 
     /// Whether a text is known to begin at the address.
@@ -384,6 +352,7 @@ impl<'a, A: Allocator> Ground<'a, A> {
     }
 
     /// The first address from this one on that is not free or has a zero byte.
+    #[tactic(auto, using(crate::proofs::PieceLemmas::past_open))]
     fn open_end(&self, from: usize) -> usize
         requires below { from < end_of self.now.image }
         ensures low { from ≤ result }
@@ -481,6 +450,7 @@ impl<'a, 'g, A: Allocator> Texts<'a, 'g, A> {
     }
 
     /// Where the table of bytes ends that has the address: the first address after it that is not plain, or where filler or a text begins.
+    #[tactic(auto, using(crate::proofs::PieceLemmas::past_break))]
     fn bytes_end(&self, from: usize) -> usize
         requires below { from < end_of self.now.image }
         requires here { is_break self.now from ≡ false }
@@ -498,18 +468,8 @@ impl<'a, 'g, A: Allocator> Texts<'a, 'g, A> {
         end
     }
 
-    /// Where the table of bytes ends that begins at the address.
-    fn bytes_piece(&self, first: usize) -> usize
-        requires below { first < end_of self.now.image }
-        requires here { is_break self.now first ≡ false }
-        ensures low { first < result }
-        ensures high { result ≤ 65536 }
-        ensures piece { IsPiece self.now RangeType.ByteTable first result }
-    {
-        self.bytes_end(first)
-    }
-
     /// The type of the text that begins at the address, and the address after it.
+    #[tactic(auto, using(crate::proofs::LenLemmas::len_low))]
     fn text_piece(&self, first: usize) -> (RangeType, usize)
         requires start { self.now.image.start ≤ first }
         requires below { first < end_of self.now.image }
@@ -529,6 +489,7 @@ impl<'a, 'g, A: Allocator> Texts<'a, 'g, A> {
     }
 
     /// The type of the piece that begins at a free address, and the address after it.
+    #[tactic(auto, unfolding(crate::specs::Pieces::is_word, crate::specs::Pieces::is_return), using(crate::proofs::PieceLemmas::plain_unbroken, crate::proofs::PieceLemmas::filler_same))]
     fn role_and_end(&self, first: usize) -> (RangeType, usize)
         requires start { self.now.image.start ≤ first }
         requires below { first < end_of self.now.image }
@@ -540,19 +501,19 @@ impl<'a, 'g, A: Allocator> Texts<'a, 'g, A> {
         let ground = self.ground;
         // This does nothing; its clause says that the image ends at $FFFF at most.
         ground.image_end();
-        if ground.is_word(first) {
-            return (RangeType::AddrTable, ground.words_end(first));
+        if ground.is_of(ground.words, first) {
+            return (RangeType::AddrTable, ground.words_end(ground.words, first));
         }
-        if ground.is_return(first) {
-            return (RangeType::RtsTable, ground.returns_end(first));
+        if ground.is_of(ground.returns, first) {
+            return (RangeType::RtsTable, ground.words_end(ground.returns, first));
         }
         if self.is_filler(first) {
-            return (RangeType::ByteTable, ground.filler_piece(first));
+            return (RangeType::ByteTable, ground.filler_end(first));
         }
         if 0 < self.text_len(first) {
             return self.text_piece(first);
         }
-        (RangeType::ByteTable, self.bytes_piece(first))
+        (RangeType::ByteTable, self.bytes_end(first))
     }
 
     /// The same, or a text that is known to begin there.
@@ -594,7 +555,7 @@ impl<'a, 'g, A: Allocator> Texts<'a, 'g, A> {
     /// The first piece from an address on.
     fn next_piece(&self, from: usize) -> Option<RangeSpec>
         ensures low { IfSome result (λ r. from ≤ r.first) }
-        ensures before { IfSome result (λ r. (a : ℕ) → from ≤ a → a < r.first → is_free self.now a ≡ false) }
+        ensures before { IfSome result (λ r. NoneIn (is_free self.now) from r.first) }
         ensures ordered { IfSome result (λ r. r.first ≤ r.last) }
         ensures room { IfSome result (λ r. r.last < 65536) }
         ensures piece { IfSome result (λ r. IsStretch self.now r.role r.first (r.last + 1)) }

@@ -1,15 +1,15 @@
 //! Words of rows that lead to code.
 
-ghost use Rattle.std.specs.Prelude.{◌≡◌, ◌<◌, ◌+◌, ◌≤◌, IfOk, IfSome, OnOk, false, length, true};
+ghost use Rattle.std.specs.Prelude.{◌≡◌, ◌⊎◌, ◌<◌, ◌+◌, ◌≤◌, IfOk, IfSome, OnOk, false, length, true};
 ghost use Rattle.isa65.specs.Mode.{len_of};
 ghost use Rattle.map65.specs.ImageView.{end_of};
 ghost use Rattle.reach65.specs.Code.Growing.{IsGrown};
 ghost use Rattle.reach65.specs.Code.Searching.{IsDone};
-ghost use Rattle.reach65.specs.Growth.{AreBeside, AreWordsOf, IsWordOf};
+ghost use Rattle.reach65.specs.Growth.{AreBeside, IsWordOf};
 ghost use Rattle.reach65.specs.Taken.{AreMarkedBy, is_given, is_taken};
 
 use crate::entries::word_at;
-use crate::flow::{Flow, is_last};
+use crate::flow::{Flow, is_last, start_and_len};
 use crate::growth::join;
 use crate::marks::{blank_marks, mark_ranges};
 use crate::search::{IN_TABLE, Search};
@@ -90,9 +90,8 @@ fn free_marks<A: Allocator, B: Allocator>(
     ensures { IfOk result (λ marks. length marks.items ≡ 65536) }
 {
     let mut marks = blank_marks(alloc)?;
-    let image = flow.map().image();
-    let start = usize::from(image.start());
-    'free: for k in 0..image.bytes().len() {
+    let (start, len) = start_and_len(flow);
+    'free: for k in 0..len {
         let at = start + k;
         let free = !reached[at] && !has_code(flow, reached, at as u16);
         marks[at] = free;
@@ -113,9 +112,8 @@ fn hopeful_marks<A: Allocator, B: Allocator>(
     ensures { IfOk result (λ marks. length marks.items ≡ 65536) }
 {
     let mut marks = blank_marks(alloc)?;
-    let image = flow.map().image();
-    let start = usize::from(image.start());
-    let mut at = start + image.bytes().len();
+    let (start, len) = start_and_len(flow);
+    let mut at = start + len;
     'back: while start < at {
         at -= 1;
         let mark = reached[at] || (free[at] && is_hopeful(flow, &marks, at as u16));
@@ -160,18 +158,16 @@ impl<'a, 'f, 'm, A: Allocator, B: Allocator> RowWords<'a, 'f, 'm, A, B> {
 
     /// Whether nothing speaks for the address.
     #[tactic(auto, using(crate::proofs::TakenLemmas::not_taken))]
-    fn is_open(&self, marks: &[bool], address: u16) -> bool
-        requires { length marks.now ≡ 65536 }
-        ensures { result ≡ true → is_taken self.now.map marks.now address ≡ false }
+    fn is_open<C: Allocator>(&self, search: &Search<C>, address: u16) -> bool
+        ensures { result ≡ true → is_taken self.now.map search.now.marks address ≡ false }
     {
-        !self.given[usize::from(address)] && !has_code(self.flow, marks, address)
+        !self.given[usize::from(address)] && !has_code(self.flow, search.marks(), address)
     }
 
     /// The address to which the word at the address leads, if nothing speaks for its bytes and code may begin there.
-    fn word_of(&self, marks: &[bool], less: u16, at: usize) -> Option<u16>
-        requires count { length marks.now ≡ 65536 }
-        requires room { at < 65540 }
-        ensures { IfSome result (λ a. IsWordOf self.now marks.now less at a) }
+    fn word_of<C: Allocator>(&self, search: &Search<C>, less: u16, at: usize) -> Option<u16>
+        requires { at < 65540 }
+        ensures { IfSome result (λ a. IsWordOf self.now search.now.marks less at a) }
     {
         let image = self.flow.map().image();
         if !is_inside(image, at) || !is_inside(image, at + 1) {
@@ -179,27 +175,13 @@ impl<'a, 'f, 'm, A: Allocator, B: Allocator> RowWords<'a, 'f, 'm, A, B> {
         }
         let to = word_at(image, at as u16).checked_add(less)?;
         if self.hopeful[usize::from(to)]
-            && self.is_open(marks, at as u16)
-            && self.is_open(marks, (at + 1) as u16)
+            && self.is_open(search, at as u16)
+            && self.is_open(search, (at + 1) as u16)
         {
             Some(to)
         } else {
             None
         }
-    }
-
-    /// The addresses to which two different words lead, the first of them at the address.
-    fn words_of(&self, marks: &[bool], less: u16, at: usize) -> Option<(u16, u16)>
-        requires count { length marks.now ≡ 65536 }
-        requires room { at < 65536 }
-        ensures { IfSome result (λ p. AreWordsOf self.now marks.now less at p.0 p.1) }
-    {
-        let one = self.word_of(marks, less, at)?;
-        let other = self.word_of(marks, less, at + 2)?;
-        if one == other {
-            return None;
-        }
-        Some((one, other))
     }
 
     /// Adds an address to the entries, if code begins at the one of the word beside, and it is a sound beginning.
@@ -226,45 +208,34 @@ impl<'a, 'f, 'm, A: Allocator, B: Allocator> RowWords<'a, 'f, 'm, A, B> {
         Ok(())
     }
 
-    /// Adds the address of the second of two words to the entries, if they are in a row. Returns whether it is reached.
+    /// Adds the address of a word to the entries, if that and the word beside are in a row. Returns whether it is reached.
     #[tactic(auto, using(crate::proofs::GrowthLemmas::grown_same, crate::proofs::GrowthLemmas::grown_then))]
-    fn join_second<C: Allocator>(
+    fn join_word<C: Allocator>(
         &self,
         search: &mut Search<C>,
         fresh: &mut Vec<u16, C>,
         less: u16,
         at: usize,
+        beside: usize,
     ) -> Result<bool, AllocError>
         requires done { IsDone self.now search.old }
         requires few { less ≤ 1 }
-        requires room { at < 65536 }
+        requires room { at < 65540 }
+        requires room_beside { beside < 65540 }
+        requires beside { (beside ≡ at + 2) ⊎ (at ≡ beside + 2) }
         ensures { OnOk result (IsGrown self.now search.old search.new) }
     {
-        let Some((one, other)) = self.words_of(search.marks(), less, at) else {
+        let Some(address) = self.word_of(search, less, at) else {
             return Ok(false);
         };
-        self.join_beside(search, fresh, less, other, one)?;
-        Ok(search.is_marked(other))
-    }
-
-    /// Adds the address of the first of two words to the entries, if they are in a row.
-    #[tactic(auto, using(crate::proofs::GrowthLemmas::grown_same, crate::proofs::GrowthLemmas::grown_then))]
-    fn join_first<C: Allocator>(
-        &self,
-        search: &mut Search<C>,
-        fresh: &mut Vec<u16, C>,
-        less: u16,
-        at: usize,
-    ) -> Result<(), AllocError>
-        requires done { IsDone self.now search.old }
-        requires few { less ≤ 1 }
-        requires room { at < 65536 }
-        ensures { OnOk result (IsGrown self.now search.old search.new) }
-    {
-        let Some((one, other)) = self.words_of(search.marks(), less, at) else {
-            return Ok(());
+        let Some(other) = self.word_of(search, less, beside) else {
+            return Ok(false);
         };
-        self.join_beside(search, fresh, less, one, other)
+        if address == other {
+            return Ok(false);
+        }
+        self.join_beside(search, fresh, less, address, other)?;
+        Ok(search.is_marked(address))
     }
 
     /// Adds the addresses of two words to the entries, if they are in a row, and sound beginnings.
@@ -281,8 +252,8 @@ impl<'a, 'f, 'm, A: Allocator, B: Allocator> RowWords<'a, 'f, 'm, A, B> {
         requires room { at < 65536 }
         ensures { OnOk result (IsGrown self.now search.old search.new) }
     {
-        if self.join_second(search, fresh, less, at)? {
-            self.join_first(search, fresh, less, at)?;
+        if self.join_word(search, fresh, less, at + 2, at)? {
+            self.join_word(search, fresh, less, at, at + 2)?;
         }
         Ok(())
     }
@@ -333,9 +304,8 @@ impl<'a, 'f, 'm, A: Allocator, B: Allocator> RowWords<'a, 'f, 'm, A, B> {
         ensures { OnOk result (IsGrown self.now search.old search.new) }
     {
         let mut fresh = Vec::new(alloc);
-        let image = self.flow.map().image();
-        let start = usize::from(image.start());
-        'rows: for k in 0..image.bytes().len() {
+        let (start, len) = start_and_len(self.flow);
+        'rows: for k in 0..len {
             self.join_at(search, &mut fresh, start + k)?;
         }
         Ok(fresh)

@@ -1,8 +1,9 @@
 //! Rows of words that are addresses of routines.
 
 ghost use Rattle.std.specs.Prelude.{◌≡◌, ◌+◌, ◌<◌, ◌≤◌, ◌||◌, ℕ, IfNone, IfOk, IfSome, IsTrue, false, length, true};
-ghost use Rattle.map65.specs.ImageView.{end_of};
-ghost use Rattle.reach65.specs.Rows.{AreRows, AreWords, IsRow, are_different, free_word, is_any_row, is_in_table, is_of_table, is_row, is_word};
+ghost use Rattle.reach65.specs.Code.Cutting.{NoneIn};
+ghost use Rattle.reach65.specs.Code.Marking.{Marks};
+ghost use Rattle.reach65.specs.Rows.{AreRows, AreWords, IsRow, are_different, is_any_row, is_in_table, is_of_table, is_row, is_word};
 ghost use Rattle.reach65.specs.Reached.{is_marked};
 ghost use Rattle.reach65.specs.Taken.{AreMarkedBy};
 
@@ -47,15 +48,6 @@ impl<'a, A: Allocator, B: Allocator> Words<'a, A, B> {
         Words { within, code }
     }
 
-    /// The word at the address, if nothing speaks for its two bytes and no vector has them.
-    fn word(&self, address: usize) -> Option<u16>
-        requires { address < 65540 }
-        ensures value { result ≡ free_word self.now.within address }
-        ensures below { IfSome result (λ _. address + 1 < 65536) }
-    {
-        self.within.word(address)
-    }
-
     /// Whether a word of such bytes stands at the address, this much less than the address of a routine.
     #[tactic(auto, unfolding(crate::specs::Rows::is_word))]
     fn is_word(&self, less: u16, address: usize) -> bool
@@ -63,7 +55,7 @@ impl<'a, A: Allocator, B: Allocator> Words<'a, A, B> {
         ensures value { result ≡ is_word self.now less address }
         ensures below { IsTrue result → address + 1 < 65536 }
     {
-        match self.word(address) {
+        match self.within.word(address) {
             Some(word) => self.code.is_routine(usize::from(word) + usize::from(less)),
             None => false,
         }
@@ -77,18 +69,11 @@ impl<'a, A: Allocator, B: Allocator> Words<'a, A, B> {
     {
         self.is_word(less, address)
             && (self.is_word(less, address + 2)
-                && are_different(self.word(address), self.word(address + 2)))
-    }
-
-    /// The first address after the image.
-    fn image_end(&self) -> usize
-        ensures value { result ≡ end_of self.now.within.image }
-        ensures room { result ≤ 65536 }
-    {
-        self.within.image_end()
+                && are_different(self.within.word(address), self.within.word(address + 2)))
     }
 
     /// Where the words of the row end that begins at the address.
+    #[tactic(auto, using(crate::proofs::RowLemmas::row_long))]
     fn words_end(&self, less: u16, from: usize) -> usize
         requires row { is_row self.now less from ≡ true }
         requires room { from < 65536 }
@@ -133,15 +118,16 @@ impl<'a, A: Allocator, B: Allocator> Words<'a, A, B> {
     }
 
     /// The first row from an address on.
+    #[tactic(auto, using(crate::proofs::RowLemmas::rows_none))]
     fn next_row(&self, from: usize) -> Option<RangeSpec>
         ensures low { IfSome result (λ r. from ≤ r.first) }
-        ensures before { IfSome result (λ r. (a : ℕ) → from ≤ a → a < r.first → is_any_row self.now a ≡ false) }
+        ensures before { IfSome result (λ r. NoneIn (is_any_row self.now) from r.first) }
         ensures ordered { IfSome result (λ r. r.first ≤ r.last) }
         ensures room { IfSome result (λ r. r.last < 65536) }
         ensures row { IfSome result (λ r. IsRow self.now r.role r.first (r.last + 1)) }
         ensures none { IfNone result ((a : ℕ) → from ≤ a → is_any_row self.now a ≡ false) }
     {
-        let end = self.image_end();
+        let end = self.within.image_end();
         'rows: for at in from..end {
             if let Some(row) = self.row_at(at) {
                 return Some(row);
@@ -152,6 +138,7 @@ impl<'a, A: Allocator, B: Allocator> Words<'a, A, B> {
 
     /// Returns the rows of words that are addresses of routines, or such addresses less one, as ranges of the types AddrTable and RtsTable.
     /// The ranges ascend. Fails only if an allocation failed.
+    #[tactic(auto, using(crate::proofs::RowLemmas::rows_end, crate::proofs::RowLemmas::rows_pushed))]
     pub fn rows<C: Allocator>(&self, alloc: C) -> Result<Vec<RangeSpec, C>, AllocError>
         ensures { IfOk result (λ found. AreRows self.now 0 found.items) }
     {
@@ -169,8 +156,7 @@ impl<'a, A: Allocator, B: Allocator> Words<'a, A, B> {
 #[tactic(auto, unfolding(crate::specs::Rows::is_in_table))]
 fn mark_table<A: Allocator>(marks: &mut Vec<bool, A>, role: RangeType, row: RangeSpec)
     requires count { length marks.old.items ≡ 65536 }
-    ensures count { length marks.new.items ≡ 65536 }
-    ensures each { (a : ℕ) → is_marked marks.new.items a ≡ (is_marked marks.old.items a || is_in_table role a row) }
+    ensures { Marks (λ a. is_in_table role a row) marks.old.items marks.new.items }
 {
     if row.role == role {
         mark_range(marks, row);
@@ -192,6 +178,7 @@ pub fn table_marks<A: Allocator>(
 }
 
 /// Marks the addresses of the rows of the type among these rows.
+#[tactic(auto, unfolding(crate::specs::Rows::is_of_table))]
 pub fn mark_tables<A: Allocator>(marks: &mut Vec<bool, A>, role: RangeType, rows: &[RangeSpec])
     requires count { length marks.old.items ≡ 65536 }
     ensures count { length marks.new.items ≡ 65536 }

@@ -1,7 +1,7 @@
 //! What the lines `#: ..` of an information file say of halves.
 
-ghost use Rattle.std.specs.Prelude.{◌≡◌, ◌<◌, ◌≤◌, ◌||◌, ℕ, IfOk, IfSome, length};
-ghost use Rattle.reach65.specs.Reached.{is_marked};
+ghost use Rattle.std.specs.Prelude.{◌≡◌, ◌<◌, IfOk, length};
+ghost use Rattle.reach65.specs.Code.Marking.{MarksBelow};
 ghost use Rattle.reach65.specs.Said.{has_byte, is_among, is_said};
 ghost use Rattle.reach65.specs.Taken.{AreMarkedBy};
 
@@ -13,8 +13,7 @@ use std::alloc::{AllocError, Allocator};
 /// Marks this many places from one on, if there is one, up to $FFFF.
 fn mark_among<A: Allocator>(marks: &mut Vec<bool, A>, first: Option<u16>, count: u16)
     requires count { length marks.old.items ≡ 65536 }
-    ensures count { length marks.new.items ≡ 65536 }
-    ensures each { (a : ℕ) → a < 65536 → is_marked marks.new.items a ≡ (is_marked marks.old.items a || is_among first count a) }
+    ensures { MarksBelow (is_among first count) marks.old.items marks.new.items }
 {
     if let Some(first) = first {
         let from = usize::from(first);
@@ -27,8 +26,7 @@ fn mark_among<A: Allocator>(marks: &mut Vec<bool, A>, first: Option<u16>, count:
 #[tactic(auto, unfolding(crate::specs::Said::has_byte))]
 fn mark_tag<A: Allocator>(marks: &mut Vec<bool, A>, tag: Tag)
     requires count { length marks.old.items ≡ 65536 }
-    ensures count { length marks.new.items ≡ 65536 }
-    ensures each { (a : ℕ) → a < 65536 → is_marked marks.new.items a ≡ (is_marked marks.old.items a || has_byte a tag) }
+    ensures { MarksBelow (λ a. has_byte a tag) marks.old.items marks.new.items }
 {
     if tag.kind == TagKind::Halves {
         let count = tag.size.unwrap_or(1);
@@ -41,8 +39,7 @@ fn mark_tag<A: Allocator>(marks: &mut Vec<bool, A>, tag: Tag)
 #[tactic(auto, unfolding(crate::specs::Said::is_said))]
 fn mark_tags<A: Allocator>(marks: &mut Vec<bool, A>, tags: &[Tag])
     requires count { length marks.old.items ≡ 65536 }
-    ensures count { length marks.new.items ≡ 65536 }
-    ensures each { (a : ℕ) → a < 65536 → is_marked marks.new.items a ≡ (is_marked marks.old.items a || is_said tags.now a) }
+    ensures { MarksBelow (is_said tags.now) marks.old.items marks.new.items }
 {
     'tags: for &tag in tags {
         mark_tag(marks, tag);

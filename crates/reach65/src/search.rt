@@ -1,16 +1,16 @@
 //! The search of what is reached.
 
-ghost use Rattle.std.specs.Prelude.{◌≡◌, ◌++◌, ◌∷◌, [], ℕ, Bool, true, List, Contains, Ok, None, Some, IfOk, IfNone, IfSome, OnOk, false, length, slice_set};
+ghost use Rattle.std.specs.Prelude.{◌≡◌, ◌++◌, ◌∷◌, [], ℕ, true, List, Contains, Ok, None, Some, IfOk, IfNone, IfSome, OnOk, false, length, slice_set};
 ghost use Rattle.map65.specs.ImageView.{is_inside};
 ghost use Rattle.reach65.specs.Code.Growing.{extent_of};
-ghost use Rattle.reach65.specs.Code.Searching.{AreChecked, AreSound, HasBegun, HasNext, IsAsBefore, IsAtEnd, IsBegun, IsDone, IsTrial, IsTried, put, put_entry, put_inside, put_some, unset};
+ghost use Rattle.reach65.specs.Code.Searching.{AreChecked, AreSound, HasBegun, HasNext, IsAsBefore, IsAtEnd, IsBegun, IsDone, IsTried, KeepsTrial, put, put_entry, put_inside, put_leads, put_some, unset};
 ghost use Rattle.reach65.specs.Flow.{goal_at, next_at};
 ghost use Rattle.reach65.specs.Growth.{BeginsCode, IsSoundAt};
 ghost use Rattle.reach65.specs.Sound.{is_fine};
 ghost use Rattle.reach65.specs.Reached.{AreReached, is_marked, no_marks};
 
 use crate::entered::is_entered;
-use crate::flow::Flow;
+use crate::flow::{Flow, image_of};
 use crate::marks::blank_marks;
 use crate::sound::{are_apart, is_fine_op};
 use map65::{Image, is_inside};
@@ -132,7 +132,7 @@ impl<A: Allocator> Search<A> {
         address: u16,
     ) -> Result<bool, AllocError>
         ensures fine { result ≡ Ok true → is_fine flow.now address ≡ true }
-        ensures put { result ≡ Ok true → self.new ≡ put_some (put_some self.old (next_at flow.now address)) (goal_at flow.now.map address) }
+        ensures put { result ≡ Ok true → self.new ≡ put_leads flow.now self.old address }
         ensures same { result ≡ Ok false → self.new ≡ self.old }
     {
         let Some(op) = flow.instruction_at(address) else {
@@ -153,7 +153,7 @@ impl<A: Allocator> Search<A> {
         flow: &Flow<'_, '_, B>,
         address: u16,
     ) -> Result<(), AllocError>
-        ensures { OnOk result (self.new ≡ put_some (put_some self.old (next_at flow.now address)) (goal_at flow.now.map address)) }
+        ensures { OnOk result (self.new ≡ put_leads flow.now self.old address) }
     {
         let Some(op) = flow.instruction_at(address) else {
             return Ok(());
@@ -163,12 +163,14 @@ impl<A: Allocator> Search<A> {
     }
 
     /// Marks all that is reached.
+    #[tactic(auto, using(crate::proofs::SearchLemmas::begun_done, crate::proofs::SearchLemmas::leads_left))]
     fn finish<B: Allocator>(&mut self, flow: &Flow<'_, '_, B>) -> Result<(), AllocError>
         requires { IsBegun flow.now self.old }
         ensures done { OnOk result (IsDone flow.now self.new) }
         ensures entries { OnOk result (self.new.entries ≡ self.old.entries) }
     {
-        let _image = flow.map().image();
+        // This does nothing; its clause says that the image ends at $FFFF at most.
+        image_of(flow);
         'search: while let Some(address) = self.next() {
             self.put_leads(flow, address)?;
         }
@@ -193,22 +195,23 @@ impl<A: Allocator> Search<A> {
         requires { IsDone flow.now self.old }
         ensures { OnOk result (HasBegun flow.now self.old address self.new) }
     {
-        let image = flow.map().image();
         self.clear_added();
-        self.put_entry(image, address)?;
+        self.put_entry(image_of(flow), address)?;
         Ok(())
     }
 
     /// Marks all that is reached, or stops at the first instruction that is not fine: then it returns `false`.
+    #[tactic(auto, using(crate::proofs::SearchLemmas::begun_done, crate::proofs::SearchLemmas::leads_left, crate::proofs::TrialLemmas::trial_steps))]
     fn finish_trial<B: Allocator>(&mut self, flow: &Flow<'_, '_, B>) -> Result<bool, AllocError>
         requires begun { IsBegun flow.now self.old }
         requires checked { AreChecked flow.now self.old }
         ensures done { result ≡ Ok true → IsDone flow.now self.new }
         ensures fine { result ≡ Ok true → (b : ℕ) → Contains self.new.added b → is_fine flow.now b ≡ true }
         ensures entries { OnOk result (self.new.entries ≡ self.old.entries) }
-        ensures trial { (before : List Bool) → IsTrial before self.old → OnOk result (IsTrial before self.new) }
+        ensures trial { OnOk result (KeepsTrial self.old self.new) }
     {
-        let _image = flow.map().image();
+        // This does nothing; its clause says that the image ends at $FFFF at most.
+        image_of(flow);
         'search: while let Some(address) = self.next() {
             if !self.put_fine(flow, address)? {
                 return Ok(false);
@@ -235,6 +238,7 @@ impl<A: Allocator> Search<A> {
     }
 
     /// Unmarks what was added.
+    #[tactic(auto, unfolding(crate::specs::Code::Searching::unset), using(crate::proofs::TrialLemmas::unset_push))]
     fn unmark_added(&mut self)
         ensures marks { self.new.marks ≡ unset self.old.marks self.old.added }
         ensures entries { self.new.entries ≡ self.old.entries }
@@ -266,7 +270,7 @@ impl<A: Allocator> Search<A> {
         ensures sound { result ≡ Ok true → IsDone flow.now self.new }
         ensures are { result ≡ Ok true → AreSound flow.now least self.new.marks self.new.added }
         ensures entries { OnOk result (self.new.entries ≡ self.old.entries) }
-        ensures trial { (before : List Bool) → IsTrial before self.old → OnOk result (IsTrial before self.new) }
+        ensures trial { OnOk result (KeepsTrial self.old self.new) }
     {
         if self.finish_trial(flow)? {
             Ok(are_apart(flow, &self.marks, &self.added, least))
@@ -368,7 +372,7 @@ fn put_entries<A: Allocator, B: Allocator>(
     ensures begun { OnOk result (IsBegun flow.now search.new) }
     ensures entries { OnOk result (search.new.entries ≡ search.old.entries ++ entries.now) }
 {
-    let image = flow.map().image();
+    let image = image_of(flow);
     'entries: for &entry in entries {
         search.put_entry(image, entry)?;
     }

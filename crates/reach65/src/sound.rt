@@ -1,11 +1,10 @@
 //! Sound beginnings.
 
-ghost use Rattle.std.specs.Prelude.{◌≡◌, ◌+◌, ◌<◌, ◌≤◌, ◌&&◌, false, true, IfSome, length, nat_lt};
+ghost use Rattle.std.specs.Prelude.{◌≡◌, ◌+◌, ◌<◌, ◌≤◌, ◌&&◌, false, true, length};
 ghost use Rattle.isa65.specs.Mode.{len_of};
 ghost use Rattle.map65.specs.ImageView.{end_of};
 ghost use Rattle.reach65.specs.Code.Searching.{AreApart};
 ghost use Rattle.reach65.specs.Code.Apart.{is_after, is_before, len_at};
-ghost use Rattle.reach65.specs.Reached.{is_marked};
 ghost use Rattle.reach65.specs.Sound.{IsApart, goes_on, is_begun, is_beyond, is_branch, is_fine_op, leads_well};
 ghost use Rattle.reach65.specs.Taken.{is_code};
 

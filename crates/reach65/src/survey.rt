@@ -1,15 +1,16 @@
 //! What reached instructions do with the addresses.
 
-ghost use Rattle.std.specs.Prelude.{◌≡◌, ◌+◌, ◌<◌, ◌≤◌, ◌==◌, ◌&&◌, ◌||◌, ℕ, IfOk, OnOk, Some, length, nat_le, nat_lt, true};
+ghost use Rattle.std.specs.Prelude.{◌≡◌, ◌+◌, ◌<◌, ◌≤◌, ◌==◌, ◌&&◌, ◌||◌, IfOk, OnOk, Some, length, nat_le, nat_lt, true};
 ghost use Rattle.isa65.specs.Mode.{len_of, row_len};
 ghost use Rattle.map65.specs.ImageView.{end_of};
+ghost use Rattle.reach65.specs.Code.Marking.{Marks};
 ghost use Rattle.reach65.specs.Code.Surveying.{Adds, AddsOp, AddsRanges, blank_survey};
 ghost use Rattle.reach65.specs.Reached.{any_marked, is_marked};
 ghost use Rattle.reach65.specs.Routines.{branch_of, call_of};
 ghost use Rattle.reach65.specs.Survey.{AreSurvey, is_likely, is_routine};
 ghost use Rattle.reach65.specs.Variables.{word_in};
 
-use crate::flow::{Flow, bytes_from};
+use crate::flow::{Flow, bytes_from, start_and_len};
 use crate::marks::{blank_marks, mark_ranges, mark_some};
 use isa65::{Mnemonic, Op, OperandKind, Row};
 use map65::{is_jump, word_of};
@@ -89,8 +90,7 @@ fn word_in(row: Row, bytes: &[u8]) -> Option<u16>
 fn mark_if<A: Allocator>(marks: &mut Vec<bool, A>, at: usize, is: bool)
     requires count { length marks.old.items ≡ 65536 }
     requires room { is ≡ true → at < 65536 }
-    ensures count { length marks.new.items ≡ 65536 }
-    ensures each { (a : ℕ) → is_marked marks.new.items a ≡ (is_marked marks.old.items a || (is && at == a)) }
+    ensures { Marks (λ a. is && at == a) marks.old.items marks.new.items }
 {
     if is {
         marks[at] = true;
@@ -103,10 +103,7 @@ fn mark_bytes<A: Allocator>(marks: &mut Vec<bool, A>, from: usize, len: u8)
     requires count { length marks.old.items ≡ 65536 }
     requires few { len ≤ 3 }
     requires room { from + len ≤ 65536 }
-    ensures count { length marks.new.items ≡ 65536 }
-    ensures each { (a : ℕ) →
-        is_marked marks.new.items a
-        ≡ (is_marked marks.old.items a || (nat_le from a && nat_lt a (from + len))) }
+    ensures { Marks (λ a. nat_le from a && nat_lt a (from + len)) marks.old.items marks.new.items }
 {
     mark_if(marks, from, 0 < len);
     mark_if(marks, from + 1, 1 < len);
@@ -179,9 +176,8 @@ impl<A: Allocator> Survey<A> {
     fn mark_all<B: Allocator>(&mut self, flow: &Flow<'_, '_, B>)
         ensures { Adds flow.now (any_marked flow.now.map self.old.reached) self.old self.new }
     {
-        let image = flow.map().image();
-        let start = usize::from(image.start());
-        'survey: for k in 0..image.bytes().len() {
+        let (start, len) = start_and_len(flow);
+        'survey: for k in 0..len {
             self.mark_at(flow, (start + k) as u16);
         }
     }

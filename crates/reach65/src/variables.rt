@@ -11,15 +11,6 @@ use std::alloc::{AllocError, Allocator};
 /// How far a variable may lie after the one before it.
 const GAP: usize = 256;
 
-/// Whether the address is marked.
-fn is_marked(marks: &[bool], address: usize) -> bool
-    requires count { length marks.now ≡ 65536 }
-    requires low { address < 65536 }
-    ensures { result ≡ is_marked marks.now address }
-{
-    marks[address]
-}
-
 /// The first address after the image.
 fn end_of<A: Allocator>(image: &Image<A>) -> usize
     ensures value { result ≡ end_of image.now }
@@ -29,6 +20,7 @@ fn end_of<A: Allocator>(image: &Image<A>) -> usize
 }
 
 /// Adds the address, if it is an operand, and returns how many addresses after it may be none before the next.
+#[tactic(auto, using(crate::proofs::VariableLemmas::variable_hit, crate::proofs::VariableLemmas::variable_miss))]
 fn put_variable<A: Allocator>(
     found: &mut Vec<u16, A>,
     operands: &[bool],
@@ -42,7 +34,7 @@ fn put_variable<A: Allocator>(
         found.new.items ++ variables_from (is_marked operands.now) left (at + 1) (65536 - (at + 1))
         ≡ found.old.items ++ variables_from (is_marked operands.now) room at (65536 - at)) }
 {
-    if is_marked(operands, at) {
+    if operands[at] {
         found.push(at as u16)?;
         return Ok(GAP);
     }

@@ -1,7 +1,7 @@
 //! The vectors of the CPU that led to code.
 
-ghost use Rattle.std.specs.Prelude.{◌≡◌, ◌+◌, ◌<◌, ◌≤◌, ◌||◌, ℕ, IfOk, length};
-ghost use Rattle.reach65.specs.Reached.{is_marked};
+ghost use Rattle.std.specs.Prelude.{◌≡◌, ◌+◌, ◌<◌, ◌≤◌, IfOk, length};
+ghost use Rattle.reach65.specs.Code.Marking.{Marks};
 ghost use Rattle.reach65.specs.Taken.{AreMarkedBy};
 ghost use Rattle.reach65.specs.Vectors.{has_vector, is_of_vector, is_vector};
 
@@ -38,8 +38,7 @@ fn mark_vector<A: Allocator, B: Allocator>(
     requires count { length marks.old.items ≡ 65536 }
     requires reached { length reached.now ≡ 65536 }
     requires taken { length taken.now ≡ 65536 }
-    ensures count { length marks.new.items ≡ 65536 }
-    ensures each { (a : ℕ) → is_marked marks.new.items a ≡ (is_marked marks.old.items a || has_vector image.now reached.now taken.now vector a) }
+    ensures { Marks (has_vector image.now reached.now taken.now vector) marks.old.items marks.new.items }
 {
     if is_vector(image, reached, taken, vector) {
         let at = usize::from(vector);
@@ -47,27 +46,9 @@ fn mark_vector<A: Allocator, B: Allocator>(
     }
 }
 
-/// Marks the bytes of the vectors that led to code.
-#[tactic(auto, unfolding(crate::specs::Vectors::is_of_vector))]
-fn mark_all_vectors<A: Allocator, B: Allocator>(
-    marks: &mut Vec<bool, A>,
-    image: &Image<B>,
-    reached: &[bool],
-    taken: &[bool],
-)
-    requires count { length marks.old.items ≡ 65536 }
-    requires reached { length reached.now ≡ 65536 }
-    requires taken { length taken.now ≡ 65536 }
-    ensures count { length marks.new.items ≡ 65536 }
-    ensures each { (a : ℕ) → is_marked marks.new.items a ≡ (is_marked marks.old.items a || is_of_vector image.now reached.now taken.now a) }
-{
-    mark_vector(marks, image, reached, taken, 0xFFFA);
-    mark_vector(marks, image, reached, taken, 0xFFFC);
-    mark_vector(marks, image, reached, taken, 0xFFFE);
-}
-
 /// Marks the bytes of the vectors at $FFFA to $FFFF that led to code: nothing speaks for them, and a reached instruction begins at the word.
 /// There is a mark for each address from $0000 to $FFFF. Fails only if an allocation failed.
+#[tactic(auto, unfolding(crate::specs::Vectors::is_of_vector))]
 pub fn mark_vectors<A: Allocator, B: Allocator>(
     alloc: A,
     image: &Image<B>,
@@ -79,6 +60,8 @@ pub fn mark_vectors<A: Allocator, B: Allocator>(
     ensures { IfOk result (λ marks. AreMarkedBy (is_of_vector image.now reached.now taken.now) marks.items) }
 {
     let mut marks = blank_marks(alloc)?;
-    mark_all_vectors(&mut marks, image, reached, taken);
+    mark_vector(&mut marks, image, reached, taken, 0xFFFA);
+    mark_vector(&mut marks, image, reached, taken, 0xFFFC);
+    mark_vector(&mut marks, image, reached, taken, 0xFFFE);
     Ok(marks)
 }

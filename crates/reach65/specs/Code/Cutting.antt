@@ -1,11 +1,20 @@
 -- How many characters texts have, from the last address to the first.
-use Rattle.std.specs.Prelude.{◌≡◌, ℕ, ◌+◌, ◌<◌, true, false, List, length, get_or, replicate, if◌then◌else◌}
-use Rattle.reach65.specs.Pieces.{Ground, chars_at, is_same, longer, text_len}
+use Rattle.std.specs.Prelude.{◌≡◌, ℕ, ◌+◌, ◌<◌, ◌≤◌, ◌&&◌, Bool, true, false, List, length, get_or, replicate, if◌then◌else◌}
+use Rattle.reach65.specs.Pieces.{Ground, chars_at, is_free, is_same, longer, text_len}
+use Rattle.reach65.specs.Reached.{is_marked}
 use Rattle.reach65.specs.Texts.{are_enough, letter_count}
 use Rattle.reach65.specs.declared.texts.Alphabet.{Alphabet}
 use Rattle.reach65.specs.declared.texts.Alphabet.TheVariants as alphabet
 use Rattle.reach65.specs.declared.texts.Tail.{Tail}
 use Rattle.reach65.specs.declared.texts.Tails.{Tails}
+
+-- no address from one on passes the test, up to before another one
+abbrev pub NoneIn : (ℕ → Bool) → ℕ → ℕ → Type 0
+NoneIn p from end = (a : ℕ) → from ≤ a → a < end → p a ≡ false
+
+-- a free address that has one of these marks
+abbrev pub is_of : Ground → List Bool → ℕ → Bool
+is_of g marks a = is_free g a && is_marked marks a
 
 -- the counts of these characters
 pub record IsTail (t : Alphabet) (chars : List ℕ) (tail : Tail) : Type 0 where

@@ -1,7 +1,7 @@
 -- The steps of a search, and what holds at each.
 use Rattle.std.specs.Prelude.{◌≡◌, ◌⊎◌, ℕ, ◌+◌, ◌≤◌, length, Contains, Bool, true, false, List, [], ◌∷◌, ◌++◌, if◌then◌else◌, slice_set, Option, Some, None}
 use Rattle.map65.specs.ImageView.{ImageView, is_inside}
-use Rattle.reach65.specs.Flow.{FlowView, LeadsTo}
+use Rattle.reach65.specs.Flow.{FlowView, LeadsTo, goal_at, next_at}
 use Rattle.reach65.specs.Reached.{AreReached, Reached, is_marked}
 use Rattle.reach65.specs.Sound.{IsApart, IsSound, is_fine, marked_count}
 
@@ -26,6 +26,10 @@ put_inside image s a = if is_inside image a then put s a else s
 abbrev pub put_some : State → Option ℕ → State
 put_some s None = s
 put_some s (Some a) = put s a
+
+-- those that the instruction of an address leads to
+abbrev pub put_leads : FlowView → State → ℕ → State
+put_leads f s a = put_some (put_some s (next_at f a)) (goal_at f.map a)
 
 -- an address joins the entries
 unfoldable pub put_entry : ImageView → State → ℕ → State
@@ -88,6 +92,10 @@ pub record IsTrial (before : List Bool) (s : State) : Type 0 where
   pub undone : unset s.marks s.added ≡ before
   pub count : marked_count s.marks ≡ marked_count before + length s.added
   pub fresh : (b : ℕ) → is_marked s.marks b ≡ true → is_marked before b ≡ true ⊎ Contains s.added b
+
+-- what was so before a trial still is
+abbrev pub KeepsTrial : State → State → Type 0
+KeepsTrial old new = (before : List Bool) → IsTrial before old → IsTrial before new
 
 -- what was added is fine, or is still to be looked at
 pub record AreChecked (f : FlowView) (s : State) : Type 0 where

@@ -1,8 +1,8 @@
-use Rattle.std.proofs.Common.{◌≡◌, take}
+use Rattle.std.proofs.Common.{◌≡◌}
 use Rattle.std.specs.List.{flat_map}
 use Rattle.reach65.specs.Pairs.{pairs_at}
-use Rattle.reach65.proofs.LoopLemmas.{addresses_of}
+use Rattle.map65.specs.Spans.{addresses}
 use Rattle.reach65.proofs.pairs.pairs_of.Given as goal
 
 abbrev pub invariant-pairs : goal.invariant-pairs
-invariant-pairs g l = l.found.items ≡ flat_map (pairs_at l.flow.map l.reached) (take l.k (addresses_of l.flow.map.image))
+invariant-pairs g l = l.found.items ≡ flat_map (pairs_at l.flow.map l.reached) (addresses l.k l.flow.map.image.start)

@@ -4,4 +4,7 @@ use Rattle.reach65.specs.Rows.{is_of_table}
 use Rattle.reach65.proofs.rows.mark_tables.Given as goal
 
 abbrev pub invariant-tables : goal.invariant-tables
-invariant-tables g l = (length l.marks.items ≡ 65536) × ((a : ℕ) → is_marked l.marks.items a ≡ (is_marked l.initial.marks.items a || is_of_table l.role (take l.row-index l.rows) a))
+invariant-tables g l = record {
+  count : length l.marks.items ≡ 65536;
+  each : (a : ℕ) → is_marked l.marks.items a ≡ (is_marked l.initial.marks.items a || is_of_table l.role (take l.row-index l.rows) a);
+}

@@ -1,5 +1,5 @@
-use Rattle.std.proofs.Common.{◌≡◌, Bool, List}
-use Rattle.reach65.specs.Code.Searching.{AreChecked, IsBegun, IsTrial}
+use Rattle.std.proofs.Common.{◌≡◌}
+use Rattle.reach65.specs.Code.Searching.{AreChecked, IsBegun, KeepsTrial}
 use Rattle.reach65.proofs.SearchLemmas.{left_to_do}
 use Rattle.reach65.proofs.search.Search.finish_trial.Given as goal
 
@@ -8,7 +8,7 @@ invariant-search g l = record {
   begun : IsBegun l.flow l.self;
   entries : l.self.entries ≡ l.initial.self.entries;
   checked : AreChecked l.flow l.self;
-  trial : (before : List Bool) → IsTrial before l.initial.self → IsTrial before l.self;
+  trial : KeepsTrial l.initial.self l.self;
 }
 
 abbrev pub decreases-search : goal.decreases-search

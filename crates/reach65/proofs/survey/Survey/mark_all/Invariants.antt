@@ -1,9 +1,9 @@
-use Rattle.std.proofs.Common.{◌&&◌, take}
+use Rattle.std.proofs.Common.{◌&&◌}
 use Rattle.std.specs.List.{list_any}
 use Rattle.reach65.specs.Code.Surveying.{Adds}
 use Rattle.reach65.specs.Reached.{is_marked}
-use Rattle.reach65.proofs.LoopLemmas.{addresses_of}
+use Rattle.map65.specs.Spans.{addresses}
 use Rattle.reach65.proofs.survey.Survey.mark_all.Given as goal
 
 abbrev pub invariant-survey : goal.invariant-survey
-invariant-survey g l = Adds l.flow (λ p. list_any (λ a. is_marked l.initial.self.reached a && p a) (take l.k (addresses_of l.flow.map.image))) l.initial.self l.self
+invariant-survey g l = Adds l.flow (λ p. list_any (λ a. is_marked l.initial.self.reached a && p a) (addresses l.k l.flow.map.image.start)) l.initial.self l.self
