@@ -21,7 +21,7 @@ WIDER = {
     "files65": 4,
     "da65_cli": 12,
     "as65": 23,
-    "trace65": 40,
+    "trace65": 29,
     "name65": 7,
 }
 

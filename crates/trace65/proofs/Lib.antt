@@ -1,7 +1,7 @@
-mod CommandLemmas
-mod AppendLemmas
-mod CommentLemmas
-mod CommentRows
-mod LikelyLemmas
-mod LikelyLines
-mod ReportLemmas
+pub mod CommandLemmas
+pub mod AppendLemmas
+pub mod CommentLemmas
+pub mod CommentRows
+pub mod LikelyLemmas
+pub mod LikelyLines
+pub mod ReportLemmas

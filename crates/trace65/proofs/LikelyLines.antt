@@ -1,37 +1,25 @@
 -- No line ends within a comment on what is likely.
-use Rattle.std.proofs.Common.{◌≡◌, ◌≤◌, ℕ, Bool, true, false, not, List, [], ◌∷◌, ◌++◌, arith, length, refl}
-use Rattle.std.specs.Prelude.{◌&&◌, Option, Some, None, codes, decimal, if◌then◌else◌, is_none}
-use Rattle.std.specs.List.{count_by}
-use Rattle.text65.specs.Digits.{digits4}
+use Rattle.std.proofs.Common.{append_assoc, ◌≡◌, ◌≤◌, ℕ, Bool, true, List, [], ◌∷◌, ◌++◌, arith, refl}
+use Rattle.std.specs.Prelude.{◌&&◌, Option, Some, None, codes}
 use Rattle.info65.specs.Names.{AreNames, covering}
 use Rattle.info65.specs.declared.tags.tag.Tag.{Tag}
 use Rattle.map65.specs.ImageView.{IsPlaced}
 use Rattle.map65.specs.MapView.{MapView}
 use Rattle.reach65.specs.Flow.{FlowView}
-use Rattle.reach65.specs.Inlines.{inline_of}
 use Rattle.reach65.specs.Survey.{Survey}
 use Rattle.reach65.specs.TextLaws.{AreLines, is_line}
-use Rattle.trace65.specs.Likely.{all_of, are_many, call_comment, call_comments, comments_of_calls, comments_of_word, has_two_bytes, is_call, is_failing, is_meant, word_at, word_comment, word_comments}
+use Rattle.trace65.specs.Likely.{all_of, call_comment, call_comments, comments_of_calls, comments_of_word, has_two_bytes, is_meant, word_at, word_comment, word_comments}
 use Rattle.trace65.specs.PairComments.{name_text}
-use Rattle.trace65.proofs.CommentLemmas.{all-lines, decimal-line, hex4-line, joined, lines-joined, name-line}
-use Rattle.trace65.proofs.LikelyLemmas.{few-counted}
+use Rattle.trace65.proofs.CommentLemmas.{all-lines, decimal-line, either-lines, hex, joined, lines-joined, name-line}
+use Rattle.trace65.proofs.LikelyLemmas.{few_counted}
 
 word-line : (m : MapView) (a w : ℕ) → AreNames m.info.names → is_line (word_comment m a w) ≡ true
 unfolding word_comment
-word-line m a w are =
-    let first = codes " the word at $" ++ digits4 a in
-    let second = codes " is $" ++ digits4 w in
-    let name = name_text (covering m.info.names w) w in
-    joined (first ++ second ++ name) (codes ": AddrTable?")
-    (joined (first ++ second) name (joined first second (hex4-line a) (hex4-line w)) (name-line m.info.names are w (covering m.info.names w) refl)) refl
+word-line m a w are = simp (append_assoc, hex) (joined (name_text (covering m.info.names w) w) (codes ": AddrTable?") (name-line m.info.names are w (covering m.info.names w) refl) refl)
 
 of-word : (m : MapView) (s : Survey) (a : ℕ) (o : Option ℕ) → AreNames m.info.names → AreLines (comments_of_word m s a o)
 of-word m s a None are = tt
-of-word m s a (Some w) are = by_test (is_meant m s w && has_two_bytes w)
-  where
-    by_test : (x : Bool) → AreLines (if x then word_comment m a w ∷ [] else [])
-    by_test true = (word-line m a w are, tt)
-    by_test false = tt
+of-word m s a (Some w) are = either-lines (is_meant m s w && has_two_bytes w) (word_comment m a w ∷ []) [] (word-line m a w are, tt) tt
 
 words-lines : (m : MapView) (s : Survey) (words returns : List Bool) → AreNames m.info.names → AreLines (word_comments m s words returns)
 unfolding word_comments
@@ -39,33 +27,16 @@ words-lines m s words returns are = all-lines (λ a. comments_of_word m s a (wor
 
 call-line : (failing calls t : ℕ) → failing ≤ 65536 → calls ≤ 65536 → is_line (call_comment failing calls t) ≡ true
 unfolding call_comment
-call-line failing calls t few few_too =
-    let first = codes " what follows " ++ decimal failing in
-    let second = codes " of " ++ decimal calls in
-    let third = codes " calls of $" ++ digits4 t in
-    joined (first ++ second ++ third) (codes " does not decode: INLINE?")
-    (joined (first ++ second) third (joined first second (decimal-line failing few) (decimal-line calls few_too)) (hex4-line t)) refl
+call-line failing calls t few few_too = grind (arith, append_assoc, joined, decimal-line, hex)
 
 of-calls : (tags : List Tag) (failing calls t : ℕ) → failing ≤ 65536 → calls ≤ 65536 → AreLines (comments_of_calls tags failing calls t)
 unfolding comments_of_calls
-of-calls tags failing calls t few few_too = by_test (are_many failing calls && is_none (inline_of tags t))
-  where
-    by_test : (x : Bool) → AreLines (if x then call_comment failing calls t ∷ [] else [])
-    by_test true = (call-line failing calls t few few_too, tt)
-    by_test false = tt
+of-calls tags failing calls t few few_too = grind (arith, either-lines, call-line)
 
 calls-lines : (f : FlowView) (marks : List Bool) → IsPlaced f.map.image → AreLines (call_comments f marks)
 unfolding call_comments
-calls-lines f marks placed =
-    let m = f.map in
-    all-lines (λ t. comments_of_calls f.tags (count_by (is_failing f marks t) (all_of m)) (count_by (is_call m marks t) (all_of m)) t)
-    (λ t.
-    of-calls f.tags (count_by (is_failing f marks t) (all_of m)) (count_by (is_call m marks t) (all_of m)) t (omega (arith, placed.room, few-counted m (is_failing f marks t) (length m.image.bytes)))
-    (omega (arith, placed.room, few-counted m (is_call m marks t) (length m.image.bytes))))
-    (all_of m)
+calls-lines f marks placed = grind (arith, all-lines, of-calls, few_counted)
 
 pub likely-lines : (m : MapView) (s : Survey) (words returns marks : List Bool) (tags : List Tag) → IsPlaced m.image → AreNames m.info.names
     → AreLines (word_comments m s words returns ++ call_comments (record { map = m; tags = tags }) marks)
-likely-lines m s words returns marks tags placed are =
-    let f : FlowView = record { map = m; tags = tags } in
-    lines-joined (word_comments m s words returns) (call_comments f marks) (words-lines m s words returns are) (calls-lines f marks placed)
+likely-lines m s words returns marks tags placed are = grind (arith, lines-joined, words-lines, calls-lines)

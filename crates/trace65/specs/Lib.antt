@@ -1,4 +1,5 @@
 pub mod Command
+pub mod Appending
 pub mod Said
 pub mod Findings
 pub mod Picture

@@ -12,7 +12,6 @@ use Rattle.map65.specs.ImageView.{is_inside}
 use Rattle.map65.specs.MapView.{MapView}
 use Rattle.reach65.specs.Flow.{FlowView, instruction_at, is, next_at}
 use Rattle.reach65.specs.Inlines.{inline_of}
-use Rattle.reach65.specs.Pieces.{Ground}
 use Rattle.reach65.specs.Reached.{is_marked}
 use Rattle.reach65.specs.Routines.{call_at, is_it}
 use Rattle.reach65.specs.Rows.{free_word}

@@ -3,6 +3,7 @@
 ghost use Rattle.std.specs.Prelude.{◌≡◌, ◌<◌, ◌++◌, ℕ, IfOk, OnOk, Some, flat_map, get_or, length, replicate};
 ghost use Rattle.reach65.specs.Routines.{call_at, is_it};
 ghost use Rattle.reach65.specs.TextLaws.{comment_line};
+ghost use Rattle.trace65.specs.Appending.{Puts, PutsLine};
 ghost use Rattle.trace65.specs.Likely.{AreCounts, are_many, call_comment, call_comments, comments_at, comments_of_calls, fails, fails_at, is_call, is_end, is_failing, no_counts, with_one};
 
 use crate::digits::{put_address, put_decimal};
@@ -25,6 +26,7 @@ fn is_end(mnemonic: Mnemonic) -> bool
 }
 
 /// Whether of the instructions from the address on one does not decode, is `brk`, or is the last of the image.
+#[tactic(auto, using(crate::proofs::LikelyLemmas::fails_last, crate::proofs::LikelyLemmas::fails_next, crate::proofs::LikelyLemmas::fails_none, crate::proofs::LikelyLemmas::fails_zero))]
 fn fails(flow: &Flow<'_, '_>, from: u16) -> bool
     ensures { result ≡ fails flow.now 8 from }
 {
@@ -76,7 +78,7 @@ fn are_many(failing: usize, calls: usize) -> bool
 
 /// Appends the comment of a routine.
 fn put_call(out: &mut Vec<u8>, failing: usize, calls: usize, routine: u16) -> Result<(), AllocError>
-    ensures { OnOk result (out.new.items ≡ out.old.items ++ comment_line (call_comment failing calls routine)) }
+    ensures { PutsLine result out.old.items out.new.items (call_comment failing calls routine) }
 {
     put_decimal(out, b"# what follows ", failing)?;
     put_decimal(out, b" of ", calls)?;
@@ -94,7 +96,7 @@ fn put_if_many(
     routine: u16,
 ) -> Result<(), AllocError>
     requires { failing < 65537 }
-    ensures { OnOk result (out.new.items ≡ out.old.items ++ flat_map comment_line (comments_of_calls tags.now failing calls routine)) }
+    ensures { Puts result out.old.items out.new.items (comments_of_calls tags.now failing calls routine) }
 {
     if are_many(failing, calls) && inline_of(tags, routine).is_none() {
         return put_call(out, failing, calls, routine);
@@ -169,6 +171,7 @@ impl Calls {
     }
 
     /// The counts of an image.
+    #[tactic(auto, using(crate::proofs::LikelyLemmas::counts_more, crate::proofs::LikelyLemmas::counts_none, crate::proofs::LikelyLemmas::few_counted))]
     fn of(alloc: Global, flow: &Flow<'_, '_>, reached: &[bool]) -> Result<Calls, AllocError>
         requires { length reached.now ≡ 65536 }
         ensures { IfOk result (AreCounts flow.now reached.now (length flow.now.map.image.bytes)) }
@@ -188,7 +191,7 @@ impl Calls {
     /// Appends the comment of an address.
     fn put(&self, out: &mut Vec<u8>, tags: &[Tag], address: u16) -> Result<(), AllocError>
         requires { get_or self.now.failing address 0 < 65537 }
-        ensures { OnOk result (out.new.items ≡ out.old.items ++ flat_map comment_line (comments_at tags.now self.now address)) }
+        ensures { Puts result out.old.items out.new.items (comments_at tags.now self.now address) }
     {
         let at = usize::from(address);
         put_if_many(
@@ -202,7 +205,7 @@ impl Calls {
 }
 
 /// Appends a comment for each routine of the image after whose calls nothing decodes most often, unless a group INLINE of the file has it.
-#[tactic(auto, unfolding(crate::specs::Likely::call_comments))]
+#[tactic(auto, unfolding(crate::specs::Likely::call_comments), using(crate::proofs::LikelyLemmas::comments_more, crate::proofs::LikelyLemmas::few_counted))]
 pub fn put_calls(
     out: &mut Vec<u8>,
     alloc: Global,

@@ -3,7 +3,8 @@
 ghost use Rattle.std.specs.Prelude.{◌≡◌, ◌<◌, ◌++◌, OnOk, flat_map, length, option_map};
 ghost use Rattle.info65.specs.Code.Names.{given_seen};
 ghost use Rattle.reach65.specs.TextLaws.{comment_line};
-ghost use Rattle.trace65.specs.Likely.{comments_of_word, has_two_bytes, is_meant, is_own, word_at, word_comment, word_comments};
+ghost use Rattle.trace65.specs.Appending.{Puts, PutsLine};
+ghost use Rattle.trace65.specs.Likely.{comments_of_word, has_two_bytes, is_meant, is_own, word_comment, word_comments};
 
 use crate::digits::put_address;
 use crate::pair_comments::put_name;
@@ -41,7 +42,7 @@ fn has_two_bytes(word: u16) -> bool
 
 /// Appends the comment of the word at an address.
 fn put_word(out: &mut Vec<u8>, map: &Map<'_>, address: u16, word: u16) -> Result<(), AllocError>
-    ensures { OnOk result (out.new.items ≡ out.old.items ++ comment_line (word_comment map.now address word)) }
+    ensures { PutsLine result out.old.items out.new.items (word_comment map.now address word) }
 {
     put_address(out, b"# the word at $", address)?;
     put_address(out, b" is $", word)?;
@@ -57,7 +58,7 @@ fn put_likely(
     address: u16,
     word: Option<u16>,
 ) -> Result<(), AllocError>
-    ensures { OnOk result (out.new.items ≡ out.old.items ++ flat_map comment_line (comments_of_word map.now survey.now address word)) }
+    ensures { Puts result out.old.items out.new.items (comments_of_word map.now survey.now address word) }
 {
     let Some(word) = word else {
         return Ok(());
@@ -70,7 +71,7 @@ fn put_likely(
 
 /// Appends a comment for each word that is likely an address: nothing speaks for its bytes, and these marks of words that are addresses,
 /// or less one, are not set there.
-#[tactic(auto, unfolding(crate::specs::Likely::word_comments))]
+#[tactic(auto, unfolding(crate::specs::Likely::word_comments), using(crate::proofs::LikelyLemmas::comments_more, crate::proofs::LikelyLemmas::ground_of))]
 pub fn put_words(
     out: &mut Vec<u8>,
     map: &Map<'_>,

@@ -3,6 +3,7 @@
 ghost use Rattle.std.specs.Prelude.{◌≡◌, ◌++◌, OnOk, flat_map, length};
 ghost use Rattle.reach65.specs.Taken.{has_byte};
 ghost use Rattle.reach65.specs.TextLaws.{comment_line};
+ghost use Rattle.trace65.specs.Appending.{Puts, PutsLine};
 ghost use Rattle.trace65.specs.Misplaced.{entry_comments, holder_of, holds, inside_comment, is_outside, misplaced_comments, outside_comment, range_comment, range_comments};
 
 use crate::digits::put_address;
@@ -50,16 +51,18 @@ fn holder_of(flow: &Flow<'_, '_>, reached: &[bool], address: u16) -> Option<u16>
 }
 
 /// Appends the comment of an entry outside the image.
+#[tactic(auto, unfolding(crate::specs::Misplaced::outside_comment))]
 fn put_outside(out: &mut Vec<u8>, entry: u16) -> Result<(), AllocError>
-    ensures { OnOk result (out.new.items ≡ out.old.items ++ comment_line (outside_comment entry)) }
+    ensures { PutsLine result out.old.items out.new.items (outside_comment entry) }
 {
     put_address(out, b"# entry $", entry)?;
     out.extend_from_slice(b" is outside the image\n")
 }
 
 /// Appends the comment of an entry inside the instruction that begins at an address.
+#[tactic(auto, unfolding(crate::specs::Misplaced::inside_comment))]
 fn put_inside(out: &mut Vec<u8>, entry: u16, first: u16) -> Result<(), AllocError>
-    ensures { OnOk result (out.new.items ≡ out.old.items ++ comment_line (inside_comment entry first)) }
+    ensures { PutsLine result out.old.items out.new.items (inside_comment entry first) }
 {
     put_address(out, b"# entry $", entry)?;
     put_address(out, b" is inside the instruction at $", first)?;
@@ -75,7 +78,7 @@ fn put_entry(
     entry: u16,
 ) -> Result<(), AllocError>
     requires { length reached.now ≡ 65536 }
-    ensures { OnOk result (out.new.items ≡ out.old.items ++ flat_map comment_line (entry_comments flow.now.map reached.now entry)) }
+    ensures { Puts result out.old.items out.new.items (entry_comments flow.now.map reached.now entry) }
 {
     if !is_inside(flow.map().image(), usize::from(entry)) {
         return put_outside(out, entry);
@@ -94,7 +97,7 @@ fn put_entries(
     entries: &[u16],
 ) -> Result<(), AllocError>
     requires { length reached.now ≡ 65536 }
-    ensures { OnOk result (out.new.items ≡ out.old.items ++ flat_map comment_line (flat_map (entry_comments flow.now.map reached.now) entries.now)) }
+    ensures { Puts result out.old.items out.new.items (flat_map (entry_comments flow.now.map reached.now) entries.now) }
 {
     'entries: for &entry in entries {
         put_entry(out, flow, reached, entry)?;
@@ -112,8 +115,9 @@ fn is_outside(image: &Image, range: RangeSpec) -> bool
 }
 
 /// Appends the comment of a range outside the image.
+#[tactic(auto, unfolding(crate::specs::Misplaced::range_comment))]
 fn put_range_outside(out: &mut Vec<u8>, range: RangeSpec) -> Result<(), AllocError>
-    ensures { OnOk result (out.new.items ≡ out.old.items ++ comment_line (range_comment range)) }
+    ensures { PutsLine result out.old.items out.new.items (range_comment range) }
 {
     put_address(out, b"# range $", range.first)?;
     put_address(out, b"-$", range.last)?;
@@ -123,7 +127,7 @@ fn put_range_outside(out: &mut Vec<u8>, range: RangeSpec) -> Result<(), AllocErr
 /// Appends the comment of a range, if it lies outside the image.
 #[tactic(auto, unfolding(crate::specs::Misplaced::range_comments))]
 fn put_range(out: &mut Vec<u8>, image: &Image, range: RangeSpec) -> Result<(), AllocError>
-    ensures { OnOk result (out.new.items ≡ out.old.items ++ flat_map comment_line (range_comments image.now range)) }
+    ensures { Puts result out.old.items out.new.items (range_comments image.now range) }
 {
     if is_outside(image, range) {
         return put_range_outside(out, range);
@@ -133,7 +137,7 @@ fn put_range(out: &mut Vec<u8>, image: &Image, range: RangeSpec) -> Result<(), A
 
 /// Appends the comments of ranges.
 fn put_ranges(out: &mut Vec<u8>, image: &Image, ranges: &[RangeSpec]) -> Result<(), AllocError>
-    ensures { OnOk result (out.new.items ≡ out.old.items ++ flat_map comment_line (flat_map (range_comments image.now) ranges.now)) }
+    ensures { Puts result out.old.items out.new.items (flat_map (range_comments image.now) ranges.now) }
 {
     'outside: for &range in ranges {
         put_range(out, image, range)?;

@@ -4,6 +4,7 @@ ghost use Rattle.std.specs.Prelude.{◌≡◌, ◌++◌, OnOk, flat_map, option_
 ghost use Rattle.std.specs.List.{fold};
 ghost use Rattle.info65.specs.Code.Names.{given_seen};
 ghost use Rattle.reach65.specs.TextLaws.{comment_line};
+ghost use Rattle.trace65.specs.Appending.{Puts, PutsLine};
 ghost use Rattle.trace65.specs.PairComments.{after_comments, greater, last_wanted, name_text, new_after, offset_text, pair_comment, pair_comments};
 
 use crate::digits::{put_address, put_decimal};
@@ -40,7 +41,7 @@ pub fn put_name(out: &mut Vec<u8>, name: Option<Given<'_>>, address: u16) -> Res
 /// Appends the comment of a pair.
 #[tactic(auto, unfolding(crate::specs::PairComments::pair_comment))]
 fn put_pair(out: &mut Vec<u8>, map: &Map<'_>, pair: Pair) -> Result<(), AllocError>
-    ensures { OnOk result (out.new.items ≡ out.old.items ++ comment_line (pair_comment map.now pair)) }
+    ensures { PutsLine result out.old.items out.new.items (pair_comment map.now pair) }
 {
     put_address(out, b"#: HALVES { LOW $", pair.low)?;
     put_address(out, b"; HIGH $", pair.high)?;
@@ -63,22 +64,18 @@ pub fn put_pairs(out: &mut Vec<u8>, map: &Map<'_>, pairs: &[Pair]) -> Result<(),
 fn last_of(first: u16, addresses: &[u16]) -> u16
     ensures { result ≡ fold greater first addresses.now }
 {
-    let mut last = first;
-    'addresses: for &address in addresses {
-        last = greater(last, address);
-    }
-    last
+    addresses
+        .iter()
+        .fold(first, |last, &address| greater(last, address))
 }
 
 /// The greatest of an address and those that these pairs form.
 fn last_formed(first: u16, pairs: &[Pair]) -> u16
     ensures { result ≡ fold (λ last p. greater last p.address) first pairs.now }
 {
-    let mut last = first;
-    'formed: for &pair in pairs {
-        last = greater(last, pair.address);
-    }
-    last
+    pairs
+        .iter()
+        .fold(first, |last, pair| greater(last, pair.address))
 }
 
 /// The greater of two addresses.
@@ -99,7 +96,7 @@ fn last_wanted(pairs: &[Pair], variables: &[u16]) -> u16
 /// Appends the line of what lies after the image, up to an address, if that lies there.
 #[tactic(auto, unfolding(crate::specs::PairComments::after_comments))]
 fn put_after_to(out: &mut Vec<u8>, image: &Image, last: u16) -> Result<(), AllocError>
-    ensures { OnOk result (out.new.items ≡ out.old.items ++ flat_map comment_line (after_comments image.now last)) }
+    ensures { Puts result out.old.items out.new.items (after_comments image.now last) }
 {
     let end = usize::from(image.start()) + image.bytes().len();
     if usize::from(last) < end {

@@ -3,6 +3,7 @@
 ghost use Rattle.std.specs.Prelude.{◌≡◌, ◌+◌, ◌/◌, ◌++◌, ◌≤◌, OnOk, flat_map, length, map};
 ghost use Rattle.std.specs.List.{list_all, list_any, range_with_len};
 ghost use Rattle.reach65.specs.TextLaws.{comment_line};
+ghost use Rattle.trace65.specs.Appending.{PutsLine};
 ghost use Rattle.trace65.specs.Picture.{cell_at, cell_character, counts_comment, image_marks, picture_comments, row_comment, set_count};
 
 use crate::digits::{put_address, put_decimal};
@@ -68,7 +69,7 @@ fn put_cells(out: &mut Vec<u8>, code: &[bool], taken: &[bool]) -> Result<(), All
 #[tactic(auto, unfolding(crate::specs::Picture::row_comment))]
 fn put_row(out: &mut Vec<u8>, address: u16, code: &[bool], taken: &[bool]) -> Result<(), AllocError>
     requires { length code.now ≤ 65536 }
-    ensures { OnOk result (out.new.items ≡ out.old.items ++ comment_line (row_comment address code.now taken.now)) }
+    ensures { PutsLine result out.old.items out.new.items (row_comment address code.now taken.now) }
 {
     put_address(out, b"# $", address)?;
     out.extend_from_slice(b" ")?;

@@ -4,6 +4,7 @@ ghost use Rattle.std.specs.Prelude.{◌≡◌, ◌+◌, ◌++◌, ◌≤◌, IfO
 ghost use Rattle.reach65.specs.Pairs.{pairs_of};
 ghost use Rattle.reach65.specs.Pieces.{LieIn};
 ghost use Rattle.reach65.specs.TextLaws.{comment_line};
+ghost use Rattle.trace65.specs.Appending.{Puts};
 ghost use Rattle.trace65.specs.Findings.{AreFindings, ArePairs, AreTraced, AreWordMarks};
 ghost use Rattle.trace65.specs.Misplaced.{misplaced_comments};
 ghost use Rattle.trace65.specs.Picture.{image_marks};
@@ -190,7 +191,7 @@ fn put_misplaced_in(
     survey: &Survey,
     entries: &[u16],
 ) -> Result<(), AllocError>
-    ensures { OnOk result (out.new.items ≡ out.old.items ++ flat_map comment_line (misplaced_comments map.now survey.now.reached entries.now)) }
+    ensures { Puts result out.old.items out.new.items (misplaced_comments map.now survey.now.reached entries.now) }
 {
     put_misplaced(out, &Flow::new(map, &[]), &survey.reached, entries)
 }
@@ -213,7 +214,7 @@ fn put_moves(
     tags: &[Tag],
     found: &Findings,
 ) -> Result<(), AllocError>
-    ensures { OnOk result (out.new.items ≡ out.old.items ++ flat_map comment_line (move_comments map.now tags.now found.now)) }
+    ensures { Puts result out.old.items out.new.items (move_comments map.now tags.now found.now) }
 {
     put_pairs(out, map, &found.pairs)?;
     put_after(out, map.image(), tags, &found.pairs, &found.variables)
@@ -229,7 +230,7 @@ fn put_likely(
 ) -> Result<(), AllocError>
     requires words { length found.now.words ≡ 65536 }
     requires returns { length found.now.returns ≡ 65536 }
-    ensures { OnOk result (out.new.items ≡ out.old.items ++ flat_map comment_line (likely_comments map.now tags.now found.now)) }
+    ensures { Puts result out.old.items out.new.items (likely_comments map.now tags.now found.now) }
 {
     let words: &[bool] = &found.words;
     let returns: &[bool] = &found.returns;
@@ -247,7 +248,7 @@ fn put_comments(
 ) -> Result<(), AllocError>
     requires words { length found.now.words ≡ 65536 }
     requires returns { length found.now.returns ≡ 65536 }
-    ensures { OnOk result (out.new.items ≡ out.old.items ++ flat_map comment_line (found_comments map.now tags.now found.now)) }
+    ensures { Puts result out.old.items out.new.items (found_comments map.now tags.now found.now) }
 {
     put_moves(out, map, tags, found)?;
     put_likely(out, alloc, map, tags, found)
@@ -287,6 +288,7 @@ fn file_before(alloc: Global, whole: bool, file: &[u8]) -> Result<Vec<u8>, Alloc
 /// Returns the text that is written: the information file, if the whole is asked for, and then what is found in the image, from the
 /// entries that are given and those of the information file and the image, and, unless it is to be plain, from sound beginnings, beside what
 /// the groups `#: ..` of the file say. Fails only if an allocation failed.
+#[tactic(auto, using(crate::proofs::ReportLemmas::accepted))]
 pub fn report(
     alloc: Global,
     map: &Map<'_>,

@@ -43,10 +43,5 @@ fn is_after(tag: Tag) -> bool
 pub fn has_after(tags: &[Tag]) -> bool
     ensures { result ≡ has_after tags.now }
 {
-    'tags: for &tag in tags {
-        if is_after(tag) {
-            return true;
-        }
-    }
-    false
+    tags.iter().any(|tag| is_after(*tag))
 }

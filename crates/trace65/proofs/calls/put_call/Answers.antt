@@ -2,7 +2,7 @@ use Rattle.std.proofs.Common.{◌∷◌, ◌++◌, [], codes, ◌∙◌, ap, dec
 use Rattle.std.proofs.lemmas.Result.{on_ok_weaker}
 use Rattle.text65.specs.Digits.{digits4}
 use Rattle.trace65.specs.Likely.{call_comment}
-use Rattle.trace65.proofs.AppendLemmas.{after-four, appended, comment-of-four}
+use Rattle.trace65.proofs.AppendLemmas.{after_four, appended, comment_of_four}
 use Rattle.trace65.proofs.calls.put_call.Goals as goal
 
 pub returns : goal.returns
@@ -15,8 +15,8 @@ returns c =
     let last = codes " does not decode: INLINE?" in
     on_ok_weaker c.extend_from_slice.result
     (λ end.
-    after-four old one two three c.extend_from_slice.new.self.items
+    after_four old one two three c.extend_from_slice.new.self.items
     (codes "# what follows " ++ decimal c.args.failing) (codes " of " ++ decimal c.args.calls) (codes " calls of $" ++ digits4 c.args.routine) (last ++ 10 ∷ [])
     c.in_ok-put_decimal.ensures c.in_ok-put_decimal-2.ensures c.in_ok-put_address.ensures end
-    ∙ ap (λ l. old ++ l) (comment-of-four (codes " what follows " ++ decimal c.args.failing) (codes " of " ++ decimal c.args.calls) (codes " calls of $" ++ digits4 c.args.routine) last))
+    ∙ ap (λ l. old ++ l) (comment_of_four (codes " what follows " ++ decimal c.args.failing) (codes " of " ++ decimal c.args.calls) (codes " calls of $" ++ digits4 c.args.routine) last))
     (appended c.extend_from_slice.result c.extend_from_slice.new.self.items (three ++ (last ++ 10 ∷ [])) three c.extend_from_slice.ensures.items)

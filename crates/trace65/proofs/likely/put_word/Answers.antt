@@ -4,7 +4,7 @@ use Rattle.text65.specs.Digits.{digits4}
 use Rattle.info65.specs.Names.{covering}
 use Rattle.trace65.specs.Likely.{word_comment}
 use Rattle.trace65.specs.PairComments.{name_text}
-use Rattle.trace65.proofs.AppendLemmas.{after-four, appended, comment-of-four}
+use Rattle.trace65.proofs.AppendLemmas.{after_four, appended, comment_of_four}
 use Rattle.trace65.proofs.likely.put_word.Goals as goal
 
 pub returns : goal.returns
@@ -19,9 +19,9 @@ returns c =
     let last = codes ": AddrTable?" in
     on_ok_weaker c.extend_from_slice.result
     (λ end.
-    after-four old one two three c.extend_from_slice.new.self.items
+    after_four old one two three c.extend_from_slice.new.self.items
     (codes "# the word at $" ++ digits4 c.args.address) (codes " is $" ++ digits4 word) name (last ++ 10 ∷ [])
     c.in_ok-put_address.ensures c.in_ok-put_address-2.ensures
     (c.in_ok-put_name.ensures ∙ ap (λ n. two ++ name_text n word) (c.covering.ensures.name ∙ ap (λ i. covering i.names word) c.info.ensures.info)) end
-    ∙ ap (λ l. old ++ l) (comment-of-four (codes " the word at $" ++ digits4 c.args.address) (codes " is $" ++ digits4 word) name last))
+    ∙ ap (λ l. old ++ l) (comment_of_four (codes " the word at $" ++ digits4 c.args.address) (codes " is $" ++ digits4 word) name last))
     (appended c.extend_from_slice.result c.extend_from_slice.new.self.items (three ++ (last ++ 10 ∷ [])) three c.extend_from_slice.ensures.items)

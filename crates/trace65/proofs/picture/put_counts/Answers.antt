@@ -1,7 +1,7 @@
 use Rattle.std.proofs.Common.{◌≡◌, ◌∙◌, ◌-◌, ◌++◌, ◌∷◌, [], ap, ap₂, codes, decimal, length}
 use Rattle.std.proofs.lemmas.Result.{on_ok_weaker}
 use Rattle.trace65.specs.Picture.{counts_comment, set_count}
-use Rattle.trace65.proofs.AppendLemmas.{after-four, appended, comment-of-four}
+use Rattle.trace65.proofs.AppendLemmas.{after_four, appended, comment_of_four}
 use Rattle.trace65.proofs.picture.put_counts.Goals as goal
 
 pub returns : goal.returns
@@ -18,11 +18,11 @@ returns c =
     let given : c.saturating_sub-given.result ≡ both - reached = c.saturating_sub-given.ensures ∙ ap₂ (λ x y. x - y) c.set_count-both.ensures.value c.set_count-reached.ensures.value in
     on_ok_weaker c.extend_from_slice.result
     (λ end.
-    after-four old one two three c.extend_from_slice.new.self.items
+    after_four old one two three c.extend_from_slice.new.self.items
     (codes "# " ++ decimal reached) (codes " bytes of code that is reached, " ++ decimal (both - reached)) (codes " in ranges, " ++ decimal (all - both)) (last ++ 10 ∷ [])
     (c.in_ok-put_decimal.ensures ∙ ap (λ n. old ++ (codes "# " ++ decimal n)) c.set_count-reached.ensures.value)
     (c.in_ok-put_decimal-2.ensures ∙ ap (λ n. one ++ (codes " bytes of code that is reached, " ++ decimal n)) given)
     (c.in_ok-put_decimal-3.ensures ∙ ap (λ n. two ++ (codes " in ranges, " ++ decimal (all - n))) c.set_count-both.ensures.value)
     end
-    ∙ ap (λ l. old ++ l) (comment-of-four (codes " " ++ decimal reached) (codes " bytes of code that is reached, " ++ decimal (both - reached)) (codes " in ranges, " ++ decimal (all - both)) last))
+    ∙ ap (λ l. old ++ l) (comment_of_four (codes " " ++ decimal reached) (codes " bytes of code that is reached, " ++ decimal (both - reached)) (codes " in ranges, " ++ decimal (all - both)) last))
     (appended c.extend_from_slice.result c.extend_from_slice.new.self.items (three ++ (last ++ 10 ∷ [])) three c.extend_from_slice.ensures.items)

@@ -5,7 +5,7 @@ use Rattle.reach65.specs.TextLaws.{comment_line}
 use Rattle.trace65.specs.Misplaced.{misplaced_comments}
 use Rattle.trace65.specs.Picture.{image_marks}
 use Rattle.trace65.specs.Report.{legend, picture_and_counts}
-use Rattle.trace65.proofs.AppendLemmas.{comments-on}
+use Rattle.trace65.proofs.AppendLemmas.{comments_on}
 use Rattle.trace65.proofs.report.put_head.Goals as goal
 
 pub returns : goal.returns
@@ -21,7 +21,7 @@ returns c =
     let entries = c.deref.ensures.value ∙ ap (λ g. g.entries) c.found.view_is in
     on_ok_weaker c.put_misplaced_in.result
     (λ last.
-    comments-on (comment_line legend) (picture_and_counts m.image.start (image_marks m.image f.survey.code) (image_marks m.image f.survey.taken)) (misplaced_comments m f.survey.reached f.entries)
+    comments_on (comment_line legend) (picture_and_counts m.image.start (image_marks m.image f.survey.code) (image_marks m.image f.survey.taken)) (misplaced_comments m f.survey.reached f.entries)
     c.args.out.now.items c.put_picture_and_counts.new.out.items c.put_misplaced_in.new.out.items
     (rw (start, code, taken) at comments)
     (last ∙ ap (λ l. c.put_picture_and_counts.new.out.items ++ flat_map comment_line l) (ap₂ (misplaced_comments m) survey entries)))

@@ -5,7 +5,7 @@ use Rattle.reach65.specs.Labels.{label_lines}
 use Rattle.reach65.specs.RangeLines.{range_lines}
 use Rattle.reach65.specs.TextLaws.{comment_line}
 use Rattle.trace65.specs.Report.{comments_before, found_comments, legend, report_text}
-use Rattle.trace65.proofs.AppendLemmas.{after-four}
+use Rattle.trace65.proofs.AppendLemmas.{after_four}
 use Rattle.trace65.proofs.report.put_report.Goals as goal
 
 pub returns : goal.returns
@@ -15,7 +15,7 @@ returns c =
     let f = c.args.found.now in
     let labels = c.in_ok-put_labels.ensures ∙ ap (λ l. c.put_ranges.new.out.items ++ label_lines l) (c.deref-2.ensures.value ∙ ap (λ g. g.labels) c.found.view_is) in
     on_ok_weaker c.put_comments.result
-    (after-four c.args.out.now.items c.put_head.new.out.items c.put_ranges.new.out.items c.put_labels.new.out.items c.put_comments.new.out.items
+    (after_four c.args.out.now.items c.put_head.new.out.items c.put_ranges.new.out.items c.put_labels.new.out.items c.put_comments.new.out.items
     (comment_line legend ++ flat_map comment_line (comments_before m f))
     (range_lines m.image f.ranges) (label_lines f.labels) (flat_map comment_line (found_comments m c.args.tags.now f))
     c.in_ok-put_head.ensures

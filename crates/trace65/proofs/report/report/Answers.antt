@@ -4,12 +4,6 @@ use Rattle.trace65.specs.Report.{report_text}
 use Rattle.trace65.proofs.ReportLemmas.{accepted}
 use Rattle.trace65.proofs.report.report.Goals as goal
 
-pub put_report-requires-clause-words : goal.put_report-requires-clause-words
-put_report-requires-clause-words c = c.in_ok-found.ensures.found.words.each.count
-
-pub put_report-requires-clause-returns : goal.put_report-requires-clause-returns
-put_report-requires-clause-returns c = c.in_ok-found.ensures.found.words.less.count
-
 pub returns : goal.returns
 returns c =
     let m = c.args.map.now in
