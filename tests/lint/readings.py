@@ -14,13 +14,13 @@ SHARED = """
 isa65.Cmos65Sc02
 isa65.Cpu cpu_named cpu_text table_of
 isa65.Mnemonic mnemonic_named text_of
-isa65.Mode expression len_of row_of row_text size_of zero_page_of
+isa65.Mode expression len_of pattern_text row_of row_text size_of zero_page_of
 isa65.Mos6502
 isa65.Opcodes Table decoded encoded sibling_in
 isa65.Rockwell65C02
 stmt65.Directives directive_named directive_text
 stmt65.Names is_name same
-stmt65.SourceLine * Accumulator Assignment Code Data Datum DifferenceValue Direct DirectX DirectY Empty Form HalfDatum Immediate ImmediateHalf Indirect IndirectX IndirectY Instr NameValue Nothing NumberDatum NumberValue Operation PlaceAssignment Reserve Segment SetCpu SourceLine Statement StringDatum Two Value ValueDatum Values is_absolute
+stmt65.SourceLine * Accumulator Assignment Code Data Datum DifferenceValue Empty Form HalfDatum Instr NameValue Nothing NumberDatum NumberValue One Operation PlaceAssignment Reserve Segment SetCpu SourceLine Statement StringDatum Two Value ValueDatum Values is_absolute
 text65.Names has_name_form is_blank is_reserved_word is_word_byte
 """
 

@@ -11,7 +11,9 @@ use Rattle.stmt65.specs.Lexing.{parts}
 use Rattle.stmt65.specs.Layout.{Layout, start_of}
 use Rattle.stmt65.specs.Sources.{source_addresses, source_definitions}
 use Rattle.stmt65.specs.Reading.{reading_of}
-use Rattle.stmt65.specs.SourceLine.{Value, NumberValue, NameValue, DifferenceValue, Direct, Two, Operation, Instr, Reserve, Segment, SourceLine, Statement}
+use Rattle.isa65.specs.declared.row.Pattern.TheVariants.{Direct}
+use Rattle.stmt65.specs.declared.source_line.Notation.TheVariants.{Plain, Absolute}
+use Rattle.stmt65.specs.SourceLine.{Value, NumberValue, NameValue, DifferenceValue, One, Two, Operation, Instr, Reserve, Segment, SourceLine, Statement}
 use Rattle.stmt65.specs.Symbols.{Definition, is_known, word_in}
 use Rattle.stmt65.specs.declared.assembling.assembler.Source.{Source}
 use Rattle.stmt65.specs.declared.assembling.fault.AsmFault.{AsmFault}
@@ -113,7 +115,8 @@ first_unknown all (v ∷ vs) = if is_known all v then first_unknown all vs else 
 
 -- where a branch leads: its only operand, if its mnemonic has a relative mode, or the second of two
 abbrev pub branch_target : Operation → Option Value
-branch_target (Instr mnemonic (Direct size v)) = if is_some (encoded (table_of M65C02) mnemonic Rel) then Some v else None
+branch_target (Instr mnemonic (One (Plain Direct) v)) = if is_some (encoded (table_of M65C02) mnemonic Rel) then Some v else None
+branch_target (Instr mnemonic (One Absolute v)) = if is_some (encoded (table_of M65C02) mnemonic Rel) then Some v else None
 branch_target (Instr mnemonic (Two v w)) = Some w
 branch_target _ = None
 

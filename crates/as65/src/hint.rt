@@ -19,11 +19,11 @@ ghost use Rattle.as65.specs.Hint.{address_after, after_blanks, after_label, alon
 
 use crate::differences::{put_address, put_decimal};
 use crate::origins::line_at;
-use isa65::{Cpu, Mode, OpcodeSet};
+use isa65::{Cpu, Mode, OpcodeSet, Pattern};
 use std::alloc::{AllocError, Global};
 use stmt65::{
-    AsmFault, AsmFaultKind, Datum, Definitions, Form, Language, Layout, Minus, Numeral, Operation,
-    Source, SourceLine, Value, line_addresses, read_line,
+    AsmFault, AsmFaultKind, Datum, Definitions, Form, Language, Layout, Minus, Notation, Numeral,
+    Operation, Source, SourceLine, Value, line_addresses, read_line,
 };
 use text65::{has_name_form, is_blank, is_reserved_word, is_word_byte};
 
@@ -235,14 +235,7 @@ fn form_values<'a>(alloc: Global, form: Form<'a>) -> Result<Vec<Value<'a>>, Allo
             values.push(v)?;
             values.push(w)?;
         }
-        Form::Immediate(v)
-        | Form::ImmediateHalf(_, v)
-        | Form::Direct(_, v)
-        | Form::DirectX(_, v)
-        | Form::DirectY(_, v)
-        | Form::Indirect(v)
-        | Form::IndirectX(v)
-        | Form::IndirectY(v) => values.push(v)?,
+        Form::One(_, v) => values.push(v)?,
     }
     Ok(values)
 }
@@ -344,7 +337,8 @@ fn branch_target<'a>(operation: &Operation<'a>) -> Option<Value<'a>>
         return None;
     };
     match form {
-        Form::Direct(_, v) if Cpu::M65C02.encode(*mnemonic, Mode::Rel).is_some() => Some(*v),
+        Form::One(Notation::Plain(Pattern::Direct) | Notation::Absolute, v)
+            if Cpu::M65C02.encode(*mnemonic, Mode::Rel).is_some() => { Some(*v) }
         Form::Two(_, w) => Some(*w),
         _ => None,
     }

@@ -79,14 +79,7 @@ impl<'t> Names<'t> {
     fn use_form(&mut self, form: &Form<'t>) -> Result<(), AllocError> {
         match form {
             Form::Empty | Form::Accumulator => Ok(()),
-            Form::Immediate(value)
-            | Form::ImmediateHalf(_, value)
-            | Form::Direct(_, value)
-            | Form::DirectX(_, value)
-            | Form::DirectY(_, value)
-            | Form::Indirect(value)
-            | Form::IndirectX(value)
-            | Form::IndirectY(value) => self.use_value(value),
+            Form::One(_, value) => self.use_value(value),
             Form::Two(value, other) => {
                 self.use_value(value)?;
                 self.use_value(other)

@@ -1,9 +1,5 @@
 -- How codings are found and how long they are.
 use Rattle.std.proofs.Common.{◌≡◌, ℕ, Bool, true, false, ◌+◌, ◌*◌, List, [], ◌∷◌, ◌++◌, length, map, drop, get_or, ◌<◌, Option, Some, None, refl, ap, sym, append_assoc, arith}
-use Rattle.isa65.specs.declared.cpu.Cpu.{Cpu}
-use Rattle.isa65.specs.declared.mnemonic.Mnemonic.{Mnemonic}
-use Rattle.isa65.specs.Cpu.{table_of}
-use Rattle.isa65.specs.Opcodes.{encoded}
 use Rattle.std.specs.Prelude.{◌&&◌, is_some}
 use Rattle.std.proofs.lemmas.Bool.{and_parts}
 use Rattle.std.proofs.Math.Bool.{and-true}
@@ -17,40 +13,11 @@ use Rattle.std.proofs.lemmas.List.{drop_more}
 use Rattle.std.specs.List.{list_all, flat_map}
 use Rattle.stmt65.specs.SourceLine.{Value, NumberValue, NameValue, DifferenceValue}
 use Rattle.stmt65.specs.Symbols.{Definition, below, address_of, apart, find_name, is_known, value_in, word_in}
-use Rattle.stmt65.specs.Coding.{datum_fragments, Fragment, Fixed, Single, ZeroPage, Oversized, Entry, Distance, HalfOf, Fill, entry_in, entry_bytes, entry_limit, is_near, fragment_len, Way, first_way, coded_so, is_fragment_known, fragment_fits, fragment_bytes, coding_len}
+use Rattle.stmt65.specs.Coding.{datum_fragments, Fragment, Fixed, Single, ZeroPage, Oversized, Entry, Distance, HalfOf, Fill, entry_in, entry_bytes, entry_limit, is_near, fragment_len, is_fragment_known, fragment_fits, fragment_bytes, coding_len}
 use Rattle.std.proofs.Math.Nat.{suc-mul, zero-mul}
 use Rattle.stmt65.specs.declared.directive.Directive.{Directive}
 use Rattle.stmt65.specs.Code.Held.{held}
 use Rattle.stmt65.proofs.Cases.{by_option}
-
-abbrev pub or_way : Option (List Fragment) → Option (List Fragment) → Option (List Fragment)
-or_way None other = other
-or_way (Some fragments) other = Some fragments
-
--- ways after ways
-pub first_way_append : (cpu : Cpu) (m : Mnemonic) (ws vs : List Way) → first_way cpu m (ws ++ vs) ≡ or_way (first_way cpu m ws) (first_way cpu m vs)
-first_way_append cpu m [] vs = refl
-first_way_append cpu m (w ∷ ws) vs = by_option (encoded (table_of cpu) m w.0) (λ b e. rw e refl) (λ e. rw e (first_way_append cpu m ws vs))
-
--- a way that gives a coding is taken, and one that gives none is passed over
-pub first_found : (o : Option ℕ) (fragments : List Fragment) (others : Option (List Fragment)) (x : List Fragment) → Some x ≡ coded_so o fragments None → Some x ≡ coded_so o fragments others
-first_found None fragments others x e = cc
-first_found (Some b) fragments others x e = e
-
-pub first_missed : (o : Option ℕ) (fragments : List Fragment) (others : Option (List Fragment)) → None ≡ coded_so o fragments None → coded_so o fragments others ≡ others
-first_missed None fragments others e = refl
-first_missed (Some b) fragments others e = cc
-
-pub ruleset tries = (first_found, first_missed)
-
--- the same of ways before other ways
-pub found_first : (cpu : Cpu) (m : Mnemonic) (ws vs : List Way) (x : List Fragment) → Some x ≡ first_way cpu m ws → Some x ≡ first_way cpu m (ws ++ vs)
-found_first cpu m ws vs x e = rw (first_way_append cpu m ws vs, ← e) refl
-
-pub missed_first : (cpu : Cpu) (m : Mnemonic) (ws vs : List Way) → None ≡ first_way cpu m ws → first_way cpu m (ws ++ vs) ≡ first_way cpu m vs
-missed_first cpu m ws vs e = rw (first_way_append cpu m ws vs, ← e) refl
-
-pub ruleset after_sizes = (found_first, missed_first)
 
 -- ---- lengths
 

@@ -1,5 +1,5 @@
 -- The tests of a line are the rules of its faults.
-use Rattle.std.proofs.Common.{◌≡◌, ℕ, suc, Bool, true, false, ltb, ◌+◌, ◌<◌, ◌≤◌, List, [], ◌∷◌, ◌++◌, map, Option, Some, None, ◌⊎◌, inl, inr, refl, sym, ap, subst, ◌∙◌, arith}
+use Rattle.std.proofs.Common.{◌≡◌, ℕ, suc, Bool, true, false, ltb, ◌+◌, ◌<◌, ◌≤◌, List, [], ◌∷◌, map, Option, Some, None, ◌⊎◌, inl, inr, refl, sym, ap, subst, ◌∙◌, arith}
 use Rattle.std.specs.Prelude.{◌&&◌, not, is_some, unwrap_or}
 use Rattle.std.specs.List.{Any, list_any, list_all, flat_map, slice_get}
 use Rattle.std.specs.Bool.{Decides}
@@ -7,23 +7,21 @@ use Rattle.std.proofs.lemmas.Bool.{cases_lt, ltb-true}
 use Rattle.std.proofs.lemmas.Bool.Decides.{nat_tests, Decides-at, Decides-like, Decides-ltb, Decides-not, Decides-or, Decides-and}
 use Rattle.std.proofs.lemmas.Option.{same_Some}
 use Rattle.std.proofs.lemmas.List.Folds.{Any-from_list_any, list_any-from_Any, list_all-map, list_all-append}
-use Rattle.isa65.specs.declared.cpu.Cpu.{Cpu}
-use Rattle.isa65.specs.declared.mnemonic.Mnemonic.{Mnemonic}
-use Rattle.isa65.specs.declared.mode.Mode.TheVariants.{Zp, Zpx, Zpy, Abs, Absx, Absy, Rel}
+use Rattle.isa65.specs.declared.row.Pattern.TheVariants.{Direct}
 use Rattle.isa65.specs.Cpu.{cpu_named}
 use Rattle.stmt65.specs.declared.assembling.fault.AsmFaultKind.{AsmFaultKind}
 use Rattle.stmt65.specs.declared.assembling.fault.AsmFaultKind.TheVariants.{Syntax, UnknownCpu, NoSuchForm, Undefined, DefinedTwice, OutOfRange, PastStart, PastEnd, Memory}
-use Rattle.stmt65.specs.SourceLine.{Value, NumberValue, NameValue, DifferenceValue, Form, Direct, DirectX, DirectY, Two, Indirect, IndirectX, IndirectY, Datum, NumberDatum, StringDatum, ValueDatum, HalfDatum, Operation, Instr, Data, Values, Reserve, Segment, SetCpu, SourceLine}
-use Rattle.stmt65.specs.declared.source_line.AddressSize.TheVariants.{Automatic}
-use Rattle.stmt65.specs.Symbols.{Definition, find_name, value_in, is_known, below, word_in, has_zero_page_size}
-use Rattle.stmt65.specs.Coding.{State, entry_limit, Fragment, Fixed, Single, ZeroPage, Oversized, Entry, Distance, HalfOf, Fill, Way, gap, zero_page, datum_fragments, is_fragment_known, fragment_fits, entry_in, ways, first_way, coding}
+use Rattle.stmt65.specs.SourceLine.{Value, NumberValue, NameValue, DifferenceValue, Form, One, Datum, NumberDatum, StringDatum, ValueDatum, HalfDatum, Operation, Instr, Data, Values, Reserve, Segment, SetCpu, SourceLine}
+use Rattle.stmt65.specs.declared.source_line.Notation.TheVariants.{Plain}
+use Rattle.stmt65.specs.Symbols.{Definition, find_name, value_in, is_known, below, word_in}
+use Rattle.stmt65.specs.Coding.{State, entry_limit, Fragment, Fixed, Single, ZeroPage, Oversized, Entry, Distance, HalfOf, Fill, gap, datum_fragments, is_fragment_known, fragment_fits, entry_in, is_short, ways, coding}
 use Rattle.stmt65.specs.Meaning.{operation_in, fragments_of, next_of, defined_by, has_unknown_cpu, has_no_form, is_undefined, is_twice, is_out_of_range, is_past_start, is_past_end, Test, first_of, tests_of, fault_of}
 use Rattle.stmt65.specs.Forms.{form_values}
 use Rattle.stmt65.specs.Layout.{start_of, is_before}
 use Rattle.stmt65.specs.FaultLaws.{rank, datum_values, operation_values, EntersPast, NamesNoCpu, HasNoMode, IsUnknown, HasRoom, HasFault, LineHasFault, FindsLowest, FindsNone}
 use Rattle.stmt65.proofs.Cases.{by_option, by_test}
 use Rattle.stmt65.proofs.CodingLemmas.{string_known}
-use Rattle.stmt65.proofs.ModeLemmas.{by_sizes, false_true, first_case, needs_mode}
+use Rattle.stmt65.proofs.ModeLemmas.{each_way, false_true, needs_mode, taken}
 
 -- ---- a test and its rule
 
@@ -58,30 +56,15 @@ form_tied s _ = never
 
 -- ---- names
 
-zero_page_known : (all above : List Definition) (v : Value) → is_fragment_known all (zero_page above v) ≡ is_known all v
-zero_page_known all above v = by_test (has_zero_page_size above v) (λ t. rw t refl) (λ t. rw t refl)
+abbrev knows : List Definition → Form → Bool
+knows all form = list_all (is_known all) (form_values form)
 
-EachKnown : List Definition → Form → List Way → Type 0
-EachKnown all form [] = Unit {0}
-EachKnown all form (way ∷ others) = (list_all (is_fragment_known all) way.1 ≡ list_all (is_known all) (form_values form)) × EachKnown all form others
-
-ways_known : (all above : List Definition) (form : Form) → EachKnown all form (ways above form)
-unfolding ways EachKnown
-ways_known all above (Direct Automatic v) = by_sizes (λ ws. EachKnown all (Direct Automatic v) (ws ++ (Rel, Distance v ∷ []) ∷ [])) above Zp Abs v (refl, (refl, (refl, tt))) (refl, (refl, (refl, tt)))
-ways_known all above (DirectX Automatic v) = by_sizes (EachKnown all (DirectX Automatic v)) above Zpx Absx v (refl, (refl, tt)) (refl, (refl, tt))
-ways_known all above (DirectY Automatic v) = by_sizes (EachKnown all (DirectY Automatic v)) above Zpy Absy v (refl, (refl, tt)) (refl, (refl, tt))
-ways_known all above (Two v w) = (rw (zero_page_known all above v) refl, tt)
-ways_known all above (Indirect v) = (rw (zero_page_known all above v) refl, (refl, tt))
-ways_known all above (IndirectX v) = (rw (zero_page_known all above v) refl, (refl, tt))
-ways_known all above (IndirectY v) = (rw (zero_page_known all above v) refl, tt)
-ways_known all above _ = (refl, tt)
-
-first_known : (all : List Definition) (cpu : Cpu) (m : Mnemonic) (form : Form) (ws : List Way) (fragments : List Fragment) → EachKnown all form ws → first_way cpu m ws ≡ Some fragments
-    → list_all (is_fragment_known all) fragments ≡ list_all (is_known all) (form_values form)
-unfolding EachKnown
-first_known all cpu m form [] fragments each e = absurd cc
-first_known all cpu m form (w ∷ ws) fragments each e =
-    first_case cpu m w ws fragments e (λ b has coded. rw coded each.0) (λ none e'. first_known all cpu m form ws fragments each.1 e')
+each_known : (all : List Definition) (short : Bool) (form : Form) → map (λ way. list_all (is_fragment_known all) way.1) (ways short form) ≡ map (λ way. knows all form) (ways short form)
+unfolding ways
+each_known all true (One (Plain Direct) v) = refl
+each_known all false (One (Plain Direct) v) = refl
+each_known all true _ = refl
+each_known all false _ = refl
 
 data_known : (all : List Definition) (ds : List Datum) → list_all (is_fragment_known all) (flat_map datum_fragments ds) ≡ list_all (is_known all) (flat_map datum_values ds)
 unfolding is_known
@@ -98,7 +81,10 @@ gap_known all s (Some start) = refl
 fragments_known : (all : List Definition) (s : State) (o : Operation) (fragments : List Fragment) → coding s o ≡ Some fragments
     → list_all (is_fragment_known all) fragments ≡ list_all (is_known all) (operation_values o)
 unfolding coding
-fragments_known all s (Instr m form) fragments e = first_known all s.cpu m form (ways s.above form) fragments (ways_known all s.above form) e
+fragments_known all s (Instr m form) fragments e =
+    let short = is_short s.above form in
+    let t = taken s.cpu m _ (ways short form) fragments (each_way (λ way. list_all (is_fragment_known all) way.1) (λ way. knows all form) (ways short form) (each_known all short form)) e in
+    rw t.coded t.holds
 fragments_known all s (Data ds) fragments e = let same : flat_map datum_fragments ds ≡ fragments = cc in rw (← same) (data_known all ds)
 fragments_known all s (Values d vs) fragments e = let same : map (Entry d) vs ≡ fragments = cc in rw (← same) (list_all-map (is_fragment_known all) (Entry d) vs)
 fragments_known all s (Reserve n b) fragments e = let same : Fill n b ∷ [] ≡ fragments = cc in rw (← same) refl

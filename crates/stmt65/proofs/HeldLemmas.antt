@@ -13,12 +13,11 @@ use Rattle.stmt65.specs.declared.assembling.fault.AsmFaultKind.{AsmFaultKind}
 use Rattle.stmt65.specs.declared.assembling.fault.AsmFaultKind.TheVariants.{UnknownCpu, NoSuchForm, Undefined, DefinedTwice, OutOfRange, PastStart, PastEnd}
 use Rattle.stmt65.specs.declared.source_line.Minus.{Minus}
 use Rattle.stmt65.specs.declared.source_line.Minus.TheVariants.{Zero}
-use Rattle.stmt65.specs.SourceLine.{SourceLine, Assignment, PlaceAssignment, Statement, Value, NumberValue, NameValue, DifferenceValue, Form, Empty, Accumulator, Immediate, ImmediateHalf, Direct, DirectX, DirectY, Operation, Instr, Segment}
-use Rattle.stmt65.specs.declared.source_line.AddressSize.TheVariants.{Absolute}
+use Rattle.stmt65.specs.SourceLine.{SourceLine, Assignment, PlaceAssignment, Statement, Value, NumberValue, NameValue, DifferenceValue, Form, One, Two, Operation, Instr, Segment}
 use Rattle.stmt65.specs.declared.directive.Directive.{Directive}
 use Rattle.stmt65.specs.declared.directive.Directive.TheVariants.{Word}
 use Rattle.stmt65.specs.Symbols.{Definition, find_name, below, address_of, lowered, value_in, is_known, word_in, is_small, is_constant, has_zero_page_size}
-use Rattle.stmt65.specs.Coding.{State, entry_limit, Fragment, Fixed, Oversized, Entry, Distance, Fill, entry_in, is_fragment_known, is_near, fragment_fits, fragment_bytes, ways, first_way, gap, coding, coding_len}
+use Rattle.stmt65.specs.Coding.{State, entry_limit, Fragment, Fixed, Oversized, Entry, Distance, Fill, entry_in, is_fragment_known, is_near, fragment_fits, fragment_bytes, is_short, gap, coding, coding_len}
 use Rattle.stmt65.specs.Layout.{Layout, start_of, is_before}
 use Rattle.stmt65.specs.Code.CodingViews.{PutsAll, coded_of}
 use Rattle.stmt65.specs.Code.Held.{held, held_value}
@@ -223,16 +222,10 @@ codes all p s source answer (Some k) old new h e puts = record { finds = e; adds
 unfoldable pub held_state : State → State
 held_state s = record { at = held s.at; cpu = s.cpu; above = map held_definition s.above; layout = s.layout }
 
-ways-held : (ds : List Definition) (form : Form) → ways (map held_definition ds) form ≡ ways ds form
-unfolding ways
-ways-held ds Empty = refl
-ways-held ds Accumulator = refl
-ways-held ds (Immediate v) = refl
-ways-held ds (ImmediateHalf half v) = refl
-ways-held ds (Direct Absolute v) = refl
-ways-held ds (DirectX Absolute v) = refl
-ways-held ds (DirectY Absolute v) = refl
-ways-held ds _ = rw size-held refl
+short-held : (ds : List Definition) (form : Form) → is_short (map held_definition ds) form ≡ is_short ds form
+short-held ds (One notation v) = size-held ds v
+short-held ds (Two v w) = size-held ds v
+short-held ds _ = refl
 
 -- what is missing before an address, from an address that is held
 gap-held : (layout : Layout) (at : ℕ) (o : Option ℕ) → below 65536 o ≡ o → gap layout (held at) o ≡ gap layout at o
@@ -246,7 +239,7 @@ address-small (Some d) = by_test (ltb d.value 65536) (λ e. rw e (rw e refl)) (�
 
 coding-held : (s : State) (operation : Operation) → coding (held_state s) operation ≡ coding s operation
 unfolding coding held_state
-coding-held s (Instr m form) = ap (first_way s.cpu m) (ways-held s.above form)
+coding-held s (Instr m form) = rw (short-held s.above form) refl
 coding-held s (Segment name) = ap (λ (fs : List Fragment). Some fs) (gap-held s.layout s.at (start_of s.layout name) (address-small (find_name name s.layout.starts)))
 coding-held s _ = refl
 

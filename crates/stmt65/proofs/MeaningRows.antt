@@ -5,10 +5,11 @@ use Rattle.isa65.specs.declared.mnemonic.Mnemonic.TheVariants.{Bne, Bra, Asl, Jm
 use Rattle.stmt65.specs.declared.assembling.fault.AsmFault.{AsmFault}
 use Rattle.stmt65.specs.declared.assembling.fault.AsmFaultKind.{AsmFaultKind}
 use Rattle.stmt65.specs.declared.assembling.fault.AsmFaultKind.TheVariants.{Syntax, UnknownCpu, NoSuchForm, Undefined, DefinedTwice, OutOfRange, PastStart, PastEnd}
-use Rattle.stmt65.specs.SourceLine.{Value, NumberValue, NameValue, Form, Empty, Immediate, Direct, DirectY, NumberDatum, StringDatum, Operation, Nothing, Instr, Data, Values, Segment, Code, SetCpu, SourceLine, Assignment, PlaceAssignment, Statement}
-use Rattle.stmt65.specs.declared.source_line.AddressSize.TheVariants.{Absolute, Automatic}
-use Rattle.stmt65.specs.declared.source_line.Minus.TheVariants.{Zero, One}
+use Rattle.stmt65.specs.SourceLine.{Value, NumberValue, NameValue, Form, Empty, One, NumberDatum, StringDatum, Operation, Nothing, Instr, Data, Values, Segment, Code, SetCpu, SourceLine, Assignment, PlaceAssignment, Statement}
+use Rattle.stmt65.specs.declared.source_line.Notation.TheVariants.{Plain, Absolute}
+use Rattle.stmt65.specs.declared.source_line.Minus.TheVariants.{Zero, One as MinusOne}
 use Rattle.stmt65.specs.declared.directive.Directive.TheVariants.{Word, Dbyt, Addr, Dword}
+use Rattle.isa65.specs.declared.row.Pattern.TheVariants.{Immediate, Direct, DirectY}
 use Rattle.isa65.specs.Mnemonic.{mnemonic_named}
 use Rattle.text65.specs.Lines.{text_lines}
 use Rattle.text65.specs.Names.{has_name_form, is_reserved_word}
@@ -49,35 +50,35 @@ at_line n kind = Err (record { line = n; kind = kind })
 abbrev rows : List (Result (List ℕ) AsmFault × Result (List ℕ) AsmFault)
 rows =
     -- `lda $12`, `lda a:$12`, `sta $12,y`
-    (meaning_of free 0x1000 (op Lda (Direct Automatic (NumberValue 0x12)) ∷ op Lda (Direct Absolute (NumberValue 0x12)) ∷ op Sta (DirectY Automatic (NumberValue 0x12)) ∷ []), Ok (0xA5 ∷ 0x12 ∷ 0xAD ∷ 0x12 ∷ 0 ∷ 0x99 ∷ 0x12 ∷ 0 ∷ [])) ∷
+    (meaning_of free 0x1000 (op Lda (One (Plain Direct) (NumberValue 0x12)) ∷ op Lda (One Absolute (NumberValue 0x12)) ∷ op Sta (One (Plain DirectY) (NumberValue 0x12)) ∷ []), Ok (0xA5 ∷ 0x12 ∷ 0xAD ∷ 0x12 ∷ 0 ∷ 0x99 ∷ 0x12 ∷ 0 ∷ [])) ∷
     -- a constant below its use has absolute size, and one above has zero-page size
-    (meaning_of free 0x1000 (op Lda (Direct Automatic (name foo)) ∷ Some (Assignment foo 0x12) ∷ []), Ok (0xAD ∷ 0x12 ∷ 0 ∷ [])) ∷
-    (meaning_of free 0x1000 (Some (Assignment foo 0x12) ∷ op Lda (Direct Automatic (name foo)) ∷ []), Ok (0xA5 ∷ 0x12 ∷ [])) ∷
+    (meaning_of free 0x1000 (op Lda (One (Plain Direct) (name foo)) ∷ Some (Assignment foo 0x12) ∷ []), Ok (0xAD ∷ 0x12 ∷ 0 ∷ [])) ∷
+    (meaning_of free 0x1000 (Some (Assignment foo 0x12) ∷ op Lda (One (Plain Direct) (name foo)) ∷ []), Ok (0xA5 ∷ 0x12 ∷ [])) ∷
     -- a label in the zero page has absolute size all the same, which `stx foo,y` has not
-    (meaning_of free 0x12 (label foo (Instr Lda (Direct Automatic (name foo))) ∷ op Stx (DirectY Automatic (name foo)) ∷ []), at_line 2 OutOfRange) ∷
+    (meaning_of free 0x12 (label foo (Instr Lda (One (Plain Direct) (name foo))) ∷ op Stx (One (Plain DirectY) (name foo)) ∷ []), at_line 2 OutOfRange) ∷
     -- `bne foo`, a line that is none, `foo:`; and `jmp foo`, `foo: asl`
-    (meaning_of free 0x1000 (op Bne (Direct Automatic (name foo)) ∷ None ∷ label foo Nothing ∷ []), at_line 2 Syntax) ∷
+    (meaning_of free 0x1000 (op Bne (One (Plain Direct) (name foo)) ∷ None ∷ label foo Nothing ∷ []), at_line 2 Syntax) ∷
     -- a line that is none defines nothing, one without such a form stands as a label
-    (meaning_of free 0x1000 (op Jmp (Direct Automatic (name foo)) ∷ None ∷ []), at_line 1 Undefined) ∷
-    (meaning_of free 0x1000 (op Jmp (Direct Automatic (name foo)) ∷ label foo (Instr Asl Empty) ∷ []), at_line 2 NoSuchForm) ∷
+    (meaning_of free 0x1000 (op Jmp (One (Plain Direct) (name foo)) ∷ None ∷ []), at_line 1 Undefined) ∷
+    (meaning_of free 0x1000 (op Jmp (One (Plain Direct) (name foo)) ∷ label foo (Instr Asl Empty) ∷ []), at_line 2 NoSuchForm) ∷
     -- `.setcpu "6809"`; `bra $1000`; `jmp foo`; `foo:` and `foo: nop`; `bne $2000`; `lda #1` from $FFFF
     (meaning_of free 0x1000 (line (SetCpu (codes "6809")) ∷ []), at_line 1 UnknownCpu) ∷
-    (meaning_of free 0x1000 (op Bra (Direct Automatic (NumberValue 0x1000)) ∷ []), at_line 1 NoSuchForm) ∷
+    (meaning_of free 0x1000 (op Bra (One (Plain Direct) (NumberValue 0x1000)) ∷ []), at_line 1 NoSuchForm) ∷
     (meaning_of free 0x1000 (label foo Nothing ∷ label foo (Instr Nop Empty) ∷ []), at_line 2 DefinedTwice) ∷
-    (meaning_of free 0x1000 (op Bne (Direct Automatic (NumberValue 0x2000)) ∷ []), at_line 1 OutOfRange) ∷
-    (meaning_of free 0x1000 (op Bne (Direct Automatic (NumberValue 0x0F82)) ∷ op Bne (Direct Automatic (NumberValue 0x1083)) ∷ op Bne (Direct Automatic (NumberValue 0x1004)) ∷ []), Ok (0xD0 ∷ 0x80 ∷ 0xD0 ∷ 0x7F ∷ 0xD0 ∷ 0xFE ∷ [])) ∷
-    (meaning_of free 0xFFFF (op Lda (Immediate (NumberValue 1)) ∷ []), at_line 1 PastEnd) ∷
+    (meaning_of free 0x1000 (op Bne (One (Plain Direct) (NumberValue 0x2000)) ∷ []), at_line 1 OutOfRange) ∷
+    (meaning_of free 0x1000 (op Bne (One (Plain Direct) (NumberValue 0x0F82)) ∷ op Bne (One (Plain Direct) (NumberValue 0x1083)) ∷ op Bne (One (Plain Direct) (NumberValue 0x1004)) ∷ []), Ok (0xD0 ∷ 0x80 ∷ 0xD0 ∷ 0x7F ∷ 0xD0 ∷ 0xFE ∷ [])) ∷
+    (meaning_of free 0xFFFF (op Lda (One (Plain Immediate) (NumberValue 1)) ∷ []), at_line 1 PastEnd) ∷
     -- a label after the last byte
     (meaning_of free 0xFFFF (op Nop Empty ∷ label foo Nothing ∷ []), at_line 2 OutOfRange) ∷
     -- `foo-1` where foo is 0 has zero-page size and fits nowhere; where foo is 1 it is 0
-    (meaning_of free 0x1000 (Some (Assignment foo 0) ∷ op Lda (Direct Automatic (NameValue foo 0 One)) ∷ []), at_line 2 OutOfRange) ∷
-    (meaning_of free 0x1000 (Some (Assignment foo 1) ∷ op Lda (Direct Automatic (NameValue foo 0 One)) ∷ line (Values Word (NameValue foo 1 One ∷ [])) ∷ []), Ok (0xA5 ∷ 0 ∷ 1 ∷ 0 ∷ [])) ∷
+    (meaning_of free 0x1000 (Some (Assignment foo 0) ∷ op Lda (One (Plain Direct) (NameValue foo 0 MinusOne)) ∷ []), at_line 2 OutOfRange) ∷
+    (meaning_of free 0x1000 (Some (Assignment foo 1) ∷ op Lda (One (Plain Direct) (NameValue foo 0 MinusOne)) ∷ line (Values Word (NameValue foo 1 MinusOne ∷ [])) ∷ []), Ok (0xA5 ∷ 0 ∷ 1 ∷ 0 ∷ [])) ∷
     -- `foo-1` where foo is 0 counts as zero page all the same, so the label below it is at $FFFF and the entry above has room for it
-    (meaning_of free 0xFFFB (Some (Assignment foo 0) ∷ line (Values Addr (name bar ∷ [])) ∷ op Lda (Direct Automatic (NameValue foo 0 One)) ∷ label bar Nothing ∷ []), at_line 3 OutOfRange) ∷
+    (meaning_of free 0xFFFB (Some (Assignment foo 0) ∷ line (Values Addr (name bar ∷ [])) ∷ op Lda (One (Plain Direct) (NameValue foo 0 MinusOne)) ∷ label bar Nothing ∷ []), at_line 3 OutOfRange) ∷
     -- below an unknown CPU the one above it counts, so `smb0 $12` has two bytes, and the label below it no room in the entry above
-    (meaning_of free 0xFFFC (line (Values Addr (name bar ∷ [])) ∷ line (SetCpu (codes "65C02")) ∷ line (SetCpu (codes "6809")) ∷ op Smb0 (Direct Automatic (NumberValue 0x12)) ∷ label bar Nothing ∷ []), at_line 1 OutOfRange) ∷
+    (meaning_of free 0xFFFC (line (Values Addr (name bar ∷ [])) ∷ line (SetCpu (codes "65C02")) ∷ line (SetCpu (codes "6809")) ∷ op Smb0 (One (Plain Direct) (NumberValue 0x12)) ∷ label bar Nothing ∷ []), at_line 1 OutOfRange) ∷
     -- of two definitions the first counts
-    (meaning_of free 0x1000 (op Lda (Immediate (name foo)) ∷ Some (Assignment foo 0x100) ∷ Some (Assignment foo 1) ∷ []), at_line 1 OutOfRange) ∷
+    (meaning_of free 0x1000 (op Lda (One (Plain Immediate) (name foo)) ∷ Some (Assignment foo 0x100) ∷ Some (Assignment foo 1) ∷ []), at_line 1 OutOfRange) ∷
     -- data, and lines without bytes
     (meaning_of free 0x1000 (line (Data (NumberDatum 1 ∷ StringDatum (codes "AB") ∷ StringDatum [] ∷ [])) ∷ line Code ∷ line (Segment foo) ∷ line (Values Dbyt (NumberValue 0x1234 ∷ [])) ∷ line (Values Addr (NumberValue 0x1234 ∷ [])) ∷ Some (PlaceAssignment foo 2) ∷ line (Values Word (name foo ∷ NumberValue 0xFFFF ∷ [])) ∷ []), Ok (1 ∷ 65 ∷ 66 ∷ 0x12 ∷ 0x34 ∷ 0x34 ∷ 0x12 ∷ 0x09 ∷ 0x10 ∷ 0xFF ∷ 0xFF ∷ [])) ∷
     (meaning_of free 0x1000 (line (Values Dword (NumberValue 0x12345678 ∷ NumberValue 1 ∷ [])) ∷ []), Ok (0x78 ∷ 0x56 ∷ 0x34 ∷ 0x12 ∷ 1 ∷ 0 ∷ 0 ∷ 0 ∷ [])) ∷
@@ -87,7 +88,7 @@ rows =
     (meaning_of free 0x1000 (line (Values Addr (NumberValue 0xFFFF ∷ [])) ∷ line (Values Addr (NumberValue 0x10000 ∷ [])) ∷ []), at_line 2 OutOfRange) ∷
     -- a byte that is too large; `a:` before a branch; nothing at all
     (meaning_of free 0x1000 (line (Data (NumberDatum 0x100 ∷ [])) ∷ []), at_line 1 OutOfRange) ∷
-    (meaning_of free 0x1000 (op Bne (Direct Absolute (NumberValue 0x1000)) ∷ []), at_line 1 NoSuchForm) ∷
+    (meaning_of free 0x1000 (op Bne (One Absolute (NumberValue 0x1000)) ∷ []), at_line 1 NoSuchForm) ∷
     (meaning_of free 0x1000 [], Ok []) ∷
     -- texts of repairs: halves, differences, lists of halves, reserved bytes, numbers, `=`, and the accumulator without `a`
     (meaning_in Repair free 0x1000 (codes "lda #<foo\nldx #>(foo+1)\nfoo: rts\n"), Ok (0xA9 ∷ 0x04 ∷ 0xA2 ∷ 0x10 ∷ 0x60 ∷ [])) ∷

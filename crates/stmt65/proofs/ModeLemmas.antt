@@ -1,89 +1,113 @@
 -- The ways of a form are its modes, and which of them is taken.
-use Rattle.std.proofs.Common.{arith, ◌≡◌, ℕ, suc, Bool, true, false, cond, List, [], ◌∷◌, ◌++◌, Some, None, refl, sym, ap, ◌∙◌}
-use Rattle.std.specs.Prelude.{IsSome}
+use Rattle.std.proofs.Common.{◌≡◌, ℕ, suc, Bool, true, false, List, [], ◌∷◌, map, Option, Some, None, refl, sym, ap, ◌∙◌}
+use Rattle.std.specs.Prelude.{◌&&◌, ◌||◌, not, is_some, if◌then◌else◌}
+use Rattle.std.specs.Bool.{Decides}
 use Rattle.std.specs.Str.{bytes_eq}
 use Rattle.std.specs.List.{list_any}
+use Rattle.std.proofs.lemmas.Bool.Decides.{Decides-and}
 use Rattle.std.proofs.lemmas.Slice.Eq.{bytes_eq-Decides}
-use Rattle.std.proofs.lemmas.List.{append-nil}
 use denote.Enum.Bare.{sameb, same_true}
 use Rattle.isa65.specs.declared.cpu.Cpu.{Cpu}
 use Rattle.isa65.specs.declared.mnemonic.Mnemonic.{Mnemonic}
 use Rattle.isa65.specs.declared.mode.Mode.{Mode}
 use Rattle.isa65.specs.declared.mode.Mode.TheVariants.{Imp, Acc, Imm, Zp, Zpx, Zpy, Abs, Absx, Absy, Ind, Indx, Indy, Zpind, Absindx, Rel, Zprel}
+use Rattle.isa65.specs.declared.row.Pattern.TheVariants.{Direct}
 use Rattle.isa65.specs.contracts.mode.Mode as mode
 use Rattle.isa65.specs.Cpu.{table_of}
 use Rattle.isa65.specs.Mode.{len_of, written, zero_page_of}
 use Rattle.isa65.specs.Opcodes.{encoded}
-use Rattle.stmt65.specs.SourceLine.{Value, Form, Empty, Accumulator, Immediate, ImmediateHalf, Direct, DirectX, DirectY, Two, Indirect, IndirectX, IndirectY}
-use Rattle.stmt65.specs.declared.source_line.AddressSize.TheVariants.{Absolute, Automatic}
-use Rattle.stmt65.specs.Symbols.{Definition, has_zero_page_size}
-use Rattle.stmt65.specs.Coding.{Fragment, Fixed, ZeroPage, Oversized, fragment_len, word_operand, Distance, Way, zero_page, by_size, ways, first_way, coding, coding_len}
-use Rattle.stmt65.specs.Forms.{form_text, form_values}
+use Rattle.stmt65.specs.SourceLine.{Form, One}
+use Rattle.stmt65.specs.declared.source_line.Notation.TheVariants.{Plain}
+use Rattle.stmt65.specs.Coding.{Fragment, Fixed, is_short, Way, ways, first_way, coding, coding_len}
+use Rattle.stmt65.specs.Forms.{form_text, has_prefix}
 use Rattle.stmt65.proofs.Cases.{by_option, by_test}
-use Rattle.stmt65.specs.ModeLaws.{has_prefix, IsModeOf, IsWay, EachWay, WaysAreModes, is_way, ModesAreWays, HasMode, is_short, mode_fragments, TakesMode, TakesModes, LacksForm, NeedsMode}
+use Rattle.stmt65.specs.ModeLaws.{IsModeOf, IsWay, EachWay, WaysAreModes, is_way, ModesAreWays, HasMode, mode_fragments, TakesMode, TakesModes, LacksForm, NeedsMode}
 
 pub false_true : {P : Type 0} → false ≡ true → P
 false_true e = absurd (let no : ⊥ = cc in no)
 
+-- ---- tests of the table, row by row
+
+abbrev is_mode_of : Form → Mode → Bool
+is_mode_of form x = bytes_eq (written x) (form_text form) && (not (has_prefix form) || is_some (zero_page_of x))
+
+implied : (p q : Bool) → Decides (not p || q) (p ≡ true → q ≡ true)
+implied true q = (λ e p. e, λ h. h refl)
+implied false q = (λ e p. false_true p, λ h. refl)
+
+mode_of : (form : Form) (x : Mode) → Decides (is_mode_of form x) (IsModeOf form x)
+mode_of form x = Decides-and _ _ (bytes_eq-Decides (written x) (form_text form)) (implied (has_prefix form) (is_some (zero_page_of x)))
+
+-- what is seen of a way, and what is wanted of it
+abbrev seen : Form → Way → Bool × ℕ × List Fragment
+seen form way = (is_mode_of form way.0, suc (coding_len way.1), way.1)
+
+abbrev wanted : Bool → Form → Way → Bool × ℕ × List Fragment
+wanted short form way = (true, len_of way.0, mode_fragments short form way.0)
+
+pub each_way : {A : Type 0} (f g : Way → A) (ws : List Way) → map f ws ≡ map g ws → EachWay (λ way. f way ≡ g way) ws
+each_way f g [] e = tt
+each_way f g (w ∷ ws) e = (let same : f w ≡ g w = cc in same, each_way f g ws (let same : map f ws ≡ map g ws = cc in same))
+
+each_wanted : (short : Bool) (form : Form) → map (seen form) (ways short form) ≡ map (wanted short form) (ways short form)
+unfolding ways coding_len
+each_wanted true (One (Plain Direct) v) = refl
+each_wanted false (One (Plain Direct) v) = refl
+each_wanted true _ = refl
+each_wanted false _ = refl
+
+abbrev is_first : Mode → List Way → Bool
+is_first x [] = false
+is_first x (way ∷ others) = is_way x way
+
+-- of a zero-page mode and an absolute one that are written alike the one of the operand's size stands first
+abbrev is_paired : Bool → Form → Mode → Option Mode → Bool
+is_paired short form y None = true
+is_paired short form y (Some x) = not (is_mode_of form x) || not (is_mode_of form y) || is_first (if short then x else y) (ways short form)
+
+abbrev is_met : Bool → Form → Mode → Bool × Bool
+is_met short form x = (not (is_mode_of form x) || list_any (is_way x) (ways short form), is_paired short form x (zero_page_of x))
+
+abbrev modes : List Mode
+modes = Imp ∷ Acc ∷ Imm ∷ Zp ∷ Zpx ∷ Zpy ∷ Abs ∷ Absx ∷ Absy ∷ Ind ∷ Indx ∷ Indy ∷ Zpind ∷ Absindx ∷ Rel ∷ Zprel ∷ []
+
+each_met : (short : Bool) (form : Form) → map (is_met short form) modes ≡ map (λ x. (true, true)) modes
+unfolding ways
+each_met true (One (Plain Direct) v) = refl
+each_met false (One (Plain Direct) v) = refl
+each_met true _ = refl
+each_met false _ = refl
+
+at_mode : {A : Type 0} (f g : Mode → A) (xs : List Mode) (x : Mode) → list_any (λ y. sameb mode.the_type y x) xs ≡ true → map f xs ≡ map g xs → f x ≡ g x
+at_mode f g [] x here e = false_true here
+at_mode f g (y ∷ ys) x here e =
+    by_test (sameb mode.the_type y x)
+    (λ h. let same : f y ≡ g y = cc in rw (← same_true mode.the_type tt y x h) same)
+    (λ h. at_mode f g ys x (rw h at here) (let same : map f ys ≡ map g ys = cc in same))
+
+met : (short : Bool) (form : Form) (x : Mode) → is_met short form x ≡ (true, true)
+met short form x = at_mode (is_met short form) (λ x. (true, true)) modes x (listed x) (each_met short form)
+  where
+    listed : (x : Mode) → list_any (λ y. sameb mode.the_type y x) modes ≡ true
+    listed Imp = refl
+    listed _ = refl
+
 -- ---- the ways are the modes
 
--- a way of a form without `a:`
-plain : (form : Form) (way : Way) → has_prefix form ≡ false → written way.0 ≡ form_text form → suc (coding_len way.1) ≡ len_of way.0 → IsWay form way
-plain form way none alike length = record { of_form = (alike, λ p. false_true (sym none ∙ p)); length = length }
-
-zero_page_len : (above : List Definition) (v : Value) → fragment_len (zero_page above v) ≡ 1
-zero_page_len above v = by_test (has_zero_page_size above v) (λ t. rw t refl) (λ t. rw t refl)
-
--- what holds of the ways of both sizes, whichever goes first
-pub by_sizes : (P : List Way → Type 0) (above : List Definition) (short long : Mode) (v : Value) → P ((short, ZeroPage v ∷ []) ∷ (long, word_operand v ∷ []) ∷ [])
-    → P ((long, word_operand v ∷ []) ∷ (short, Oversized v ∷ []) ∷ []) → P (by_size above short long v)
-by_sizes P above short long v first second = by_test (has_zero_page_size above v) (λ t. rw t first) (λ t. rw t second)
+each_as : (P Q : Way → Type 0) (ws : List Way) → ((way : Way) → P way → Q way) → EachWay P ws → EachWay Q ws
+each_as P Q [] h each = tt
+each_as P Q (w ∷ ws) h each = (h w each.0, each_as P Q ws h each.1)
 
 pub ways_are_modes : WaysAreModes
-unfolding ways coding_len
-ways_are_modes above (Direct Absolute v) = (record { of_form = (refl, λ p. refl); length = refl }, tt)
-ways_are_modes above (Direct Automatic v) = grind arith
-ways_are_modes above (DirectX Absolute v) = (record { of_form = (refl, λ p. refl); length = refl }, tt)
-ways_are_modes above (DirectX Automatic v) = by_sizes (EachWay (DirectX Automatic v)) above Zpx Absx v (plain (DirectX Automatic v) _ refl refl refl, (plain (DirectX Automatic v) _ refl refl refl, tt)) (plain (DirectX Automatic v) _ refl refl refl, (plain (DirectX Automatic v) _ refl refl refl, tt))
-ways_are_modes above (DirectY Absolute v) = (record { of_form = (refl, λ p. refl); length = refl }, tt)
-ways_are_modes above (DirectY Automatic v) = by_sizes (EachWay (DirectY Automatic v)) above Zpy Absy v (plain (DirectY Automatic v) _ refl refl refl, (plain (DirectY Automatic v) _ refl refl refl, tt)) (plain (DirectY Automatic v) _ refl refl refl, (plain (DirectY Automatic v) _ refl refl refl, tt))
-ways_are_modes above (Two v w) = (plain (Two v w) _ refl refl (rw (zero_page_len above v) refl), tt)
-ways_are_modes above (Indirect v) = (plain (Indirect v) _ refl refl (rw (zero_page_len above v) refl), (plain (Indirect v) _ refl refl refl, tt))
-ways_are_modes above (IndirectX v) = (plain (IndirectX v) _ refl refl (rw (zero_page_len above v) refl), (plain (IndirectX v) _ refl refl refl, tt))
-ways_are_modes above (IndirectY v) = (plain (IndirectY v) _ refl refl (rw (zero_page_len above v) refl), tt)
-ways_are_modes above _ = (plain _ _ refl refl refl, tt)
-
--- a mode that is written so is among the ways
-among : (above : List Definition) (form : Form) (x : Mode) → (has_prefix form ≡ true → IsSome (zero_page_of x)) → bytes_eq (written x) (form_text form) ≡ true → list_any (is_way x) (ways above form) ≡ true
-unfolding ways
-among above Empty Imp p same = refl
-among above Accumulator Acc p same = refl
-among above (Immediate v) Imm p same = refl
-among above (ImmediateHalf half v) Imm p same = refl
-among above (Direct Absolute v) Abs p same = refl
-among above (Direct Absolute v) Zp p same = false_true (p refl)
-among above (Direct Absolute v) Rel p same = false_true (p refl)
-among above (Direct Automatic v) Zp p same = by_sizes (λ ws. list_any (is_way Zp) (ws ++ (Rel, Distance v ∷ []) ∷ []) ≡ true) above Zp Abs v refl refl
-among above (Direct Automatic v) Abs p same = by_sizes (λ ws. list_any (is_way Abs) (ws ++ (Rel, Distance v ∷ []) ∷ []) ≡ true) above Zp Abs v refl refl
-among above (Direct Automatic v) Rel p same = by_sizes (λ ws. list_any (is_way Rel) (ws ++ (Rel, Distance v ∷ []) ∷ []) ≡ true) above Zp Abs v refl refl
-among above (DirectX Absolute v) Absx p same = refl
-among above (DirectX Absolute v) Zpx p same = false_true (p refl)
-among above (DirectX Automatic v) Zpx p same = by_sizes (λ ws. list_any (is_way Zpx) ws ≡ true) above Zpx Absx v refl refl
-among above (DirectX Automatic v) Absx p same = by_sizes (λ ws. list_any (is_way Absx) ws ≡ true) above Zpx Absx v refl refl
-among above (DirectY Absolute v) Absy p same = refl
-among above (DirectY Absolute v) Zpy p same = false_true (p refl)
-among above (DirectY Automatic v) Zpy p same = by_sizes (λ ws. list_any (is_way Zpy) ws ≡ true) above Zpy Absy v refl refl
-among above (DirectY Automatic v) Absy p same = by_sizes (λ ws. list_any (is_way Absy) ws ≡ true) above Zpy Absy v refl refl
-among above (Two v w) Zprel p same = refl
-among above (Indirect v) Ind p same = refl
-among above (Indirect v) Zpind p same = refl
-among above (IndirectX v) Indx p same = refl
-among above (IndirectX v) Absindx p same = refl
-among above (IndirectY v) Indy p same = refl
-among above _ _ p same = false_true same
+ways_are_modes short form =
+    each_as _ _ (ways short form)
+    (λ way e. record { of_form = (mode_of form way.0).0 (ap (λ (p : Bool × ℕ × List Fragment). p.0) e); length = ap (λ (p : Bool × ℕ × List Fragment). p.1) e })
+    (each_way (seen form) (wanted short form) (ways short form) (each_wanted short form))
 
 pub modes_are_ways : ModesAreWays
-modes_are_ways above form x h = among above form x h.1 ((bytes_eq-Decides (written x) (form_text form)).1 h.0)
+modes_are_ways short form x h =
+    let e : (not (is_mode_of form x) || list_any (is_way x) (ways short form)) ≡ true = ap (λ (p : Bool × Bool). p.0) (met short form x) in
+    rw ((mode_of form x).1 h) at e
 
 -- ---- a form that the mnemonic has not
 
@@ -95,137 +119,74 @@ none_missed cpu m (w ∷ ws) x e f =
     (λ h. ap (encoded (table_of cpu) m) (sym (same_true mode.the_type tt w.0 x h)) ∙ g)
     (λ h. none_missed cpu m ws x (rw g at e) (rw h at f)))
 
-none_found : (cpu : Cpu) (m : Mnemonic) (form : Form) (ws : List Way) → EachWay form ws → LacksForm cpu m form → first_way cpu m ws ≡ None
+none_found : (cpu : Cpu) (m : Mnemonic) (form : Form) (ws : List Way) → EachWay (IsWay form) ws → LacksForm cpu m form → first_way cpu m ws ≡ None
 none_found cpu m form [] each lacks = refl
 none_found cpu m form (w ∷ ws) each lacks = rw (lacks w.0 each.0.of_form) (none_found cpu m form ws each.1 lacks)
 
 pub needs_mode : NeedsMode
 unfolding coding
-needs_mode s m form = (
-  λ e x h. none_missed s.cpu m (ways s.above form) x e (modes_are_ways s.above form x h),
-  λ lacks. none_found s.cpu m form (ways s.above form) (ways_are_modes s.above form) lacks,
-)
+needs_mode s m form =
+    let short = is_short s.above form in
+    (λ e x h. none_missed s.cpu m (ways short form) x e (modes_are_ways short form x h), λ lacks. none_found s.cpu m form (ways short form) (ways_are_modes short form) lacks)
 
 -- ---- the mode that is taken
 
--- the first way, or the others
-pub first_case : {P : Type 0} (cpu : Cpu) (m : Mnemonic) (w : Way) (ws : List Way) (fragments : List Fragment) → first_way cpu m (w ∷ ws) ≡ Some fragments
-    → ((b : ℕ) → encoded (table_of cpu) m w.0 ≡ Some b → fragments ≡ Fixed b ∷ w.1 → P)
-    → (encoded (table_of cpu) m w.0 ≡ None → first_way cpu m ws ≡ Some fragments → P) → P
-first_case cpu m w ws fragments e found missed = by_option (encoded (table_of cpu) m w.0) (λ b g. let e' = rw g at e in found b g cc) (λ g. missed g (rw g at e))
+-- the way that gives these fragments: of each way P holds, and if the mnemonic has the mode of the first, that is taken
+pub record IsTaken (cpu : Cpu) (m : Mnemonic) (P : Way → Type 0) (ws : List Way) (fragments : List Fragment) : Type 0 where
+  pub way : Way
+  pub opcode : ℕ
+  pub holds : P way
+  pub has : encoded (table_of cpu) m way.0 ≡ Some opcode
+  pub coded : fragments ≡ Fixed opcode ∷ way.1
+  pub first : (x : Mode) → is_first x ws ≡ true → HasMode cpu m x → way.0 ≡ x
 
--- a zero-page mode that has an absolute one beside it
-abbrev is_zero : Mode → Bool
-is_zero Zp = true
-is_zero Zpx = true
-is_zero Zpy = true
-is_zero _ = false
+pub taken : (cpu : Cpu) (m : Mnemonic) (P : Way → Type 0) (ws : List Way) (fragments : List Fragment) → EachWay P ws → first_way cpu m ws ≡ Some fragments → IsTaken cpu m P ws fragments
+taken cpu m P [] fragments each e = absurd cc
+taken cpu m P (w ∷ ws) fragments each e =
+    by_option (encoded (table_of cpu) m w.0)
+    (λ b g. let e' = rw g at e in record { way = w; opcode = b; holds = each.0; has = g; coded = cc; first = λ x h has. same_true mode.the_type tt w.0 x h })
+    (λ g. let rest = taken cpu m P ws fragments each.1 (rw g at e) in
+    record {
+      way = rest.way;
+      opcode = rest.opcode;
+      holds = rest.holds;
+      has = rest.has;
+      coded = rest.coded;
+      first = λ x h has. let none : encoded (table_of cpu) m x ≡ None = rw (← same_true mode.the_type tt w.0 x h) g in let has' = rw none at has in false_true has';
+    })
 
-zero_is : (y x : Mode) → zero_page_of y ≡ Some x → is_zero x ≡ true
-zero_is Abs x e = let same : x ≡ Zp = cc in ap is_zero same
-zero_is Absx x e = let same : x ≡ Zpx = cc in ap is_zero same
-zero_is Absy x e = let same : x ≡ Zpy = cc in ap is_zero same
-zero_is _ x e = absurd cc
+not_its_own : (x : Mode) → zero_page_of x ≡ Some x → ⊥
+not_its_own Imp e = cc
+not_its_own _ e = cc
 
-no_zero : (x y : Mode) → zero_page_of x ≡ Some y → IsSome (zero_page_of y) → ⊥
-no_zero Abs y e h = let same : y ≡ Zp = cc in let h' = rw same at h in false_true h'
-no_zero Absx y e h = let same : y ≡ Zpx = cc in let h' = rw same at h in false_true h'
-no_zero Absy y e h = let same : y ≡ Zpy = cc in let h' = rw same at h in false_true h'
-no_zero _ y e h = absurd cc
+-- a zero-page mode and the absolute one that is written alike
+pair_first : (short : Bool) (form : Form) (x y : Mode) → zero_page_of y ≡ Some x → IsModeOf form x → IsModeOf form y → is_first (if short then x else y) (ways short form) ≡ true
+pair_first short form x y pair of_x of_y =
+    let e : is_paired short form y (zero_page_of y) ≡ true = ap (λ (p : Bool × Bool). p.1) (met short form y) in
+    rw (pair, (mode_of form x).1 of_x, (mode_of form y).1 of_y) at e
 
--- a zero-page mode has one absolute mode beside it
-only_long : (y short long : Mode) → zero_page_of y ≡ Some short → zero_page_of long ≡ Some short → y ≡ long
-only_long Abs short Abs e f = refl
-only_long Absx short Absx e f = refl
-only_long Absy short Absy e f = refl
-only_long _ short _ e f = absurd cc
+smaller : (short : Bool) (form : Form) (x y : Mode) → zero_page_of y ≡ Some x → IsModeOf form x → IsModeOf form y → (is_first y (ways short form) ≡ true → x ≡ y) → short ≡ true
+smaller true form x y pair of_x of_y first = refl
+smaller false form x y pair of_x of_y first = absurd (not_its_own y (rw (first (pair_first false form x y pair of_x of_y)) at pair))
 
-lacks_it : (cpu : Cpu) (m : Mnemonic) (x z : Mode) → encoded (table_of cpu) m x ≡ None → z ≡ x → HasMode cpu m z → ⊥
-lacks_it cpu m x z none same h = let h' = rw (same, none) at h in false_true h'
-
-module _ (cpu : Cpu) (above : List Definition) (m : Mnemonic) (form : Form) (fragments : List Fragment) where
-  -- a mode that has none of another size beside it
-  lone : (x : Mode) (b : ℕ) → is_zero x ≡ false → ((y : Mode) → zero_page_of x ≡ Some y → IsModeOf form y → ⊥) → IsModeOf form x → encoded (table_of cpu) m x ≡ Some b
-      → fragments ≡ Fixed b ∷ mode_fragments above form x → TakesMode cpu above m form fragments
-  lone x b z alone of_form has coded = record {
-    mode = x;
-    opcode = b;
-    of_form = of_form;
-    has = has;
-    coded = coded;
-    short = λ y e f g. false_true (sym z ∙ zero_is y x e);
-    long = λ y e f g. absurd (alone y e f);
-  }
-
-  -- the one way of a form
-  by_one : (x : Mode) (fs : List Fragment) → first_way cpu m ((x, fs) ∷ []) ≡ Some fragments → is_zero x ≡ false → ((y : Mode) → zero_page_of x ≡ Some y → IsModeOf form y → ⊥) → IsModeOf form x
-      → fs ≡ mode_fragments above form x → TakesMode cpu above m form fragments
-  by_one x fs e z alone of_form same =
-      first_case cpu m (x, fs) [] fragments e (λ b has coded. lone x b z alone of_form has (coded ∙ ap (λ (gs : List Fragment). Fixed b ∷ gs) same)) (λ gone e'. absurd cc)
-
-  -- one of the two sizes, or another way
-  sized : (short long : Mode) (v : Value) (rest : List Way) → zero_page_of long ≡ Some short → zero_page_of short ≡ None → is_zero long ≡ false
-      → IsModeOf form short → IsModeOf form long → is_short above (form_values form) ≡ has_zero_page_size above v
-      → mode_fragments above form short ≡ zero_page above v ∷ [] → mode_fragments above form long ≡ word_operand v ∷ []
-      → first_way cpu m (by_size above short long v ++ rest) ≡ Some fragments → (first_way cpu m rest ≡ Some fragments → TakesMode cpu above m form fragments) → TakesMode cpu above m form fragments
-  sized short long v rest pair lone_short not_zero of_short of_long size zf lf e other = go (has_zero_page_size above v) refl
-    where
-      short_way : (t : Bool) → has_zero_page_size above v ≡ t → (b : ℕ) → encoded (table_of cpu) m short ≡ Some b → fragments ≡ Fixed b ∷ cond t (ZeroPage v) (Oversized v) ∷ []
-          → ((y : Mode) → HasMode cpu m y → zero_page_of y ≡ Some short → t ≡ true) → TakesMode cpu above m form fragments
-      short_way t s b has coded only = record {
-        mode = short;
-        opcode = b;
-        of_form = of_short;
-        has = has;
-        coded = coded ∙ ap (λ (u : Bool). Fixed b ∷ cond u (ZeroPage v) (Oversized v) ∷ []) (sym s) ∙ ap (λ (fs : List Fragment). Fixed b ∷ fs) (sym zf);
-        short = λ y p f g. size ∙ s ∙ only y g p;
-        long = λ z p f g. absurd cc;
-      }
-
-      long_way : (b : ℕ) → encoded (table_of cpu) m long ≡ Some b → fragments ≡ Fixed b ∷ word_operand v ∷ []
-          → (HasMode cpu m short → has_zero_page_size above v ≡ false) → TakesMode cpu above m form fragments
-      long_way b has coded only = record {
-        mode = long;
-        opcode = b;
-        of_form = of_long;
-        has = has;
-        coded = coded ∙ ap (λ (fs : List Fragment). Fixed b ∷ fs) (sym lf);
-        short = λ y p f g. false_true (sym not_zero ∙ zero_is y long p);
-        long = λ z p f g. let same : z ≡ short = cc in size ∙ only (rw same at g);
-      }
-
-      go : (t : Bool) → has_zero_page_size above v ≡ t → TakesMode cpu above m form fragments
-      go true t =
-          first_case cpu m (short, ZeroPage v ∷ []) ((long, word_operand v ∷ []) ∷ rest) fragments (rw t at e)
-          (λ b has coded. short_way true t b has coded (λ y g p. refl))
-          (λ none e'. first_case cpu m (long, word_operand v ∷ []) rest fragments e' (λ b has coded. long_way b has coded (λ h. absurd (lacks_it cpu m short short none refl h))) (λ gone e''. other e''))
-      go false t =
-          first_case cpu m (long, word_operand v ∷ []) ((short, Oversized v ∷ []) ∷ rest) fragments (rw t at e)
-          (λ b has coded. long_way b has coded (λ h. t))
-          (λ none e'. first_case cpu m (short, Oversized v ∷ []) rest fragments e'
-          (λ b has coded. short_way false t b has coded (λ y g p. absurd (lacks_it cpu m long y none (only_long y short long p pair) g))) (λ gone e''. other e''))
+larger : (short : Bool) (form : Form) (x y : Mode) → zero_page_of y ≡ Some x → IsModeOf form x → IsModeOf form y → (is_first x (ways short form) ≡ true → y ≡ x) → short ≡ false
+larger false form x y pair of_x of_y first = refl
+larger true form x y pair of_x of_y first = absurd (not_its_own x (rw (first (pair_first true form x y pair of_x of_y)) at pair))
 
 pub takes_modes : TakesModes
-unfolding coding ways
-takes_modes s m (Direct Absolute v) fragments e =
-    by_one s.cpu s.above m (Direct Absolute v) fragments Abs _ e refl (λ y e f. no_zero Abs y e (f.1 refl)) (refl, λ p. refl) refl
-takes_modes s m (Direct Automatic v) fragments e =
-    sized s.cpu s.above m (Direct Automatic v) fragments Zp Abs v ((Rel, Distance v ∷ []) ∷ []) refl refl refl (refl, λ p. false_true p) (refl, λ p. false_true p) refl refl refl e
-    (λ e'. by_one s.cpu s.above m (Direct Automatic v) fragments Rel _ e' refl (λ y e f. absurd cc) (refl, λ p. false_true p) refl)
-takes_modes s m (DirectX Absolute v) fragments e =
-    by_one s.cpu s.above m (DirectX Absolute v) fragments Absx _ e refl (λ y e f. no_zero Absx y e (f.1 refl)) (refl, λ p. refl) refl
-takes_modes s m (DirectX Automatic v) fragments e =
-    sized s.cpu s.above m (DirectX Automatic v) fragments Zpx Absx v [] refl refl refl (refl, λ p. false_true p) (refl, λ p. false_true p) refl refl refl (rw append-nil e) (λ e'. absurd cc)
-takes_modes s m (DirectY Absolute v) fragments e =
-    by_one s.cpu s.above m (DirectY Absolute v) fragments Absy _ e refl (λ y e f. no_zero Absy y e (f.1 refl)) (refl, λ p. refl) refl
-takes_modes s m (DirectY Automatic v) fragments e =
-    sized s.cpu s.above m (DirectY Automatic v) fragments Zpy Absy v [] refl refl refl (refl, λ p. false_true p) (refl, λ p. false_true p) refl refl refl (rw append-nil e) (λ e'. absurd cc)
-takes_modes s m (Indirect v) fragments e =
-    first_case s.cpu m (Zpind, zero_page s.above v ∷ []) ((Ind, word_operand v ∷ []) ∷ []) fragments e
-    (λ b has coded. lone s.cpu s.above m (Indirect v) fragments Zpind b refl (λ y e f. absurd cc) (refl, λ p. false_true p) has coded)
-    (λ gone e'. by_one s.cpu s.above m (Indirect v) fragments Ind _ e' refl (λ y e f. absurd cc) (refl, λ p. false_true p) refl)
-takes_modes s m (IndirectX v) fragments e =
-    first_case s.cpu m (Indx, zero_page s.above v ∷ []) ((Absindx, word_operand v ∷ []) ∷ []) fragments e
-    (λ b has coded. lone s.cpu s.above m (IndirectX v) fragments Indx b refl (λ y e f. absurd cc) (refl, λ p. false_true p) has coded)
-    (λ gone e'. by_one s.cpu s.above m (IndirectX v) fragments Absindx _ e' refl (λ y e f. absurd cc) (refl, λ p. false_true p) refl)
-takes_modes s m _ fragments e = by_one s.cpu s.above m _ fragments _ _ e refl (λ y e f. absurd cc) (refl, λ p. false_true p) refl
+unfolding coding
+takes_modes s m form fragments e = go (is_short s.above form) refl
+  where
+    go : (short : Bool) → is_short s.above form ≡ short → TakesMode s.cpu s.above m form fragments
+    go short is =
+        let t = taken s.cpu m _ (ways short form) fragments (each_way (seen form) (wanted short form) (ways short form) (each_wanted short form)) (rw is at e) in
+        let of_form = (mode_of form t.way.0).0 (ap (λ (p : Bool × ℕ × List Fragment). p.0) t.holds) in
+        record {
+          mode = t.way.0;
+          opcode = t.opcode;
+          of_form = of_form;
+          has = t.has;
+          coded = rw is (t.coded ∙ ap (λ (p : Bool × ℕ × List Fragment). Fixed t.opcode ∷ p.2) t.holds);
+          short = λ y pair of_y has_y. is ∙ smaller short form t.way.0 y pair of_form of_y (λ f. t.first y f has_y);
+          long = λ z pair of_z has_z. is ∙ larger short form z t.way.0 pair of_z of_form (λ f. t.first z f has_z);
+        }

@@ -34,16 +34,17 @@ use Rattle.stmt65.specs.Line.{filled, with_fields, plain_line, line_of}
 use Rattle.stmt65.specs.Operands.{named_text, long_text, kind_text, prefix_text, row_operands, operand_text}
 use Rattle.stmt65.specs.Printable.{IsLong, IsOperand, AreOperands, IsWrittenIn, MayBeForced, IsPrintable, MayBeLabelled}
 use Rattle.stmt65.specs.Statements.{has_bytes, bytes_text, quoted, data_text, numbers_text, alone, with_operands, return_text, distance_text, instr_fields, label_fields, definition_fields, remark_fields, fields_of}
-use Rattle.stmt65.specs.SourceLine.{NumberValue, NameValue, NumberDatum, Empty, Operation, Nothing, Instr, Segment, Code, SetCpu, Assignment, PlaceAssignment, Statement}
+use Rattle.stmt65.specs.SourceLine.{NumberValue, NameValue, NumberDatum, Empty, One, Operation, Nothing, Instr, Segment, Code, SetCpu, Assignment, PlaceAssignment, Statement}
 use Rattle.stmt65.specs.declared.source_line.AddressSize.TheVariants.{Absolute, Automatic}
-use Rattle.stmt65.specs.declared.source_line.Minus.TheVariants.{Zero, One}
+use Rattle.stmt65.specs.declared.source_line.Minus.TheVariants.{Zero, One as MinusOne}
+use Rattle.stmt65.specs.Forms.{sized}
 use Rattle.stmt65.specs.Tables.{entries, cut_text}
 use Rattle.stmt65.specs.Parts.{Part, Word, Number, Define, Mark, begins_with}
 use Rattle.stmt65.specs.Lexing.{is_word_start, is_text_byte, parts}
 use Rattle.stmt65.specs.Names.{is_name}
 use Rattle.stmt65.specs.Reading.{reading_of}
 use Rattle.stmt65.specs.Spelling.{Item, word, mark, number, string, quoted_name, value, data_list, value_list, IsValue, Spells, prefix_items, form_items, operation_items, IsSpelling}
-use Rattle.stmt65.specs.Printed.{entry_value, source_value, pattern_form, row_form, source_form, source_line, with_label, HasName, HasNamesIn, HasNames, HasLabelName}
+use Rattle.stmt65.specs.Printed.{entry_value, source_value, row_form, source_form, source_line, with_label, HasName, HasNamesIn, HasNames, HasLabelName}
 use Rattle.stmt65.specs.Code.Widths.{IsWordWide, AreWordWide, IsInWidth}
 use Rattle.stmt65.specs.Views.{ExprView, OperandsView, TargetView, StatementView, RemarksView}
 use Rattle.stmt65.specs.Views as view
@@ -164,7 +165,7 @@ no_equals h (view.name name offset) rest has = go name (name_word name has.0) (e
 
 -- a word after `a:`
 forced : (h : Bool) (e : ExprView) (is : List Item) (rest : List ℕ) → IsLong e → IsRead e → Ends rest → Spells is (parts Listing rest)
-    → Spells (prefix_items Absolute ++ value (source_value e) ∷ is) (parts Listing (prefix_text true ++ (long_text h e ++ rest)))
+    → Spells (prefix_items true ++ value (source_value e) ∷ is) (parts Listing (prefix_text true ++ (long_text h e ++ rest)))
 forced h e is rest s has ends t =
     let text = long_text h e ++ rest in
     worded (codes "a") _ (58 ∷ text) (refl, refl) refl
@@ -186,7 +187,7 @@ row_spelled h (row.Two k l) (view.two e f) w n = grind (arith, kind_then, marked
 row_spelled h _ _ w n = absurd w
 
 forced_one : (h : Bool) (p : Pattern) (k : OperandKind) (e : ExprView) → IsOperand k e → IsRead e → IsSome (zero_page_row (row.One p k))
-    → Spells (form_items (pattern_form p Absolute (source_value e))) (parts Listing (row_operands h (row.One p k) true (view.one e)))
+    → Spells (form_items (One (sized Absolute p) (source_value e))) (parts Listing (row_operands h (row.One p k) true (view.one e)))
 forced_one h pattern.Direct kind.Word e w n f = forced h e [] [] w n refl nothing
 forced_one h pattern.DirectX kind.Word e w n f = forced h e _ (codes ",x") w n refl comma_x
 forced_one h pattern.DirectY kind.Word e w n f = forced h e _ (codes ",y") w n refl comma_y
@@ -340,10 +341,10 @@ addr_spelled h t n w =
 minus_one : parts Listing (codes "-1") ≡ Mark 45 ∷ Number (codes "1") ∷ []
 minus_one = parts_mark 45 (codes "1") refl ∙ ap (λ (qs : List Part). Mark 45 ∷ qs) (parts_digits (codes "1") [] (omega arith) refl refl ∙ ap (λ (qs : List Part). Number (codes "1") ∷ qs) (parts_nil Listing))
 
-less_one : (w : List ℕ) (n : ℕ) (front : List Part) → IsValue (NameValue w n Zero) front → IsValue (NameValue w n One) (front ++ (Mark 45 ∷ Number (codes "1") ∷ []))
+less_one : (w : List ℕ) (n : ℕ) (front : List Part) → IsValue (NameValue w n Zero) front → IsValue (NameValue w n MinusOne) (front ++ (Mark 45 ∷ Number (codes "1") ∷ []))
 less_one w n front v = grind arith
 
-return_spelled : (h : Bool) (t : TargetView) → is_name t.name ≡ true → t.offset < 65536 → Spells (value_list (NameValue t.name t.offset One ∷ []) ∷ []) (parts Listing (return_text h (Some t)))
+return_spelled : (h : Bool) (t : TargetView) → is_name t.name ≡ true → t.offset < 65536 → Spells (value_list (NameValue t.name t.offset MinusOne ∷ []) ∷ []) (parts Listing (return_text h (Some t)))
 return_spelled h t n w = grind (arith, named_parts, last, minus_one)
 
 no_target_spelled : Spells (value_list (NumberValue 0xFFFF ∷ []) ∷ []) (parts Listing (codes "$FFFF"))

@@ -7,7 +7,10 @@ use Rattle.text65.specs.Names.{has_name_form}
 use Rattle.stmt65.specs.declared.language.Language.TheVariants.{Listing}
 use Rattle.stmt65.specs.declared.source_line.AddressSize.{AddressSize}
 use Rattle.stmt65.specs.declared.source_line.AddressSize.TheVariants.{Absolute, Automatic}
-use Rattle.stmt65.specs.SourceLine.{is_absolute, Value, Form, Immediate, Two, Operation, Instr, Data, Values, SetCpu}
+use Rattle.stmt65.specs.SourceLine.{is_absolute, Value, Form, One, Two, Operation, Instr, Data, Values, SetCpu}
+use Rattle.stmt65.specs.declared.source_line.Notation.TheVariants.{Plain}
+use Rattle.isa65.specs.declared.row.Pattern.TheVariants.{Immediate, Direct, DirectX, DirectY}
+use Rattle.stmt65.specs.Forms.{sized}
 use Rattle.stmt65.specs.declared.directive.Directive.{Directive}
 use Rattle.stmt65.specs.Directives.{directive_text, directive_named}
 use Rattle.stmt65.specs.Parts.{Part, Word, Number, Text, Define, Mark}
@@ -101,24 +104,37 @@ at P o x e h = rw e at h
 
 -- ---- operands
 
+-- the items of an operand that begins with a value, with or without `a:`
+abbrev direct_items : AddressSize → Value → List Item → List Item
+direct_items size v is = prefix_items (is_absolute size) ++ value v ∷ is
+
+record IsSized (size : AddressSize) (v : Value) : Type 0 where
+  alone : form_items (One (sized size Direct) v) ≡ direct_items size v []
+  x : form_items (One (sized size DirectX) v) ≡ direct_items size v (mark 44 ∷ word (codes "x") ∷ [])
+  y : form_items (One (sized size DirectY) v) ≡ direct_items size v (mark 44 ∷ word (codes "y") ∷ [])
+
+is_sized : (size : AddressSize) (v : Value) → IsSized size v
+is_sized Absolute v = record { alone = refl; x = refl; y = refl }
+is_sized Automatic v = record { alone = refl; x = refl; y = refl }
+
 -- the items after a value that stands first
 second_read : (size : AddressSize) (v : Value) (ps : List Part) → is_mark 44 ps ≡ true
-    → IfSome (cond (is_absolute size) None (next_value Listing (drop 1 ps) >>= λ w. whole (Two v w.0) w.1)) (λ f. (is : List Item) × (form_items f ≡ prefix_items size ++ value v ∷ is) × Spells is ps)
+    → IfSome (cond (is_absolute size) None (next_value Listing (drop 1 ps) >>= λ w. whole (Two v w.0) w.1)) (λ f. (is : List Item) × (form_items f ≡ direct_items size v is) × Spells is ps)
 second_read Absolute v ps comma = tt
 second_read Automatic v ps comma = given _ (next_value Listing (drop 1 ps)) _ (λ w e.
     let f = at (λ w. Fronts (IsValue w.0) (drop 1 ps) w.1) (next_value Listing (drop 1 ps)) w e (value_read (drop 1 ps)) in
     ended _ _ w.1 (λ end. (mark 44 ∷ value w.0 ∷ [], refl, at_mark 44 _ ps comma (at_value w.0 [] (drop 1 ps) w.1 f (rw end at_end)))))
 
-tail_read : (size : AddressSize) (v : Value) (ps : List Part) → IfSome (tail_at size v ps) (λ f. (is : List Item) × (form_items f ≡ prefix_items size ++ value v ∷ is) × Spells is ps)
+tail_read : (size : AddressSize) (v : Value) (ps : List Part) → IfSome (tail_at size v ps) (λ f. (is : List Item) × (form_items f ≡ direct_items size v is) × Spells is ps)
 unfolding tail_at
 tail_read size v ps =
     by_test (is_mark 44 ps)
     (λ comma. rw comma (by_test (is_word_here (codes "x") (drop 1 ps))
-    (λ x. rw x (by_list (drop 1 (drop 1 ps)) (λ end. rw end (mark 44 ∷ word (codes "x") ∷ [], refl, at_mark 44 _ ps comma (at_word (codes "x") [] (drop 1 ps) x (rw end at_end)))) (λ q qs e. rw e tt)))
+    (λ x. rw x (by_list (drop 1 (drop 1 ps)) (λ end. rw end (mark 44 ∷ word (codes "x") ∷ [], (is_sized size v).x, at_mark 44 _ ps comma (at_word (codes "x") [] (drop 1 ps) x (rw end at_end)))) (λ q qs e. rw e tt)))
     (λ x. rw x (by_test (is_word_here (codes "y") (drop 1 ps))
-    (λ y. rw y (by_list (drop 1 (drop 1 ps)) (λ end. rw end (mark 44 ∷ word (codes "y") ∷ [], refl, at_mark 44 _ ps comma (at_word (codes "y") [] (drop 1 ps) y (rw end at_end)))) (λ q qs e. rw e tt)))
+    (λ y. rw y (by_list (drop 1 (drop 1 ps)) (λ end. rw end (mark 44 ∷ word (codes "y") ∷ [], (is_sized size v).y, at_mark 44 _ ps comma (at_word (codes "y") [] (drop 1 ps) y (rw end at_end)))) (λ q qs e. rw e tt)))
     (λ y. rw y (second_read size v ps comma))))))
-    (λ comma. rw comma (by_list ps (λ end. rw end ([], refl, at_end)) (λ q qs e. rw e tt)))
+    (λ comma. rw comma (by_list ps (λ end. rw end ([], (is_sized size v).alone, at_end)) (λ q qs e. rw e tt)))
 
 -- the items after `(` and a value
 inner_read : (v : Value) (ps : List Part) → IfSome (inner_at v ps) (λ f. (is : List Item) × (form_items f ≡ mark 40 ∷ value v ∷ is) × Spells is ps)
@@ -150,7 +166,7 @@ joins : (o : Option Form) (before : List Item) (ps full : List Part)
 joins None before ps full h g = tt
 joins (Some f) before ps full h g = rw g.1 (h g.0 g.2)
 
-hash_read : (v : Value) (ps : List Part) → IfSome (whole (Immediate v) ps) (λ f. (is : List Item) × (form_items f ≡ (mark 35 ∷ []) ++ value v ∷ is) × Spells is ps)
+hash_read : (v : Value) (ps : List Part) → IfSome (whole (One (Plain Immediate) v) ps) (λ f. (is : List Item) × (form_items f ≡ (mark 35 ∷ []) ++ value v ∷ is) × Spells is ps)
 hash_read v [] = ([], refl, at_end)
 hash_read v (p ∷ ps) = tt
 
@@ -158,12 +174,12 @@ pub form_read : (ps : List Part) → IfSome (form_of Listing ps) (λ f. Spells (
 unfolding form_of immediate_of
 form_read ps =
     by_test (is_mark 35 ps)
-    (λ hash. rw hash (joins _ (mark 35 ∷ []) (drop 1 ps) ps (λ is h. at_mark 35 is ps hash h) (value_then (drop 1 ps) (λ v rest. whole (Immediate v) rest) (mark 35 ∷ []) hash_read)))
+    (λ hash. rw hash (joins _ (mark 35 ∷ []) (drop 1 ps) ps (λ is h. at_mark 35 is ps hash h) (value_then (drop 1 ps) (λ v rest. whole (One (Plain Immediate) v) rest) (mark 35 ∷ []) hash_read)))
     (λ hash. rw hash (by_test (is_mark 40 ps)
     (λ paren. rw paren (joins _ (mark 40 ∷ []) (drop 1 ps) ps (λ is h. at_mark 40 is ps paren h) (value_then (drop 1 ps) inner_at (mark 40 ∷ []) inner_read)))
     (λ paren. rw paren (by_test (is_word_here (codes "a") ps)
     (λ a. rw a (by_test (is_mark 58 (drop 1 ps))
-    (λ colon. rw colon (joins _ (prefix_items Absolute) (drop 1 (drop 1 ps)) ps (λ is h. at_word (codes "a") _ ps a (at_mark 58 is (drop 1 ps) colon h)) (value_then (drop 1 (drop 1 ps)) (tail_at Absolute) (prefix_items Absolute) (tail_read Absolute))))
+    (λ colon. rw colon (joins _ (prefix_items true) (drop 1 (drop 1 ps)) ps (λ is h. at_word (codes "a") _ ps a (at_mark 58 is (drop 1 ps) colon h)) (value_then (drop 1 (drop 1 ps)) (tail_at Absolute) (prefix_items true) (tail_read Absolute))))
     (λ colon. rw colon (by_list (drop 1 ps) (λ end. rw end (at_word (codes "a") [] ps a (rw end at_end))) (λ q qs e. rw e tt)))))
     (λ a. rw a (by_list ps
     (λ end. rw end at_end)

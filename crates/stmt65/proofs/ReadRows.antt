@@ -5,19 +5,20 @@ use Rattle.std.specs.List.{filter}
 use Rattle.isa65.specs.Mnemonic.{mnemonic_named}
 use Rattle.isa65.specs.declared.mnemonic.Mnemonic.{Mnemonic}
 use Rattle.isa65.specs.declared.mnemonic.Mnemonic.TheVariants.{Asl, Bbr0, Bne, Cmp, Inc, Jmp, Lda, Ldx, Nop, Ror, Rts}
+use Rattle.isa65.specs.declared.row.Pattern.TheVariants.{Immediate, Direct, Indirect, IndirectX, IndirectY}
 use Rattle.text65.specs.Names.{has_name_form, is_reserved_word}
 use Rattle.stmt65.specs.Directives.{directive_named}
 use Rattle.stmt65.specs.Lexing.{part_at, parts, parts_after}
 use Rattle.stmt65.specs.Names.{is_name}
 use Rattle.stmt65.specs.Parts.{number_of}
 use Rattle.stmt65.specs.Reading.{less_one, named_at, next_value, halved_in, next_half, tail_at, inner_at, immediate_of, form_of, joined, word_datum, mark_datum, next_datum, text_in, further_at, other_at, operation_at, operation_of, constant_of, line_at, reading_of}
-use Rattle.stmt65.specs.SourceLine.{Value, NumberValue, NameValue, DifferenceValue, Form, Empty, Accumulator, Immediate, ImmediateHalf, Direct, DirectX, DirectY, Two, Indirect, IndirectX, IndirectY, NumberDatum, StringDatum, ValueDatum, HalfDatum, Operation, Nothing, Instr, Data, Values, Reserve, Segment, Code, SetCpu, SourceLine, Assignment, PlaceAssignment, Statement}
+use Rattle.stmt65.specs.SourceLine.{Value, NumberValue, NameValue, DifferenceValue, Form, Empty, Accumulator, One, Two, NumberDatum, StringDatum, ValueDatum, HalfDatum, Operation, Nothing, Instr, Data, Values, Reserve, Segment, Code, SetCpu, SourceLine, Assignment, PlaceAssignment, Statement}
 use Rattle.stmt65.specs.declared.directive.Directive.TheVariants.{Word, Dbyt, Addr, Dword}
 use Rattle.stmt65.specs.declared.language.Language.{Language}
 use Rattle.stmt65.specs.declared.language.Language.TheVariants.{Listing, Repair}
-use Rattle.stmt65.specs.declared.source_line.AddressSize.TheVariants.{Absolute, Automatic}
+use Rattle.stmt65.specs.declared.source_line.Notation.TheVariants.{Plain, Half, Absolute, AbsoluteX, AbsoluteY}
 use Rattle.stmt65.specs.declared.source_line.Half.TheVariants.{Low, High}
-use Rattle.stmt65.specs.declared.source_line.Minus.TheVariants.{Zero, One}
+use Rattle.stmt65.specs.declared.source_line.Minus.TheVariants.{Zero, One as MinusOne}
 
 abbrev said : Language → List ℕ → Option SourceLine
 said language line = reading_of language (parts language line)
@@ -29,7 +30,7 @@ abbrev plus : List ℕ → ℕ → Value
 plus name n = NameValue name n Zero
 
 abbrev minus_one : List ℕ → ℕ → Value
-minus_one name n = NameValue name n One
+minus_one name n = NameValue name n MinusOne
 
 abbrev name : Value
 name = plus (codes "name") 0
@@ -68,21 +69,21 @@ accepted =
     ∷ (codes "RTS", op Rts Empty)
     ∷ (codes "aSl A", op Asl Accumulator)
     ∷ (codes "asl", op Asl Empty)
-    ∷ (codes "lda # $01", op Lda (Immediate (number 1)))
-    ∷ (codes "lda#name", op Lda (Immediate name))
-    ∷ (codes "lda Name", op Lda (Direct Automatic (plus (codes "Name") 0)))
-    ∷ (codes "lda name + 2", op Lda (Direct Automatic (plus (codes "name") 2)))
-    ∷ (codes "lda name-1", op Lda (Direct Automatic (minus_one (codes "name") 0)))
-    ∷ (codes "lda name + $0A - 1", op Lda (Direct Automatic (minus_one (codes "name") 10)))
-    ∷ (codes "lda A:name,X", op Lda (DirectX Absolute name))
-    ∷ (codes "lda a : 5 , y", op Lda (DirectY Absolute (number 5)))
-    ∷ (codes "lda $12345678", op Lda (Direct Automatic (number 0x12345678)))
-    ∷ (codes "lda 99999999999999999999", op Lda (Direct Automatic (number 99999999999999999999)))
-    ∷ (codes "jmp (name)", op Jmp (Indirect name))
-    ∷ (codes "lda ($12,X)", op Lda (IndirectX (number 0x12)))
-    ∷ (codes "lda ($12),Y", op Lda (IndirectY (number 0x12)))
+    ∷ (codes "lda # $01", op Lda (One (Plain Immediate) (number 1)))
+    ∷ (codes "lda#name", op Lda (One (Plain Immediate) name))
+    ∷ (codes "lda Name", op Lda (One (Plain Direct) (plus (codes "Name") 0)))
+    ∷ (codes "lda name + 2", op Lda (One (Plain Direct) (plus (codes "name") 2)))
+    ∷ (codes "lda name-1", op Lda (One (Plain Direct) (minus_one (codes "name") 0)))
+    ∷ (codes "lda name + $0A - 1", op Lda (One (Plain Direct) (minus_one (codes "name") 10)))
+    ∷ (codes "lda A:name,X", op Lda (One AbsoluteX name))
+    ∷ (codes "lda a : 5 , y", op Lda (One AbsoluteY (number 5)))
+    ∷ (codes "lda $12345678", op Lda (One (Plain Direct) (number 0x12345678)))
+    ∷ (codes "lda 99999999999999999999", op Lda (One (Plain Direct) (number 99999999999999999999)))
+    ∷ (codes "jmp (name)", op Jmp (One (Plain Indirect) name))
+    ∷ (codes "lda ($12,X)", op Lda (One (Plain IndirectX) (number 0x12)))
+    ∷ (codes "lda ($12),Y", op Lda (One (Plain IndirectY) (number 0x12)))
     ∷ (codes "bbr0 $12,name+1", op Bbr0 (Two (number 0x12) (plus (codes "name") 1)))
-    ∷ (codes "bne a:$1000", op Bne (Direct Absolute (number 0x1000)))
+    ∷ (codes "bne a:$1000", op Bne (One Absolute (number 0x1000)))
     ∷ (codes ".byte \"\"", line (Data (StringDatum [] ∷ [])))
     ∷ (codes ".Byte 1,\"aB; ,'\" , $FF", line (Data (NumberDatum 1 ∷ StringDatum (codes "aB; ,'") ∷ NumberDatum 255 ∷ [])))
     ∷ (codes ".word name-1,$FFFF", line (Values Word (minus_one (codes "name") 0 ∷ number 0xFFFF ∷ [])))
@@ -127,15 +128,15 @@ refused_lines = refl
 -- ---- lines of a repair that are none of a listing
 abbrev repairs : List (List ℕ × SourceLine)
 repairs =
-    (codes "lda #<name", op Lda (ImmediateHalf Low name))
-    ∷ (codes " LDX # > $1234 ; high", op Ldx (ImmediateHalf High (number 0x1234)))
-    ∷ (codes "lda #<(name+1)", op Lda (ImmediateHalf Low (plus (codes "name") 1)))
-    ∷ (codes "lda #>(end-start)", op Lda (ImmediateHalf High difference))
-    ∷ (codes "lda #end-start", op Lda (Immediate difference))
-    ∷ (codes "lda #%1010", op Lda (Immediate (number 10)))
-    ∷ (codes "cmp #'A'", op Cmp (Immediate (number 65)))
-    ∷ (codes "cmp #'''", op Cmp (Immediate (number 39)))
-    ∷ (codes "cmp #';'", op Cmp (Immediate (number 59)))
+    (codes "lda #<name", op Lda (One (Half Low) name))
+    ∷ (codes " LDX # > $1234 ; high", op Ldx (One (Half High) (number 0x1234)))
+    ∷ (codes "lda #<(name+1)", op Lda (One (Half Low) (plus (codes "name") 1)))
+    ∷ (codes "lda #>(end-start)", op Lda (One (Half High) difference))
+    ∷ (codes "lda #end-start", op Lda (One (Plain Immediate) difference))
+    ∷ (codes "lda #%1010", op Lda (One (Plain Immediate) (number 10)))
+    ∷ (codes "cmp #'A'", op Cmp (One (Plain Immediate) (number 65)))
+    ∷ (codes "cmp #'''", op Cmp (One (Plain Immediate) (number 39)))
+    ∷ (codes "cmp #';'", op Cmp (One (Plain Immediate) (number 59)))
     ∷ (codes ".byte <a0,>a0,a0,a0+2,a0-1,end-start", line (Data (HalfDatum Low (plus (codes "a0") 0) ∷ HalfDatum High (plus (codes "a0") 0) ∷ ValueDatum (plus (codes "a0") 0) ∷ ValueDatum (plus (codes "a0") 2) ∷ ValueDatum (minus_one (codes "a0") 0) ∷ ValueDatum difference ∷ [])))
     ∷ (codes ".byte 'x',%11,$FF,\"a\",<($1234)", line (Data (NumberDatum 120 ∷ NumberDatum 3 ∷ NumberDatum 255 ∷ StringDatum (codes "a") ∷ HalfDatum Low (number 0x1234) ∷ [])))
     ∷ (codes ".lobytes a0,b0+1,end-start", line (Data (HalfDatum Low (plus (codes "a0") 0) ∷ HalfDatum Low (plus (codes "b0") 1) ∷ HalfDatum Low difference ∷ [])))

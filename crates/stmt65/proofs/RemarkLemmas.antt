@@ -11,12 +11,13 @@ use Rattle.text65.specs.Names.{is_blank}
 use Rattle.stmt65.specs.declared.language.Language.TheVariants.{Listing}
 use Rattle.stmt65.specs.Lexing.{is_text_byte, part_at, parts, parts_after}
 use Rattle.stmt65.specs.Parts.{Part, Mark, begins_with}
-use Rattle.stmt65.specs.SourceLine.{Value, NumberValue, NameValue, DifferenceValue, Form, Direct, DirectX, DirectY, Datum, NumberDatum, StringDatum, ValueDatum, HalfDatum, Operation, Nothing, Instr, SourceLine, Assignment, PlaceAssignment, Statement}
+use Rattle.stmt65.specs.SourceLine.{Value, NumberValue, NameValue, DifferenceValue, Form, One, Datum, NumberDatum, StringDatum, ValueDatum, HalfDatum, Operation, Nothing, Instr, SourceLine, Assignment, PlaceAssignment, Statement}
 use Rattle.stmt65.specs.Spelling as item
 use Rattle.stmt65.specs.Spelling.{Item, IsPlus, IsMinus, IsValue, IsDatum, IsList, IsItem, Spells, IsSpelling, form_items, operation_items, line_items}
-use Rattle.stmt65.specs.declared.source_line.AddressSize.TheVariants.{Absolute}
+use Rattle.stmt65.specs.declared.source_line.Notation.TheVariants.{Plain}
+use Rattle.isa65.specs.declared.row.Pattern.TheVariants.{Direct}
 use Rattle.stmt65.specs.declared.source_line.Minus.{Minus}
-use Rattle.stmt65.specs.declared.source_line.Minus.TheVariants.{Zero, One}
+use Rattle.stmt65.specs.declared.source_line.Minus.TheVariants.{Zero, One as MinusOne}
 use Rattle.stmt65.proofs.Cases.{by_test}
 use Rattle.stmt65.proofs.SpacingLemmas.{taken}
 
@@ -95,7 +96,7 @@ plus_closed n ps (inl h) = rw h.1 refl
 plus_closed n ps (inr h) = rw h.2 refl
 
 minus_closed : (less : Minus) (ps : List Part) → IsMinus less ps → AreClosed ps
-minus_closed One ps h = rw h refl
+minus_closed MinusOne ps h = rw h refl
 minus_closed Zero ps h = rw h refl
 
 value_closed : (v : Value) (ps : List Part) → IsValue v ps → AreClosed ps
@@ -139,9 +140,7 @@ spells_closed (i ∷ is) ps k h =
     rw h.2 (both_closed h.0 h.1 (item_closed i h.0 b.0 h.3) (spells_closed is h.1 b.1 h.4))
 
 form_closed : (f : Form) → list_all is_closed_item (form_items f) ≡ true
-form_closed (Direct Absolute v) = refl
-form_closed (DirectX Absolute v) = refl
-form_closed (DirectY Absolute v) = refl
+form_closed (One (Plain Direct) v) = refl
 form_closed _ = refl
 
 operation_closed : (o : Operation) → list_all is_closed_item (operation_items o) ≡ true

@@ -7,8 +7,11 @@ use Rattle.stmt65.specs.declared.language.Language.TheVariants.{Listing}
 use Rattle.stmt65.specs.declared.source_line.AddressSize.{AddressSize}
 use Rattle.stmt65.specs.declared.source_line.AddressSize.TheVariants.{Absolute, Automatic}
 use Rattle.stmt65.specs.declared.source_line.Minus.{Minus}
-use Rattle.stmt65.specs.declared.source_line.Minus.TheVariants.{Zero, One}
-use Rattle.stmt65.specs.SourceLine.{Value, NumberValue, NameValue, DifferenceValue, Form, Empty, Accumulator, Immediate, ImmediateHalf, Direct, DirectX, DirectY, Two, Indirect, IndirectX, IndirectY, Datum, NumberDatum, StringDatum, ValueDatum, HalfDatum, Operation, Nothing, Instr, Data, Values, Reserve, Segment, Code, SetCpu, SourceLine, Assignment, PlaceAssignment, Statement}
+use Rattle.stmt65.specs.declared.source_line.Minus.TheVariants.{Zero, One as MinusOne}
+use Rattle.stmt65.specs.declared.source_line.Notation.TheVariants as notation
+use Rattle.isa65.specs.declared.row.Pattern.TheVariants.{Immediate, Direct, DirectX, DirectY, Indirect, IndirectX, IndirectY}
+use Rattle.stmt65.specs.Forms.{sized}
+use Rattle.stmt65.specs.SourceLine.{Value, NumberValue, NameValue, DifferenceValue, is_absolute, Form, Empty, Accumulator, One, Two, Datum, NumberDatum, StringDatum, ValueDatum, HalfDatum, Operation, Nothing, Instr, Data, Values, Reserve, Segment, Code, SetCpu, SourceLine, Assignment, PlaceAssignment, Statement}
 use Rattle.stmt65.specs.declared.directive.Directive.{Directive}
 use Rattle.stmt65.specs.Directives.{directive_text}
 use Rattle.stmt65.specs.Parts.{Part, Word, Number, Define, Mark, number_of}
@@ -66,11 +69,11 @@ stops_mark b ps p m = record { plus = p; minus = m }
 
 less_again : (w : List ℕ) (n : ℕ) (less : Minus) (minus rest : List Part) → IsMinus less minus → Stops rest → less_one Listing w n (minus ++ rest) ≡ Some (NameValue w n less, rest)
 unfolding less_one
-less_again w n One minus rest h stop = rw h refl
+less_again w n MinusOne minus rest h stop = rw h refl
 less_again w n Zero minus rest h stop = rw h (rw stop.minus refl)
 
 no_plus : (less : Minus) (minus rest : List Part) → IsMinus less minus → Stops rest → is_mark 43 (minus ++ rest) ≡ false
-no_plus One minus rest h stop = rw h refl
+no_plus MinusOne minus rest h stop = rw h refl
 no_plus Zero minus rest h stop = rw h stop.plus
 
 named_again : (w : List ℕ) (n : ℕ) (less : Minus) (plus minus rest : List Part) → IsPlus n plus → IsMinus less minus → Stops rest → named_at Listing w (plus ++ (minus ++ rest)) ≡ Some (NameValue w n less, rest)
@@ -106,12 +109,28 @@ first_value v front rest h stop = grind (arith, value_begins, value_again)
 
 -- an operand that begins with a value, with or without `a:`
 direct : (size : AddressSize) (v : Value) (is : List Item) (ps : List Part) (f : Form)
-    → Spells (prefix_items size ++ value v ∷ is) ps
+    → Spells (prefix_items (is_absolute size) ++ value v ∷ is) ps
     → ((rest : List Part) → Spells is rest → Stops rest × (tail_at size v rest ≡ Some f))
     → form_of Listing ps ≡ Some f
 unfolding form_of
 direct Absolute v is ps f h k = grind (arith, un_word, un_mark, un_value, value_again)
 direct Automatic v is ps f h k = grind (arith, un_value, first_value)
+
+direct_alone : (size : AddressSize) (v : Value) (ps : List Part) → Spells (prefix_items (is_absolute size) ++ value v ∷ []) ps → form_of Listing ps ≡ Some (One (sized size Direct) v)
+unfolding tail_at
+direct_alone size v ps h = direct size v [] ps _ h (λ rest g. rw (nothing_left rest g) (stops_nil, refl))
+
+direct_x : (size : AddressSize) (v : Value) (ps : List Part) → Spells (prefix_items (is_absolute size) ++ value v ∷ mark 44 ∷ word (codes "x") ∷ []) ps → form_of Listing ps ≡ Some (One (sized size DirectX) v)
+unfolding tail_at
+direct_x size v ps h =
+    direct size v _ ps _ h (λ rest g. let c = un_mark 44 _ rest g in let x = un_word (codes "x") [] c.0 c.2 in
+    rw (c.1, x.2, nothing_left x.1 x.4) (stops_mark 44 _ refl refl, rw x.3 refl))
+
+direct_y : (size : AddressSize) (v : Value) (ps : List Part) → Spells (prefix_items (is_absolute size) ++ value v ∷ mark 44 ∷ word (codes "y") ∷ []) ps → form_of Listing ps ≡ Some (One (sized size DirectY) v)
+unfolding tail_at
+direct_y size v ps h =
+    direct size v _ ps _ h (λ rest g. let c = un_mark 44 _ rest g in let y = un_word (codes "y") [] c.0 c.2 in
+    rw (c.1, y.2, nothing_left y.1 y.4) (stops_mark 44 _ refl refl, rw (other y.0 (codes "y") (codes "x") y.3 refl, y.3) refl))
 
 -- an operand that begins with `(` and a value
 bracketed : (v : Value) (is : List Item) (ps : List Part) (f : Form)
@@ -125,24 +144,23 @@ pub form_again : (f : Form) (ps : List Part) → Spells (form_items f) ps → fo
 unfolding form_of immediate_of tail_at inner_at
 form_again Empty ps h = rw (nothing_left ps h) refl
 form_again Accumulator ps h = let a = un_word (codes "a") [] ps h in rw (a.2, nothing_left a.1 a.4, a.3) refl
-form_again (Immediate v) ps h = grind (arith, un_mark, un_value, nothing_left, value_again)
-form_again (ImmediateHalf half v) ps h = absurd (un_last unwritten ps h)
-form_again (Direct size v) ps h = direct size v [] ps _ h (λ rest g. rw (nothing_left rest g) (stops_nil, refl))
-form_again (DirectX size v) ps h =
-    direct size v _ ps _ h (λ rest g. let c = un_mark 44 _ rest g in let x = un_word (codes "x") [] c.0 c.2 in
-    rw (c.1, x.2, nothing_left x.1 x.4) (stops_mark 44 _ refl refl, rw x.3 refl))
-form_again (DirectY size v) ps h =
-    direct size v _ ps _ h (λ rest g. let c = un_mark 44 _ rest g in let y = un_word (codes "y") [] c.0 c.2 in
-    rw (c.1, y.2, nothing_left y.1 y.4) (stops_mark 44 _ refl refl, rw (other y.0 (codes "y") (codes "x") y.3 refl, y.3) refl))
+form_again (One (notation.Plain Immediate) v) ps h = grind (arith, un_mark, un_value, nothing_left, value_again)
+form_again (One (notation.Half half) v) ps h = absurd (un_last unwritten ps h)
+form_again (One (notation.Plain Direct) v) ps h = direct_alone Automatic v ps h
+form_again (One (notation.Plain DirectX) v) ps h = direct_x Automatic v ps h
+form_again (One (notation.Plain DirectY) v) ps h = direct_y Automatic v ps h
+form_again (One notation.Absolute v) ps h = direct_alone Absolute v ps h
+form_again (One notation.AbsoluteX v) ps h = direct_x Absolute v ps h
+form_again (One notation.AbsoluteY v) ps h = direct_y Absolute v ps h
 form_again (Two v u) ps h =
     direct Automatic v _ ps _ h (λ rest g. let c = un_mark 44 _ rest g in let e = un_value u [] c.0 c.2 in let b = value_begins u e.0 [] e.3 in
     rw (c.1, e.2, nothing_left e.1 e.4) (stops_mark 44 _ refl refl, rw (b.x, b.y, value_again u e.0 [] e.3 stops_nil) refl))
-form_again (Indirect v) ps h =
+form_again (One (notation.Plain Indirect) v) ps h =
     bracketed v _ ps _ h (λ rest g. let c = un_mark 41 [] rest g in rw (c.1, nothing_left c.0 c.2) (stops_mark 41 _ refl refl, refl))
-form_again (IndirectX v) ps h =
+form_again (One (notation.Plain IndirectX) v) ps h =
     bracketed v _ ps _ h (λ rest g. let c = un_mark 44 _ rest g in let x = un_word (codes "x") _ c.0 c.2 in let d = un_mark 41 [] x.1 x.4 in
     rw (c.1, x.2, d.1, nothing_left d.0 d.2) (stops_mark 44 _ refl refl, rw x.3 refl))
-form_again (IndirectY v) ps h =
+form_again (One (notation.Plain IndirectY) v) ps h =
     bracketed v _ ps _ h (λ rest g. let d = un_mark 41 _ rest g in let c = un_mark 44 _ d.0 d.2 in let y = un_word (codes "y") [] c.0 c.2 in
     rw (d.1, c.1, y.2, nothing_left y.1 y.4) (stops_mark 41 _ refl refl, rw y.3 refl))
 

@@ -1,11 +1,11 @@
 -- How a statement is coded, as a list of fragments: what each byte of it stands for.
 --
 -- A fragment is a fixed byte, a value from 0 to $FF, a zero-page address, a number as a directive gives it, a signed distance, half
--- of a word, or a number of equal bytes, as `.res` gives and as is missing before a segment. `ways` is the table of the written
--- forms: for each, the modes that are written so, in the order in which they are tried; the first one that the mnemonic has on the
--- CPU is taken. The coding depends on the CPU, the earlier lines and the written form alone. It shares no definition with the
+-- of a word, or a number of equal bytes, as `.res` gives and as is missing before a segment. `modes_in` is the table of the notations
+-- of an expression: for each, the modes that are written so, in the order in which they are tried; the first one that the mnemonic has
+-- on the CPU is taken. The coding depends on the CPU, the earlier lines and the written form alone. It shares no definition with the
 -- printing of a statement, so that the law of reassembly compares two readings.
-use Rattle.std.specs.Prelude.{ℕ, ◌+◌, ◌-◌, ◌/◌, ◌%◌, Bool, true, false, ◌&&◌, List, [], ◌∷◌, ◌++◌, length, map, replicate, nat_le, nat_lt, if◌then◌else◌, Option, Some, None, is_some, unwrap_or}
+use Rattle.std.specs.Prelude.{ℕ, ◌+◌, ◌-◌, ◌/◌, ◌%◌, Bool, true, false, ◌&&◌, List, [], ◌∷◌, length, map, replicate, nat_le, nat_lt, if◌then◌else◌, Option, Some, None, is_some, unwrap_or}
 use Rattle.std.specs.List.{flat_map}
 use Rattle.isa65.specs.declared.cpu.Cpu.{Cpu}
 use Rattle.isa65.specs.declared.mnemonic.Mnemonic.{Mnemonic}
@@ -13,11 +13,15 @@ use Rattle.isa65.specs.declared.mode.Mode.{Mode}
 use Rattle.isa65.specs.declared.mode.Mode.TheVariants.{Imp, Acc, Imm, Zp, Zpx, Zpy, Abs, Absx, Absy, Ind, Indx, Indy, Zpind, Absindx, Rel, Zprel}
 use Rattle.isa65.specs.Cpu.{table_of}
 use Rattle.isa65.specs.Opcodes.{encoded}
-use Rattle.stmt65.specs.SourceLine.{Value, NumberValue, Form, Empty, Accumulator, Immediate, ImmediateHalf, Direct, DirectX, DirectY, Two, Indirect, IndirectX, IndirectY, Datum, NumberDatum, StringDatum, ValueDatum, HalfDatum, Operation, Nothing, Instr, Data, Values, Reserve, Segment, Code, SetCpu}
+use Rattle.isa65.specs.declared.row.OperandKind.{OperandKind}
+use Rattle.isa65.specs.declared.row.OperandKind.TheVariants as kind
+use Rattle.isa65.specs.declared.row.Pattern.TheVariants as pattern
+use Rattle.stmt65.specs.SourceLine.{Value, NumberValue, Form, Empty, Accumulator, One, Two, Datum, NumberDatum, StringDatum, ValueDatum, HalfDatum, Operation, Nothing, Instr, Data, Values, Reserve, Segment, Code, SetCpu}
 use Rattle.stmt65.specs.declared.source_line.Half.{Half}
 use Rattle.stmt65.specs.declared.source_line.Half.TheVariants.{Low, High}
 use Rattle.stmt65.specs.Layout.{Layout, start_of}
-use Rattle.stmt65.specs.declared.source_line.AddressSize.TheVariants.{Absolute, Automatic}
+use Rattle.stmt65.specs.declared.source_line.Notation.{Notation}
+use Rattle.stmt65.specs.declared.source_line.Notation.TheVariants as notation
 use Rattle.stmt65.specs.declared.directive.Directive.{Directive}
 use Rattle.stmt65.specs.declared.directive.Directive.TheVariants.{Word, Dbyt, Addr, Dword}
 use Rattle.stmt65.specs.Symbols.{Definition, value_in, is_known, below, word_in, byte_in, has_zero_page_size}
@@ -132,44 +136,60 @@ fragment_bytes all next (Fill n b) = replicate n (low b)
 
 -- ---- instructions
 
--- a way to code an operand: a mode, and the fragments after the opcode
-abbrev pub Way : Type 0
-Way = Mode × List Fragment
+-- whether the first expression of an operand has zero-page size
+abbrev pub is_short : List Definition → Form → Bool
+is_short above (One notation v) = has_zero_page_size above v
+is_short above (Two v w) = has_zero_page_size above v
+is_short above _ = false
 
 -- an operand of 16 bits, as `.addr` gives it
 abbrev pub word_operand : Value → Fragment
 word_operand v = Entry Addr v
 
--- an operand that only the zero page has
-abbrev pub zero_page : List Definition → Value → Fragment
-zero_page above v = if has_zero_page_size above v then ZeroPage v else Oversized v
+-- an operand that only the zero page has; `short` says whether it has that size
+abbrev pub zero_page : Bool → Value → Fragment
+zero_page short v = if short then ZeroPage v else Oversized v
 
--- a zero-page and an absolute mode that are written alike: the zero-page one goes first if the operand has that size
-abbrev pub by_size : List Definition → Mode → Mode → Value → List Way
-by_size above short long v =
-    if has_zero_page_size above v then (short, ZeroPage v ∷ []) ∷ (long, word_operand v ∷ []) ∷ []
-    else (long, word_operand v ∷ []) ∷ (short, Oversized v ∷ []) ∷ []
+-- The modes of a notation, each with the kind of its operand, in the order in which they are tried: of a zero-page and an absolute mode
+-- that differ in size alone the one of the operand's size goes first.
+abbrev pub modes_in : Bool → Notation → List (Mode × OperandKind)
+modes_in short (notation.Plain pattern.Immediate) = (Imm, kind.Byte) ∷ []
+modes_in short (notation.Half half) = (Imm, kind.Byte) ∷ []
+modes_in short (notation.Plain pattern.Direct) = if short then (Zp, kind.ZeroPage) ∷ (Abs, kind.Word) ∷ (Rel, kind.Distance) ∷ [] else (Abs, kind.Word) ∷ (Zp, kind.ZeroPage) ∷ (Rel, kind.Distance) ∷ []
+modes_in short (notation.Plain pattern.DirectX) = if short then (Zpx, kind.ZeroPage) ∷ (Absx, kind.Word) ∷ [] else (Absx, kind.Word) ∷ (Zpx, kind.ZeroPage) ∷ []
+modes_in short (notation.Plain pattern.DirectY) = if short then (Zpy, kind.ZeroPage) ∷ (Absy, kind.Word) ∷ [] else (Absy, kind.Word) ∷ (Zpy, kind.ZeroPage) ∷ []
+modes_in short notation.Absolute = (Abs, kind.Word) ∷ []
+modes_in short notation.AbsoluteX = (Absx, kind.Word) ∷ []
+modes_in short notation.AbsoluteY = (Absy, kind.Word) ∷ []
+modes_in short (notation.Plain pattern.Indirect) = (Zpind, kind.ZeroPage) ∷ (Ind, kind.Word) ∷ []
+modes_in short (notation.Plain pattern.IndirectX) = (Indx, kind.ZeroPage) ∷ (Absindx, kind.Word) ∷ []
+modes_in short (notation.Plain pattern.IndirectY) = (Indy, kind.ZeroPage) ∷ []
 
--- a zero-page mode and an absolute one: the zero-page one goes first, whatever size the operand has
-abbrev pub zero_page_first : List Definition → Mode → Mode → Value → List Way
-zero_page_first above short long v = (short, zero_page above v ∷ []) ∷ (long, word_operand v ∷ []) ∷ []
+-- a byte, or with `<` or `>` before it a half
+abbrev pub byte_fragment : Notation → Value → Fragment
+byte_fragment (notation.Half half) v = HalfOf half v
+byte_fragment notation v = Single v
 
--- the modes that are written so, in the order in which they are tried; after `a:` the absolute one alone
-unfoldable pub ways : List Definition → Form → List Way
-ways above Empty = (Imp, []) ∷ []
-ways above Accumulator = (Acc, []) ∷ []
-ways above (Immediate v) = (Imm, Single v ∷ []) ∷ []
-ways above (ImmediateHalf half v) = (Imm, HalfOf half v ∷ []) ∷ []
-ways above (Direct Absolute v) = (Abs, word_operand v ∷ []) ∷ []
-ways above (Direct Automatic v) = by_size above Zp Abs v ++ (Rel, Distance v ∷ []) ∷ []
-ways above (DirectX Absolute v) = (Absx, word_operand v ∷ []) ∷ []
-ways above (DirectX Automatic v) = by_size above Zpx Absx v
-ways above (DirectY Absolute v) = (Absy, word_operand v ∷ []) ∷ []
-ways above (DirectY Automatic v) = by_size above Zpy Absy v
-ways above (Two v w) = (Zprel, zero_page above v ∷ Distance w ∷ []) ∷ []
-ways above (Indirect v) = zero_page_first above Zpind Ind v
-ways above (IndirectX v) = zero_page_first above Indx Absindx v
-ways above (IndirectY v) = (Indy, zero_page above v ∷ []) ∷ []
+-- what an operand of a kind is coded as
+abbrev pub kind_fragment : Bool → Notation → OperandKind → Value → Fragment
+kind_fragment short notation kind.Byte v = byte_fragment notation v
+kind_fragment short notation kind.ZeroPage v = zero_page short v
+kind_fragment short notation kind.Word v = word_operand v
+kind_fragment short notation kind.Distance v = Distance v
+
+-- a way to code an operand: a mode, and the fragments after the opcode
+abbrev pub Way : Type 0
+Way = Mode × List Fragment
+
+abbrev pub way_in : Bool → Notation → Value → Mode × OperandKind → Way
+way_in short notation v mode = (mode.0, kind_fragment short notation mode.1 v ∷ [])
+
+-- the ways of a form, in the order in which they are tried
+unfoldable pub ways : Bool → Form → List Way
+ways short Empty = (Imp, []) ∷ []
+ways short Accumulator = (Acc, []) ∷ []
+ways short (One notation v) = map (way_in short notation v) (modes_in short notation)
+ways short (Two v w) = (Zprel, zero_page short v ∷ Distance w ∷ []) ∷ []
 
 -- with the opcode in front, or else what the other ways give
 abbrev pub coded_so : Option ℕ → List Fragment → Option (List Fragment) → Option (List Fragment)
@@ -206,7 +226,7 @@ gap layout at (Some start) = Fill (start - at) layout.fill ∷ []
 -- the coding of an operation, or none if a mnemonic has no mode of the written form
 unfoldable pub coding : State → Operation → Option (List Fragment)
 coding s Nothing = Some []
-coding s (Instr m form) = first_way s.cpu m (ways s.above form)
+coding s (Instr m form) = first_way s.cpu m (ways (is_short s.above form) form)
 coding s (Data ds) = Some (flat_map datum_fragments ds)
 coding s (Values d vs) = Some (map (Entry d) vs)
 coding s (Reserve n b) = Some (Fill n b ∷ [])

@@ -1,40 +1,47 @@
 -- The written forms of an operand, each as a pattern: E stands for an expression, every other character for itself.
-use Rattle.std.specs.Prelude.{ℕ, List, [], ◌∷◌, codes}
+use Rattle.std.specs.Prelude.{ℕ, Bool, true, false, List, [], ◌∷◌, codes}
+use Rattle.isa65.specs.Mode.{pattern_text}
+use Rattle.isa65.specs.declared.row.Pattern.{Pattern}
+use Rattle.isa65.specs.declared.row.Pattern.TheVariants.{Immediate, Direct, DirectX, DirectY}
 use Rattle.stmt65.specs.declared.source_line.AddressSize.{AddressSize}
-use Rattle.stmt65.specs.declared.source_line.AddressSize.TheVariants.{Automatic}
-use Rattle.stmt65.specs.SourceLine.{Value, Form, Empty, Accumulator, Immediate, ImmediateHalf, Direct, DirectX, DirectY, Two, Indirect, IndirectX, IndirectY}
+use Rattle.stmt65.specs.declared.source_line.AddressSize.TheVariants as size
+use Rattle.stmt65.specs.declared.source_line.Notation.{Notation}
+use Rattle.stmt65.specs.declared.source_line.Notation.TheVariants.{Plain, Half, Absolute, AbsoluteX, AbsoluteY}
+use Rattle.stmt65.specs.SourceLine.{Value, Form, Empty, Accumulator, One, Two}
 
--- the pattern of a form, without `a:` and without the `<` or `>` of a half
+-- the pattern of a notation, without `a:` and without the `<` or `>` of a half
+abbrev pub pattern_of : Notation → Pattern
+pattern_of (Plain pattern) = pattern
+pattern_of (Half half) = Immediate
+pattern_of Absolute = Direct
+pattern_of AbsoluteX = DirectX
+pattern_of AbsoluteY = DirectY
+
+-- a pattern, after `a:` if the operand is absolute; only these three can be so
+abbrev pub sized : AddressSize → Pattern → Notation
+sized size.Automatic pattern = Plain pattern
+sized size.Absolute Direct = Absolute
+sized size.Absolute DirectX = AbsoluteX
+sized size.Absolute DirectY = AbsoluteY
+sized size.Absolute pattern = Plain pattern
+
+-- the pattern of a form
 abbrev pub form_text : Form → List ℕ
 form_text Empty = codes ""
 form_text Accumulator = codes "a"
-form_text (Immediate v) = codes "#E"
-form_text (ImmediateHalf half v) = codes "#E"
-form_text (Direct size v) = codes "E"
-form_text (DirectX size v) = codes "E,x"
-form_text (DirectY size v) = codes "E,y"
+form_text (One notation v) = pattern_text (pattern_of notation)
 form_text (Two v w) = codes "E,E"
-form_text (Indirect v) = codes "(E)"
-form_text (IndirectX v) = codes "(E,x)"
-form_text (IndirectY v) = codes "(E),y"
 
 -- its expressions, in order
 abbrev pub form_values : Form → List Value
 form_values Empty = []
 form_values Accumulator = []
-form_values (Immediate v) = v ∷ []
-form_values (ImmediateHalf half v) = v ∷ []
-form_values (Direct size v) = v ∷ []
-form_values (DirectX size v) = v ∷ []
-form_values (DirectY size v) = v ∷ []
+form_values (One notation v) = v ∷ []
 form_values (Two v w) = v ∷ w ∷ []
-form_values (Indirect v) = v ∷ []
-form_values (IndirectX v) = v ∷ []
-form_values (IndirectY v) = v ∷ []
 
 -- whether `a:` stands before it
-abbrev pub form_size : Form → AddressSize
-form_size (Direct size v) = size
-form_size (DirectX size v) = size
-form_size (DirectY size v) = size
-form_size _ = Automatic
+abbrev pub has_prefix : Form → Bool
+has_prefix (One Absolute v) = true
+has_prefix (One AbsoluteX v) = true
+has_prefix (One AbsoluteY v) = true
+has_prefix _ = false

@@ -7,22 +7,18 @@ use denote.Enum.Bare.{sameb}
 use Rattle.isa65.specs.declared.cpu.Cpu.{Cpu}
 use Rattle.isa65.specs.declared.mnemonic.Mnemonic.{Mnemonic}
 use Rattle.isa65.specs.declared.mode.Mode.{Mode}
-use Rattle.isa65.specs.declared.row.OperandKind.{OperandKind}
-use Rattle.isa65.specs.declared.row.OperandKind.TheVariants as kind
 use Rattle.isa65.specs.declared.row.Row.{Row}
 use Rattle.isa65.specs.declared.row.Row.TheVariants as row
 use Rattle.isa65.specs.Cpu.{table_of}
 use Rattle.isa65.specs.Mode.{len_of, row_of, written, zero_page_of, IsZeroPageOf}
 use Rattle.isa65.specs.contracts.mode.Mode as mode
 use Rattle.isa65.specs.Opcodes.{encoded}
-use Rattle.stmt65.specs.Forms.{form_text, form_values, form_size}
-use Rattle.stmt65.specs.SourceLine.{is_absolute, Value, Form, ImmediateHalf, Instr}
-use Rattle.stmt65.specs.Symbols.{Definition, has_zero_page_size}
-use Rattle.stmt65.specs.Coding.{Fragment, Fixed, Single, HalfOf, State, word_operand, Distance, Way, zero_page, ways, coding, coding_len}
-
--- whether `a:` stands before the expression
-abbrev pub has_prefix : Form → Bool
-has_prefix form = is_absolute (form_size form)
+use Rattle.stmt65.specs.Forms.{form_text, has_prefix}
+use Rattle.stmt65.specs.SourceLine.{Form, One, Two, Instr}
+use Rattle.stmt65.specs.declared.source_line.Notation.TheVariants.{Plain}
+use Rattle.isa65.specs.declared.row.Pattern.TheVariants.{Direct}
+use Rattle.stmt65.specs.Symbols.{Definition}
+use Rattle.stmt65.specs.Coding.{Fragment, Fixed, State, is_short, kind_fragment, Way, ways, coding, coding_len}
 
 -- x is a mode of the form: it is written so, and if `a:` stands there, it is absolute with a zero-page mode that is written alike
 abbrev pub IsModeOf : Form → Mode → Type 0
@@ -35,20 +31,20 @@ pub record IsWay (form : Form) (way : Way) : Type 0 where
   pub of_form : IsModeOf form way.0
   pub length : suc (coding_len way.1) ≡ len_of way.0
 
-abbrev pub EachWay : Form → List Way → Type 0
-EachWay form [] = Unit {0}
-EachWay form (way ∷ others) = IsWay form way × EachWay form others
+abbrev pub EachWay : (Way → Type 0) → List Way → Type 0
+EachWay P [] = Unit {0}
+EachWay P (way ∷ others) = P way × EachWay P others
 
 -- Each way is a mode of the form.
 abbrev pub WaysAreModes : Type 0
-WaysAreModes = (above : List Definition) (form : Form) → EachWay form (ways above form)
+WaysAreModes = (short : Bool) (form : Form) → EachWay (IsWay form) (ways short form)
 
 abbrev pub is_way : Mode → Way → Bool
 is_way x way = sameb mode.the_type way.0 x
 
 -- Each mode of the form is a way.
 abbrev pub ModesAreWays : Type 0
-ModesAreWays = (above : List Definition) (form : Form) (x : Mode) → IsModeOf form x → list_any (is_way x) (ways above form) ≡ true
+ModesAreWays = (short : Bool) (form : Form) (x : Mode) → IsModeOf form x → list_any (is_way x) (ways short form) ≡ true
 
 -- ---- the way that is taken
 
@@ -56,31 +52,14 @@ ModesAreWays = (above : List Definition) (form : Form) (x : Mode) → IsModeOf f
 abbrev pub HasMode : Cpu → Mnemonic → Mode → Type 0
 HasMode cpu m x = IsSome (encoded (table_of cpu) m x)
 
--- whether the first expression of the operand has zero-page size
-abbrev pub is_short : List Definition → List Value → Bool
-is_short above [] = false
-is_short above (v ∷ vs) = has_zero_page_size above v
+abbrev pub row_fragments : Bool → Form → Row → List Fragment
+row_fragments short (One notation v) (row.One pattern kind) = kind_fragment short notation kind v ∷ []
+row_fragments short (Two v w) (row.Two first second) = kind_fragment short (Plain Direct) first v ∷ kind_fragment short (Plain Direct) second w ∷ []
+row_fragments short _ _ = []
 
--- a byte, or with `<` or `>` before it a half
-abbrev pub byte_fragment : Form → Value → Fragment
-byte_fragment (ImmediateHalf half v) w = HalfOf half w
-byte_fragment form w = Single w
-
--- what an operand of a kind is coded as in a form
-abbrev pub kind_fragment : List Definition → Form → OperandKind → Value → Fragment
-kind_fragment above form kind.Byte v = byte_fragment form v
-kind_fragment above form kind.ZeroPage v = zero_page above v
-kind_fragment above form kind.Word v = word_operand v
-kind_fragment above form kind.Distance v = Distance v
-
-abbrev pub row_fragments : List Definition → Form → Row → List Value → List Fragment
-row_fragments above form (row.One pattern kind) (v ∷ []) = kind_fragment above form kind v ∷ []
-row_fragments above form (row.Two first second) (v ∷ w ∷ []) = kind_fragment above form first v ∷ kind_fragment above form second w ∷ []
-row_fragments above form _ _ = []
-
--- what stands after the opcode in a mode
-abbrev pub mode_fragments : List Definition → Form → Mode → List Fragment
-mode_fragments above form m = row_fragments above form (row_of m) (form_values form)
+-- what stands after the opcode in a mode, by the kinds of its row
+abbrev pub mode_fragments : Bool → Form → Mode → List Fragment
+mode_fragments short form m = row_fragments short form (row_of m)
 
 -- The fragments are those of one mode of the form. If the mnemonic has a zero-page and an absolute mode that are written so, it is
 -- the one of the operand's size.
@@ -89,9 +68,9 @@ pub record TakesMode (cpu : Cpu) (above : List Definition) (m : Mnemonic) (form 
   pub opcode : ℕ
   pub of_form : IsModeOf form mode
   pub has : encoded (table_of cpu) m mode ≡ Some opcode
-  pub coded : fragments ≡ Fixed opcode ∷ mode_fragments above form mode
-  pub short : (y : Mode) → IsZeroPageOf mode y → IsModeOf form y → HasMode cpu m y → is_short above (form_values form) ≡ true
-  pub long : (z : Mode) → IsZeroPageOf z mode → IsModeOf form z → HasMode cpu m z → is_short above (form_values form) ≡ false
+  pub coded : fragments ≡ Fixed opcode ∷ mode_fragments (is_short above form) form mode
+  pub short : (y : Mode) → IsZeroPageOf mode y → IsModeOf form y → HasMode cpu m y → is_short above form ≡ true
+  pub long : (z : Mode) → IsZeroPageOf z mode → IsModeOf form z → HasMode cpu m z → is_short above form ≡ false
 
 abbrev pub TakesModes : Type 0
 TakesModes = (s : State) (m : Mnemonic) (form : Form) (fragments : List Fragment)

@@ -4,18 +4,17 @@ use Rattle.std.specs.List.{list_all}
 use Rattle.isa65.specs.Cpu.{cpu_text}
 use Rattle.isa65.specs.Mode.{row_of}
 use Rattle.isa65.specs.declared.mode.Mode.{Mode}
-use Rattle.isa65.specs.declared.row.Pattern.{Pattern}
-use Rattle.isa65.specs.declared.row.Pattern.TheVariants as pattern
 use Rattle.isa65.specs.declared.row.Row.{Row}
 use Rattle.isa65.specs.declared.row.Row.TheVariants as row
 use Rattle.text65.specs.Names.{has_name_form}
 use Rattle.stmt65.specs.declared.language.Language.TheVariants.{Listing}
-use Rattle.stmt65.specs.SourceLine.{Value, NumberValue, NameValue, Form, Empty, Accumulator, Immediate, Direct, DirectX, DirectY, Two, Indirect, IndirectX, IndirectY, NumberDatum, Nothing, Instr, Data, Values, Segment, Code, SetCpu, SourceLine, Assignment, PlaceAssignment, Statement}
+use Rattle.stmt65.specs.Forms.{sized}
+use Rattle.stmt65.specs.SourceLine.{Value, NumberValue, NameValue, Form, Empty, Accumulator, One, Two, NumberDatum, Nothing, Instr, Data, Values, Segment, Code, SetCpu, SourceLine, Assignment, PlaceAssignment, Statement}
 use Rattle.stmt65.specs.declared.directive.Directive.{Directive}
 use Rattle.stmt65.specs.declared.directive.Directive.TheVariants.{Word, Addr}
 use Rattle.stmt65.specs.declared.source_line.AddressSize.{AddressSize}
 use Rattle.stmt65.specs.declared.source_line.AddressSize.TheVariants.{Absolute, Automatic}
-use Rattle.stmt65.specs.declared.source_line.Minus.TheVariants.{Zero, One}
+use Rattle.stmt65.specs.declared.source_line.Minus.TheVariants.{Zero, One as MinusOne}
 use Rattle.stmt65.specs.Tables.{entries, entry_number, cut_text}
 use Rattle.stmt65.specs.Names.{is_name}
 use Rattle.stmt65.specs.Lexing.{parts}
@@ -32,19 +31,9 @@ abbrev pub address_size : Bool → AddressSize
 address_size true = Absolute
 address_size false = Automatic
 
--- an operand in a pattern; `size` says whether `a:` stands before it
-abbrev pub pattern_form : Pattern → AddressSize → Value → Form
-pattern_form pattern.Immediate size v = Immediate v
-pattern_form pattern.Direct size v = Direct size v
-pattern_form pattern.DirectX size v = DirectX size v
-pattern_form pattern.DirectY size v = DirectY size v
-pattern_form pattern.Indirect size v = Indirect v
-pattern_form pattern.IndirectX size v = IndirectX v
-pattern_form pattern.IndirectY size v = IndirectY v
-
 abbrev pub row_form : Row → AddressSize → OperandsView → Form
 row_form row.Accumulator size view.none = Accumulator
-row_form (row.One pattern kind) size (view.one e) = pattern_form pattern size (source_value e)
+row_form (row.One pattern kind) size (view.one e) = One (sized size pattern) (source_value e)
 row_form (row.Two first second) size (view.two e f) = Two (source_value e) (source_value f)
 row_form _ size _ = Empty
 
@@ -59,7 +48,7 @@ entry_value d bytes = NumberValue (entry_number d bytes)
 -- the entry of a return table
 abbrev pub return_value : Option TargetView → Value
 return_value None = NumberValue 0xFFFF
-return_value (Some t) = NameValue t.name t.offset One
+return_value (Some t) = NameValue t.name t.offset MinusOne
 
 -- A statement as it is read, without a label before it.
 abbrev pub source_line : StatementView → SourceLine

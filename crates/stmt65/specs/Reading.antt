@@ -10,12 +10,15 @@ use Rattle.text65.specs.Names.{has_name_form}
 use Rattle.stmt65.specs.Signs.{hash, left_paren, right_paren, star, plus, comma, minus, colon, less, equals, greater}
 use Rattle.stmt65.specs.declared.language.Language.{Language}
 use Rattle.stmt65.specs.declared.language.Language.TheVariants.{Listing, Repair}
-use Rattle.stmt65.specs.SourceLine.{is_absolute, Value, NumberValue, NameValue, DifferenceValue, Form, Empty, Accumulator, Immediate, ImmediateHalf, Direct, DirectX, DirectY, Two, Indirect, IndirectX, IndirectY, Datum, NumberDatum, StringDatum, ValueDatum, HalfDatum, Operation, Nothing, Instr, Data, Values, Reserve, Segment, Code, SetCpu, SourceLine, Assignment, PlaceAssignment, Statement}
+use Rattle.isa65.specs.declared.row.Pattern.TheVariants.{Immediate, Direct, DirectX, DirectY, Indirect, IndirectX, IndirectY}
+use Rattle.stmt65.specs.Forms.{sized}
+use Rattle.stmt65.specs.SourceLine.{is_absolute, Value, NumberValue, NameValue, DifferenceValue, Form, Empty, Accumulator, One, Two, Datum, NumberDatum, StringDatum, ValueDatum, HalfDatum, Operation, Nothing, Instr, Data, Values, Reserve, Segment, Code, SetCpu, SourceLine, Assignment, PlaceAssignment, Statement}
 use Rattle.stmt65.specs.declared.source_line.AddressSize.{AddressSize}
 use Rattle.stmt65.specs.declared.source_line.AddressSize.TheVariants.{Absolute, Automatic}
 use Rattle.stmt65.specs.declared.source_line.Half.{Half}
 use Rattle.stmt65.specs.declared.source_line.Half.TheVariants.{Low, High}
-use Rattle.stmt65.specs.declared.source_line.Minus.TheVariants.{Zero, One}
+use Rattle.stmt65.specs.declared.source_line.Minus.TheVariants.{Zero, One as MinusOne}
+use Rattle.stmt65.specs.declared.source_line.Notation.TheVariants as notation
 use Rattle.stmt65.specs.Parts.{Part, Word, Number, Text, Define, Mark, number_of}
 use Rattle.stmt65.specs.Names.{same, is_name}
 use Rattle.stmt65.specs.declared.directive.Directive.{Directive}
@@ -77,7 +80,7 @@ less_name Repair w ps = name_in ps >>= λ v. Some (DifferenceValue w v.0, v.1)
 unfoldable pub less_one : Language → List ℕ → ℕ → List Part → Option (Value × List Part)
 less_one language w n ps =
     if is_mark minus ps then
-    (if is_number_here (codes "1") (drop 1 ps) then Some (NameValue w n One, drop 1 (drop 1 ps)) else less_name language w (drop 1 ps))
+    (if is_number_here (codes "1") (drop 1 ps) then Some (NameValue w n MinusOne, drop 1 (drop 1 ps)) else less_name language w (drop 1 ps))
     else Some (NameValue w n Zero, ps)
 
 -- after a name: `+` and a number, or nothing; from a sum no name is subtracted
@@ -108,32 +111,32 @@ halved_in _ = None
 unfoldable pub tail_at : AddressSize → Value → List Part → Option Form
 tail_at size v ps =
     if is_mark comma ps then
-    (if is_word_here (codes "x") (drop 1 ps) then whole (DirectX size v) (drop 1 (drop 1 ps))
-    else (if is_word_here (codes "y") (drop 1 ps) then whole (DirectY size v) (drop 1 (drop 1 ps))
+    (if is_word_here (codes "x") (drop 1 ps) then whole (One (sized size DirectX) v) (drop 1 (drop 1 ps))
+    else (if is_word_here (codes "y") (drop 1 ps) then whole (One (sized size DirectY) v) (drop 1 (drop 1 ps))
     else (if is_absolute size then None else (next_value Listing (drop 1 ps) >>= λ w. whole (Two v w.0) w.1))))
-    else whole (Direct size v) ps
+    else whole (One (sized size Direct) v) ps
 
 -- after `(` and an expression
 unfoldable pub inner_at : Value → List Part → Option Form
 inner_at v ps =
     if is_mark right_paren ps then
-    (if is_mark comma (drop 1 ps) then (if is_word_here (codes "y") (drop 1 (drop 1 ps)) then whole (IndirectY v) (drop 1 (drop 1 (drop 1 ps))) else None)
-    else whole (Indirect v) (drop 1 ps))
+    (if is_mark comma (drop 1 ps) then (if is_word_here (codes "y") (drop 1 (drop 1 ps)) then whole (One (notation.Plain IndirectY) v) (drop 1 (drop 1 (drop 1 ps))) else None)
+    else whole (One (notation.Plain Indirect) v) (drop 1 ps))
     else (if is_mark comma ps then
-    (if is_word_here (codes "x") (drop 1 ps) then (if is_mark right_paren (drop 1 (drop 1 ps)) then whole (IndirectX v) (drop 1 (drop 1 (drop 1 ps))) else None) else None)
+    (if is_word_here (codes "x") (drop 1 ps) then (if is_mark right_paren (drop 1 (drop 1 ps)) then whole (One (notation.Plain IndirectX) v) (drop 1 (drop 1 (drop 1 ps))) else None) else None)
     else None)
 
 -- after `#` and `<` or `>`
 abbrev pub half_form : Half → List Part → Option Form
-half_form half ps = halved_in ps >>= λ v. whole (ImmediateHalf half v.0) v.1
+half_form half ps = halved_in ps >>= λ v. whole (One (notation.Half half) v.0) v.1
 
 -- after `#`
 unfoldable pub immediate_of : Language → List Part → Option Form
-immediate_of Listing ps = next_value Listing ps >>= λ v. whole (Immediate v.0) v.1
+immediate_of Listing ps = next_value Listing ps >>= λ v. whole (One (notation.Plain Immediate) v.0) v.1
 immediate_of Repair ps =
     if is_mark less ps then half_form Low (drop 1 ps)
     else (if is_mark greater ps then half_form High (drop 1 ps)
-    else (next_value Repair ps >>= λ v. whole (Immediate v.0) v.1))
+    else (next_value Repair ps >>= λ v. whole (One (notation.Plain Immediate) v.0) v.1))
 
 -- everything after a mnemonic; an address is written as in a listing
 unfoldable pub form_of : Language → List Part → Option Form

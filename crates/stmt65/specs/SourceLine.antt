@@ -10,6 +10,7 @@ use Rattle.stmt65.specs.declared.source_line.AddressSize.{AddressSize}
 use Rattle.stmt65.specs.declared.source_line.AddressSize.TheVariants.{Absolute, Automatic}
 use Rattle.stmt65.specs.declared.source_line.Half.{Half}
 use Rattle.stmt65.specs.declared.source_line.Minus.{Minus}
+use Rattle.stmt65.specs.declared.source_line.Notation.{Notation}
 
 -- whether `a:` stands before an expression
 abbrev pub is_absolute : AddressSize → Bool
@@ -22,19 +23,12 @@ pub data Value : Type 0 where
   NameValue : List ℕ → ℕ → Minus → Value
   DifferenceValue : List ℕ → List ℕ → Value
 
--- the written forms of an operand: no operand, `a`, `#E`, `#<E` or `#>E`, `E`, `E,x`, `E,y`, `E,E`, `(E)`, `(E,x)`, `(E),y`
+-- the written forms of an operand: no operand, `a`, one expression in its notation, or `E,E`
 pub data Form : Type 0 where
   Empty : Form
   Accumulator : Form
-  Immediate : Value → Form
-  ImmediateHalf : Half → Value → Form
-  Direct : AddressSize → Value → Form
-  DirectX : AddressSize → Value → Form
-  DirectY : AddressSize → Value → Form
+  One : Notation → Value → Form
   Two : Value → Value → Form
-  Indirect : Value → Form
-  IndirectX : Value → Form
-  IndirectY : Value → Form
 
 -- an operand of `.byte`: a number, the bytes between the quotes of a string, another expression, or a half of one
 pub data Datum : Type 0 where

@@ -1,19 +1,18 @@
 -- How a line of a listing is spelled: what is written, item by item. What only a repair says is not spelled there.
 --
--- `IndirectY v`, say, is `(`, the expression, `)`, `,` and the word `y`. Words may be written in any letter case, names are exact,
+-- `(E),y`, say, is `(`, the expression, `)`, `,` and the word `y`. Words may be written in any letter case, names are exact,
 -- and numbers count by their value.
-use Rattle.std.specs.Prelude.{◌≡◌, ◌⊎◌, ℕ, true, List, [], ◌∷◌, ◌++◌, codes, ◌==◌, if◌then◌else◌, Some, None}
+use Rattle.std.specs.Prelude.{◌≡◌, ◌⊎◌, ℕ, Bool, true, false, List, [], ◌∷◌, ◌++◌, codes, ◌==◌, if◌then◌else◌, Some, None}
 use Rattle.std.specs.Char.{is_ascii_alphabetic}
 use Rattle.isa65.specs.Mnemonic.{text_of}
 use Rattle.isa65.specs.Mode.{expression}
 use Rattle.text65.specs.Names.{has_name_form}
 use Rattle.stmt65.specs.Signs.{star, plus, comma, minus, colon}
-use Rattle.stmt65.specs.declared.source_line.AddressSize.{AddressSize}
-use Rattle.stmt65.specs.declared.source_line.AddressSize.TheVariants.{Absolute, Automatic}
+use Rattle.stmt65.specs.declared.source_line.Notation.TheVariants.{Half}
 use Rattle.stmt65.specs.declared.source_line.Minus.{Minus}
-use Rattle.stmt65.specs.declared.source_line.Minus.TheVariants.{Zero, One}
-use Rattle.stmt65.specs.SourceLine.{Value, NumberValue, NameValue, DifferenceValue, Form, ImmediateHalf, Datum, NumberDatum, StringDatum, ValueDatum, HalfDatum, Operation, Nothing, Instr, Data, Values, Reserve, Segment, Code, SetCpu, SourceLine, Assignment, PlaceAssignment, Statement}
-use Rattle.stmt65.specs.Forms.{form_text, form_values, form_size}
+use Rattle.stmt65.specs.declared.source_line.Minus.TheVariants.{Zero, One as MinusOne}
+use Rattle.stmt65.specs.SourceLine.{Value, NumberValue, NameValue, DifferenceValue, Form, One, Datum, NumberDatum, StringDatum, ValueDatum, HalfDatum, Operation, Nothing, Instr, Data, Values, Reserve, Segment, Code, SetCpu, SourceLine, Assignment, PlaceAssignment, Statement}
+use Rattle.stmt65.specs.Forms.{form_text, form_values, has_prefix}
 use Rattle.stmt65.specs.Parts.{Part, Word, Number, Text, Define, Mark, number_of}
 use Rattle.stmt65.specs.Directives.{directive_text}
 use Rattle.stmt65.specs.Names.{same, is_name}
@@ -43,7 +42,7 @@ IsPlus n ps = ((n ≡ 0) × (ps ≡ [])) ⊎ ((text : List ℕ) × (n ≡ number
 
 -- `-` and the digit 1, or nothing
 abbrev pub IsMinus : Minus → List Part → Type 0
-IsMinus One ps = ps ≡ Mark minus ∷ Number (codes "1") ∷ []
+IsMinus MinusOne ps = ps ≡ Mark minus ∷ Number (codes "1") ∷ []
 IsMinus Zero ps = ps ≡ []
 
 -- a number; or a name, perhaps `+` and a number, perhaps `-1`
@@ -85,9 +84,9 @@ Spells [] ps = ps ≡ []
 Spells (i ∷ is) ps = (front : List Part) × (rest : List Part) × (ps ≡ front ++ rest) × IsItem i front × Spells is rest
 
 -- `a:` or nothing
-abbrev pub prefix_items : AddressSize → List Item
-prefix_items Absolute = word (codes "a") ∷ mark colon ∷ []
-prefix_items Automatic = []
+abbrev pub prefix_items : Bool → List Item
+prefix_items true = word (codes "a") ∷ mark colon ∷ []
+prefix_items false = []
 
 -- what a character of a pattern stands for by itself: a letter is a word
 abbrev pub pattern_item : ℕ → Item
@@ -101,8 +100,8 @@ pattern_items (c ∷ pattern) (v ∷ vs) = if c == expression then value v ∷ p
 
 -- an operand: its pattern, after an optional `a:`
 abbrev pub form_items : Form → List Item
-form_items (ImmediateHalf half v) = unwritten ∷ []
-form_items form = prefix_items (form_size form) ++ pattern_items (form_text form) (form_values form)
+form_items (One (Half half) v) = unwritten ∷ []
+form_items form = prefix_items (has_prefix form) ++ pattern_items (form_text form) (form_values form)
 
 -- a mnemonic and its operand, or an operation of the assembler and what it takes
 abbrev pub operation_items : Operation → List Item

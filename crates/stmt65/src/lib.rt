@@ -48,6 +48,8 @@ pub use printing::line::{Line, put_line};
 pub use printing::remarks::Remarks;
 pub use reading::numeral::Numeral;
 pub use reading::whole_line::read_line;
-pub use source_line::{AddressSize, Datum, Form, Half, Minus, Operation, SourceLine, Value};
+pub use source_line::{
+    AddressSize, Datum, Form, Half, Minus, Notation, Operation, SourceLine, Value,
+};
 pub use statement::{Expr, Operands, Statement, Target};
 pub use text65::first_line;

@@ -2,7 +2,7 @@
 
 use crate::directive::Directive;
 use crate::reading::numeral::Numeral;
-use isa65::Mnemonic;
+use isa65::{Mnemonic, Pattern};
 use std::alloc::{Allocator, Global};
 
 /// What is subtracted at the end of an expression.
@@ -43,6 +43,21 @@ pub enum AddressSize {
     Absolute,
 }
 
+/// How one expression is written as an operand, with E for it.
+#[derive(Clone, Copy, Debug, PartialEq, Eq)]
+pub enum Notation {
+    /// In a pattern and no more.
+    Plain(Pattern),
+    /// `#<E` or `#>E`. Only a repair has it.
+    Half(Half),
+    /// `a:E`.
+    Absolute,
+    /// `a:E,x`.
+    AbsoluteX,
+    /// `a:E,y`.
+    AbsoluteY,
+}
+
 /// The written forms of an operand, with E for an expression.
 #[derive(Clone, Copy, Debug)]
 pub enum Form<'a> {
@@ -50,24 +65,10 @@ pub enum Form<'a> {
     Empty,
     /// `a`.
     Accumulator,
-    /// `#E`.
-    Immediate(Value<'a>),
-    /// `#<E` or `#>E`. Only a repair has it.
-    ImmediateHalf(Half, Value<'a>),
-    /// `E` or `a:E`.
-    Direct(AddressSize, Value<'a>),
-    /// `E,x` or `a:E,x`.
-    DirectX(AddressSize, Value<'a>),
-    /// `E,y` or `a:E,y`.
-    DirectY(AddressSize, Value<'a>),
+    /// One expression.
+    One(Notation, Value<'a>),
     /// `E,E`.
     Two(Value<'a>, Value<'a>),
-    /// `(E)`.
-    Indirect(Value<'a>),
-    /// `(E,x)`.
-    IndirectX(Value<'a>),
-    /// `(E),y`.
-    IndirectY(Value<'a>),
 }
 
 /// An operand of `.byte`.

@@ -11,6 +11,7 @@ use Rattle.isa65.specs.OpcodeLaws.{written_alike}
 use Rattle.isa65.specs.declared.cpu.Cpu.{Cpu}
 use Rattle.isa65.specs.declared.mnemonic.Mnemonic.{Mnemonic}
 use Rattle.isa65.specs.declared.mode.Mode.{Mode}
+use Rattle.isa65.specs.declared.mode.Mode.TheVariants.{Zprel}
 use Rattle.isa65.specs.declared.row.OperandKind.{OperandKind}
 use Rattle.isa65.specs.declared.row.OperandKind.TheVariants as kind
 use Rattle.isa65.specs.declared.row.Pattern.{Pattern}
@@ -19,15 +20,16 @@ use Rattle.isa65.specs.declared.row.Row.{Row}
 use Rattle.isa65.specs.declared.row.Row.TheVariants as row
 use Rattle.stmt65.specs.Views.{ExprView, OperandsView}
 use Rattle.stmt65.specs.Views as view
-use Rattle.stmt65.specs.SourceLine.{is_absolute, Form, Value, Instr}
+use Rattle.stmt65.specs.SourceLine.{Form, One, Value, Instr}
 use Rattle.stmt65.specs.declared.source_line.AddressSize.{AddressSize}
-use Rattle.stmt65.specs.Printed.{address_size, pattern_form, row_form, source_form, source_value}
-use Rattle.stmt65.specs.Forms.{form_text, form_values}
+use Rattle.stmt65.specs.declared.source_line.AddressSize.TheVariants.{Absolute, Automatic}
+use Rattle.stmt65.specs.Printed.{address_size, row_form, source_form, source_value}
+use Rattle.stmt65.specs.Forms.{form_text, has_prefix, sized}
 use Rattle.stmt65.specs.Symbols.{Definition, has_zero_page_size}
-use Rattle.stmt65.specs.Coding.{State, Fragment, Fixed, Single, coding}
+use Rattle.stmt65.specs.Coding.{State, Fragment, Fixed, Single, byte_fragment, is_short, kind_fragment, coding}
 use Rattle.stmt65.specs.Layout.{Layout}
 use Rattle.stmt65.specs.ModeLaws as mode
-use Rattle.stmt65.specs.ModeLaws.{has_prefix, is_short, IsModeOf, TakesMode}
+use Rattle.stmt65.specs.ModeLaws.{IsModeOf, TakesMode}
 use Rattle.stmt65.proofs.Public.{needs_mode, takes_modes}
 use Rattle.map65.specs.ImageView.{AreBytes, ImageView}
 use Rattle.map65.specs.Targets.{target_of, word_of}
@@ -42,35 +44,22 @@ use Rattle.da65.proofs.Instructions.WrittenLaws.{AreAll, may_be_forced, needs, o
 
 -- ---- the form of printed operands
 
-pattern_is : (p : Pattern) (size : AddressSize) (v : Value) → pattern_text p ≡ form_text (pattern_form p size v)
-pattern_is pattern.Direct size v = refl
-pattern_is _ size v = refl
-
-pattern_values : (p : Pattern) (size : AddressSize) (v : Value) → form_values (pattern_form p size v) ≡ v ∷ []
-pattern_values pattern.Direct size v = refl
-pattern_values _ size v = refl
-
-pattern_prefix : (p : Pattern) (size : AddressSize) (v : Value) → has_prefix (pattern_form p size v) ≡ true → is_absolute size ≡ true
-pattern_prefix pattern.Direct size v h = h
-pattern_prefix pattern.DirectX size v h = h
-pattern_prefix pattern.DirectY size v h = h
-pattern_prefix _ size v h = absurd cc
-
-prefix_is : (a : Bool) → is_absolute (address_size a) ≡ a
-prefix_is true = refl
-prefix_is false = refl
+pattern_is : (size : AddressSize) (p : Pattern) (v : Value) → pattern_text p ≡ form_text (One (sized size p) v)
+pattern_is Absolute pattern.Direct v = refl
+pattern_is _ _ v = refl
 
 pub row_prefix : (r : Row) (a : Bool) (os : OperandsView) → has_prefix (row_form r (address_size a) os) ≡ true → a ≡ true
-row_prefix (row.One p k) a (view.one e) h = sym (prefix_is a) ∙ pattern_prefix p (address_size a) (source_value e) h
-row_prefix row.Accumulator a view.none h = absurd cc
-row_prefix (row.Two k l) a view.none h = absurd cc
-row_prefix _ a _ h = absurd cc
+row_prefix r true os h = refl
+row_prefix (row.One p k) false (view.one e) h = absurd cc
+row_prefix row.Accumulator false view.none h = absurd cc
+row_prefix (row.Two k l) false (view.two e f) h = absurd cc
+row_prefix _ false _ h = absurd cc
 
 -- it is written as its mode is
 row_is : (P : OperandKind → ℕ → ExprView → Type 0) (r : Row) (size : AddressSize) (os : OperandsView) → AreAll P r os → row_text r ≡ form_text (row_form r size os)
 row_is P row.Implied size view.none h = refl
 row_is P row.Accumulator size view.none h = refl
-row_is P (row.One p k) size (view.one e) h = pattern_is p size (source_value e)
+row_is P (row.One p k) size (view.one e) h = pattern_is size p (source_value e)
 row_is P (row.Two k l) size (view.two e f) h = refl
 row_is P _ size _ h = absurd h
 
@@ -82,7 +71,7 @@ pub record IsPair (r : Row) (x : Mode) : Type 0 where
   pub long : r ≡ row.One direct kind.Word
   pub short : row_of x ≡ row.One direct kind.ZeroPage
   pub alone : zero_page_of x ≡ None
-  pub prefix : (v : Value) → has_prefix (pattern_form direct (address_size true) v) ≡ true
+  pub prefix : (v : Value) → has_prefix (One (sized Absolute direct) v) ≡ true
 
 pair_as : (r : Row) (y x : Mode) → Some y ≡ Some x → IsPair r y → IsPair r x
 pair_as r y x e h = let same : y ≡ x = cc in subst (IsPair r) same h
@@ -113,50 +102,56 @@ module _ (image : ImageView) (n : Names) (p : ℕ → Bool) (names : AreSound im
       go (Some t) = tt
 
   -- no operand of a listing is a half
-  whole_byte : (q : Pattern) (size : AddressSize) (v w : Value) → mode.byte_fragment (pattern_form q size v) w ≡ Single w
-  whole_byte pattern.Immediate size v w = refl
-  whole_byte pattern.Direct size v w = refl
-  whole_byte pattern.DirectX size v w = refl
-  whole_byte pattern.DirectY size v w = refl
-  whole_byte pattern.Indirect size v w = refl
-  whole_byte pattern.IndirectX size v w = refl
-  whole_byte pattern.IndirectY size v w = refl
+  whole_byte : (size : AddressSize) (q : Pattern) (w : Value) → byte_fragment (sized size q) w ≡ Single w
+  whole_byte Absolute pattern.Direct w = refl
+  whole_byte _ _ w = refl
 
-  operand_codes : (f : Form) → ((w : Value) → mode.byte_fragment f w ≡ Single w) → (k : OperandKind) (at : ℕ) (e : ExprView) → IsSmall k at e
-      → mode.kind_fragment above f k (source_value e) ≡ operand_fragment k e
-  operand_codes f whole kind.Byte at e small = whole (source_value e)
-  operand_codes f whole kind.ZeroPage at e small = rw small refl
-  operand_codes f whole kind.Word at e small = refl
-  operand_codes f whole kind.Distance at e small = refl
+  operand_codes : (q : Pattern) (size : AddressSize) (k : OperandKind) (at : ℕ) (e : ExprView) → IsSmall k at e
+      → kind_fragment (has_zero_page_size above (source_value e)) (sized size q) k (source_value e) ≡ operand_fragment k e
+  operand_codes q size kind.Byte at e small = whole_byte size q (source_value e)
+  operand_codes q size kind.ZeroPage at e small = rw small refl
+  operand_codes q size kind.Word at e small = refl
+  operand_codes q size kind.Distance at e small = refl
 
-  row_codes : (r : Row) (size : AddressSize) (os : OperandsView) → AreAll IsSmall r os
-      → mode.row_fragments above (row_form r size os) r (form_values (row_form r size os)) ≡ row_fragments r os
-  row_codes row.Implied size view.none h = refl
-  row_codes row.Accumulator size view.none h = refl
-  row_codes (row.One q k) size (view.one e) h = rw (pattern_values q size (source_value e), operand_codes (pattern_form q size (source_value e)) (whole_byte q size (source_value e)) k 1 e h) refl
-  row_codes (row.Two k l) size (view.two e f) h =
-      let form : Form = row_form (row.Two k l) size (view.two e f) in
-      rw (operand_codes form (λ w. refl) k 1 e h.0, operand_codes form (λ w. refl) l (1 + size_of k) f h.1) refl
-  row_codes _ size _ h = absurd h
+  -- the second of two operands is a distance
+  abbrev IsFar : Row → Type 0
+  IsFar (row.Two k kind.Distance) = Unit {0}
+  IsFar (row.Two k _) = ⊥
+  IsFar _ = Unit {0}
+
+  each_far : (x : Mode) → IsFar (row_of x)
+  each_far Zprel = tt
+  each_far _ = tt
+
+  row_codes : (r : Row) → IsFar r → (size : AddressSize) (os : OperandsView) → AreAll IsSmall r os
+      → mode.row_fragments (is_short above (row_form r size os)) (row_form r size os) r ≡ row_fragments r os
+  row_codes row.Implied far size view.none h = refl
+  row_codes row.Accumulator far size view.none h = refl
+  row_codes (row.One q k) far size (view.one e) h = rw (operand_codes q size k 1 e h) refl
+  row_codes (row.Two k kind.Distance) far size (view.two e f) h = rw (operand_codes pattern.Direct Automatic k 1 e h.0) refl
+  row_codes (row.Two k kind.Byte) far size _ h = absurd far
+  row_codes (row.Two k kind.ZeroPage) far size _ h = absurd far
+  row_codes (row.Two k kind.Word) far size _ h = absurd far
+  row_codes _ far size _ h = absurd h
 
   -- an operand in the zero page makes a form short
-  small_short : (q : Pattern) (r : Row) → r ≡ row.One q kind.ZeroPage → (size : AddressSize) (os : OperandsView) → AreAll IsSmall r os → is_short above (form_values (row_form r size os)) ≡ true
-  small_short q (row.One s kind.ZeroPage) e size (view.one x) h = rw (pattern_values s size (source_value x)) h
+  small_short : (q : Pattern) (r : Row) → r ≡ row.One q kind.ZeroPage → (size : AddressSize) (os : OperandsView) → AreAll IsSmall r os → is_short above (row_form r size os) ≡ true
+  small_short q (row.One s kind.ZeroPage) e size (view.one x) h = h
   small_short q (row.One s kind.ZeroPage) e size _ h = absurd h
   small_short q _ e size _ h = absurd cc
 
   -- a word has the size of its expression
   pub word_size : (q : Pattern) (r : Row) → r ≡ row.One q kind.Word → (size : AddressSize) (next : ℕ) (bytes : List ℕ) (os : OperandsView) → row_operands n r next bytes ≡ Some os
-      → is_short above (form_values (row_form r size os)) ≡ has_zero_page_size above (source_value (address_expr n (word_of bytes)))
+      → is_short above (row_form r size os) ≡ has_zero_page_size above (source_value (address_expr n (word_of bytes)))
   word_size q (row.One s kind.Word) e size next bytes (view.one x) has =
       let is : Some (view.one (address_expr n (word_of bytes))) ≡ Some (view.one x) = has in
       let same : address_expr n (word_of bytes) ≡ x = cc in
-      rw (pattern_values s size (source_value x), same) refl
+      rw same refl
   word_size q (row.One s kind.Word) e size next bytes view.none has = absurd cc
   word_size q (row.One s kind.Word) e size next bytes (view.two x y) has = absurd cc
   word_size q _ e size next bytes os has = absurd cc
 
-  forced_prefix : (q : Pattern) (r : Row) → r ≡ row.One q kind.Word → ((v : Value) → has_prefix (pattern_form q (address_size true) v) ≡ true) → (P : OperandKind → ℕ → ExprView → Type 0) (os : OperandsView) → AreAll P r os
+  forced_prefix : (q : Pattern) (r : Row) → r ≡ row.One q kind.Word → ((v : Value) → has_prefix (One (sized Absolute q) v) ≡ true) → (P : OperandKind → ℕ → ExprView → Type 0) (os : OperandsView) → AreAll P r os
       → has_prefix (row_form r (address_size true) os) ≡ true
   forced_prefix q (row.One s kind.Word) e prefix P (view.one x) h = let same : q ≡ s = cc in rw (← same) (prefix (source_value x))
   forced_prefix q (row.One s kind.Word) e prefix P _ h = absurd h
@@ -186,9 +181,9 @@ module _ (image : ImageView) (n : Names) (p : ℕ → Bool) (names : AreSound im
       own same =
           let has : Some takes.opcode ≡ Some b = sym takes.has ∙ ap (encoded (table_of cpu) m) same ∙ is in
           let code : takes.opcode ≡ b = cc in
-          takes.coded ∙ ap (λ (c : ℕ). Fixed c ∷ mode.mode_fragments above (form u) takes.mode) code
-          ∙ ap (λ (y : Mode). Fixed b ∷ mode.mode_fragments above (form u) y) same
-          ∙ ap (λ (fs : List Fragment). Fixed b ∷ fs) (row_codes (row_of x) (address_size u) os all_small)
+          takes.coded ∙ ap (λ (c : ℕ). Fixed c ∷ mode.mode_fragments (is_short above (form u)) (form u) takes.mode) code
+          ∙ ap (λ (y : Mode). Fixed b ∷ mode.mode_fragments (is_short above (form u)) (form u) y) same
+          ∙ ap (λ (fs : List Fragment). Fixed b ∷ fs) (row_codes (row_of x) (each_far x) (address_size u) os all_small)
 
       -- not in the zero-page mode that is written alike
       not_short : IsZeroPageOf takes.mode x → ⊥

@@ -3,7 +3,6 @@ use Rattle.std.specs.Prelude.{◌≡◌, ℕ, Bool, List, [], ◌∷◌, ◌++�
 use Rattle.std.specs.Option.{option_map}
 use Rattle.std.specs.Bool.{OnTrue}
 use Rattle.std.specs.List.{flat_map, list_all}
-use Rattle.isa65.specs.declared.mode.Mode.{Mode}
 use Rattle.stmt65.specs.declared.assembling.coding.Fragment.{Fragment as CodeFragment}
 use Rattle.stmt65.specs.declared.assembling.coding.Fragment.TheVariants as code_fragment
 use Rattle.stmt65.specs.declared.assembling.coding.Coder.{Coder}
@@ -15,7 +14,8 @@ use Rattle.stmt65.specs.declared.assembling.coding.Coded.{Coded as CodeCoded}
 use Rattle.stmt65.specs.declared.assembling.coding.Coded.TheVariants as code_coded
 use Rattle.stmt65.specs.declared.source_line.Value.{Value as CodeValue}
 use Rattle.stmt65.specs.declared.source_line.Datum.{Datum as CodeDatum}
-use Rattle.stmt65.specs.Coding.{Fragment, Fixed, Single, ZeroPage, Oversized, Entry, Distance, HalfOf, Fill, Way, datum_fragments, first_way, fragment_fits, fragment_bytes}
+use Rattle.stmt65.specs.Coding.{Fragment, Fixed, Single, ZeroPage, Oversized, Entry, Distance, HalfOf, Fill, Way, datum_fragments, is_short, ways, first_way, fragment_fits, fragment_bytes}
+use Rattle.stmt65.specs.SourceLine.{Form}
 use Rattle.stmt65.specs.Symbols.{Definition}
 use Rattle.stmt65.specs.Code.SourceLineViews.{numeral_of, value_of, datum_of}
 
@@ -38,13 +38,13 @@ operand_of (code_operand.Two f g) = fragment_of f ∷ fragment_of g ∷ []
 abbrev pub instruction_of : CodeInstruction → List Fragment
 instruction_of i = Fixed i.opcode ∷ operand_of i.operand
 
--- a way as the code holds it
-abbrev pub way_of : Mode × CodeOperand → Way
-way_of w = (w.0, operand_of w.1)
-
 -- the instruction is that of the first of these ways whose mode the mnemonic has on the CPU
 abbrev pub IsFirstWay : {A : Type 0} → Option CodeInstruction → Coder A → List Way → Type 0
 IsFirstWay found coder ws = option_map instruction_of found ≡ first_way coder.opcodes.now coder.mnemonic ws
+
+-- the same of the ways of a form
+abbrev pub IsFirstOf : {A : Type 0} → Option CodeInstruction → Coder A → Form → Type 0
+IsFirstOf found coder form = IsFirstWay found coder (ways (is_short coder.above.now form) form)
 
 abbrev pub data_fragments : List CodeDatum → List Fragment
 data_fragments ds = flat_map datum_fragments (map datum_of ds)

@@ -13,7 +13,7 @@ use Rattle.stmt65.specs.declared.source_line.Operation.TheVariants as code_opera
 use Rattle.stmt65.specs.declared.source_line.SourceLine.{SourceLine as CodeSourceLine}
 use Rattle.stmt65.specs.declared.source_line.SourceLine.TheVariants as code_source
 use Rattle.stmt65.specs.Parts.{number_of}
-use Rattle.stmt65.specs.SourceLine.{Value, NumberValue, NameValue, DifferenceValue, Form, Empty, Accumulator, Immediate, ImmediateHalf, Direct, DirectX, DirectY, Two, Indirect, IndirectX, IndirectY, Datum, NumberDatum, StringDatum, ValueDatum, HalfDatum, Operation, Nothing, Instr, Data, Values, Reserve, Segment, Code, SetCpu, SourceLine, Assignment, PlaceAssignment, Statement}
+use Rattle.stmt65.specs.SourceLine.{Value, NumberValue, NameValue, DifferenceValue, Form, Empty, Accumulator, One, Two, Datum, NumberDatum, StringDatum, ValueDatum, HalfDatum, Operation, Nothing, Instr, Data, Values, Reserve, Segment, Code, SetCpu, SourceLine, Assignment, PlaceAssignment, Statement}
 
 abbrev pub numeral_of : Numeral → ℕ
 numeral_of n = number_of n.text.now
@@ -26,15 +26,8 @@ value_of (code_value.Difference w v) = DifferenceValue w.now v.now
 abbrev pub form_of : CodeForm → Form
 form_of code_form.Empty = Empty
 form_of code_form.Accumulator = Accumulator
-form_of (code_form.Immediate v) = Immediate (value_of v)
-form_of (code_form.ImmediateHalf half v) = ImmediateHalf half (value_of v)
-form_of (code_form.Direct p v) = Direct p (value_of v)
-form_of (code_form.DirectX p v) = DirectX p (value_of v)
-form_of (code_form.DirectY p v) = DirectY p (value_of v)
+form_of (code_form.One notation v) = One notation (value_of v)
 form_of (code_form.Two v w) = Two (value_of v) (value_of w)
-form_of (code_form.Indirect v) = Indirect (value_of v)
-form_of (code_form.IndirectX v) = IndirectX (value_of v)
-form_of (code_form.IndirectY v) = IndirectY (value_of v)
 
 abbrev pub datum_of : CodeDatum → Datum
 datum_of (code_datum.Number n) = NumberDatum (numeral_of n)

@@ -3,12 +3,11 @@
 ghost use Rattle.std.specs.Prelude.{◌≡◌, List, [], ◌∷◌};
 ghost use Rattle.std.specs.Option.{option_map};
 ghost use Rattle.stmt65.specs.Code.SourceLineViews.{value_of, form_of, operation_of};
-ghost use Rattle.stmt65.specs.SourceLine.{Direct};
-ghost use Rattle.stmt65.specs.declared.source_line.AddressSize.TheVariants.{Automatic};
-ghost use Rattle.stmt65.specs.Coding.{word_operand, zero_page, zero_page_first, by_size, ways, gap, coding};
+ghost use Rattle.stmt65.specs.SourceLine.{One};
+ghost use Rattle.stmt65.specs.Coding.{zero_page, kind_fragment, modes_in, gap, coding};
 ghost use Rattle.stmt65.specs.Layout.{start_of};
 ghost use Rattle.stmt65.specs.Symbols.{Definition};
-ghost use Rattle.stmt65.specs.Code.CodingViews.{fragment_of, way_of, IsFirstWay, coded_of};
+ghost use Rattle.stmt65.specs.Code.CodingViews.{fragment_of, operand_of, IsFirstWay, IsFirstOf, coded_of};
 ghost use Rattle.stmt65.specs.Code.MeaningViews.{state_of};
 
 use crate::assembling::state::State;
@@ -16,8 +15,14 @@ use crate::assembling::symbols::Names;
 use crate::assembling::values::has_zero_page_size;
 use crate::directive::Directive;
 use crate::reading::numeral::Numeral;
-use crate::source_line::{AddressSize, Datum, Form, Half, Operation, Value};
-use isa65::{EncodeTable, Mnemonic, Mode};
+use crate::source_line::Notation::{self, Absolute, AbsoluteX, AbsoluteY, Plain};
+use crate::source_line::{Datum, Form, Half, Operation, Value};
+use isa65::Mode::{
+    self, Abs, Absindx, Absx, Absy, Acc, Imm, Imp, Ind, Indx, Indy, Rel, Zp, Zpind, Zprel, Zpx, Zpy,
+};
+use isa65::OperandKind::{self, Byte, Distance, Word, ZeroPage};
+use isa65::Pattern::{Direct, DirectX, DirectY, Immediate, Indirect, IndirectX, IndirectY};
+use isa65::{EncodeTable, Mnemonic};
 use std::alloc::Allocator;
 
 /// What bytes of a statement stand for.
@@ -73,9 +78,6 @@ pub enum Coded<'s, 'a> {
     Values(Directive, &'s [Value<'a>]),
 }
 
-/// A mode, and what then follows the opcode.
-type Way<'s, 'a> = (Mode, Operand<'s, 'a>);
-
 /// What an instruction is coded by: the opcodes of the CPU, its mnemonic, and the definitions above it.
 #[derive(Clone, Copy)]
 struct Coder<'c, 'n, 't, A: Allocator + Clone> {
@@ -84,142 +86,104 @@ struct Coder<'c, 'n, 't, A: Allocator + Clone> {
     above: &'c Names<'n, 't, A>,
 }
 
-fn way<'s, 'a, A: Allocator + Clone>(
-    coder: &Coder<'_, '_, '_, A>,
-    way: Way<'s, 'a>,
-) -> Option<Instruction<'s, 'a>>
-    ensures { IsFirstWay result coder.now (way_of way.entry ∷ []) }
+/// The modes of a notation, each with the kind of its operand, in the order in which they are tried.
+fn modes_in(is_short: bool, notation: Notation) -> &'static [(Mode, OperandKind)]
+    ensures { result.now ≡ modes_in is_short notation }
 {
-    let (mode, operand) = way;
-    let opcode = coder.opcodes.encode(coder.mnemonic, mode)?;
-    Some(Instruction { opcode, operand })
-}
-
-/// The first of two ways whose mode the mnemonic has.
-#[tactic(auto, using(crate::proofs::CodingLemmas::tries))]
-fn first_way<'s, 'a, A: Allocator + Clone>(
-    coder: &Coder<'_, '_, '_, A>,
-    first: Way<'s, 'a>,
-    second: Way<'s, 'a>,
-) -> Option<Instruction<'s, 'a>>
-    ensures { IsFirstWay result coder.now (way_of first.entry ∷ way_of second.entry ∷ []) }
-{
-    if let Some(found) = way(coder, first) {
-        return Some(found);
+    match notation {
+        Plain(Immediate) | Notation::Half(_) => &[(Imm, Byte)],
+        Plain(Direct) if is_short => &[(Zp, ZeroPage), (Abs, Word), (Rel, Distance)],
+        Plain(Direct) => &[(Abs, Word), (Zp, ZeroPage), (Rel, Distance)],
+        Plain(DirectX) if is_short => &[(Zpx, ZeroPage), (Absx, Word)],
+        Plain(DirectX) => &[(Absx, Word), (Zpx, ZeroPage)],
+        Plain(DirectY) if is_short => &[(Zpy, ZeroPage), (Absy, Word)],
+        Plain(DirectY) => &[(Absy, Word), (Zpy, ZeroPage)],
+        Absolute => &[(Abs, Word)],
+        AbsoluteX => &[(Absx, Word)],
+        AbsoluteY => &[(Absy, Word)],
+        Plain(Indirect) => &[(Zpind, ZeroPage), (Ind, Word)],
+        Plain(IndirectX) => &[(Indx, ZeroPage), (Absindx, Word)],
+        Plain(IndirectY) => &[(Indy, ZeroPage)],
     }
-    way(coder, second)
-}
-
-/// An operand of 16 bits, as `.addr` gives it.
-fn word_operand<'s, 'a>(value: &'s Value<'a>) -> Fragment<'s, 'a>
-    ensures { fragment_of result ≡ word_operand (value_of value.now) }
-{
-    Fragment::Entry(Directive::Addr, value)
 }
 
 /// An operand that only the zero page has.
-fn zero_page<'s, 'a, A: Allocator + Clone>(
-    above: &Names<'_, '_, A>,
-    value: &'s Value<'a>,
-) -> Fragment<'s, 'a>
-    ensures { fragment_of result ≡ zero_page above.now (value_of value.now) }
+fn zero_page<'s, 'a>(is_short: bool, value: &'s Value<'a>) -> Fragment<'s, 'a>
+    ensures { fragment_of result ≡ zero_page is_short (value_of value.now) }
 {
-    if has_zero_page_size(above, value) {
+    if is_short {
         Fragment::ZeroPage(value)
     } else {
         Fragment::Oversized(value)
     }
 }
 
-/// The zero-page mode first if the operand has that size, else the absolute one.
-fn by_size<'s, 'a, A: Allocator + Clone>(
-    coder: &Coder<'_, '_, '_, A>,
-    short: Mode,
-    long: Mode,
+/// What an operand of a kind is coded as; a word is as `.addr` gives it.
+fn fragment_in<'s, 'a>(
+    is_short: bool,
+    notation: Notation,
+    kind: OperandKind,
     value: &'s Value<'a>,
-) -> Option<Instruction<'s, 'a>>
-    ensures { IsFirstWay result coder.now (by_size coder.now.above.now short long (value_of value.now)) }
+) -> Fragment<'s, 'a>
+    ensures { fragment_of result ≡ kind_fragment is_short notation kind (value_of value.now) }
 {
-    let absolute = (long, Operand::One(word_operand(value)));
-    if has_zero_page_size(coder.above, value) {
-        return first_way(
-            coder,
-            (short, Operand::One(Fragment::ZeroPage(value))),
-            absolute,
-        );
+    match (kind, notation) {
+        (Byte, Notation::Half(half)) => Fragment::Half(half, value),
+        (Byte, _) => Fragment::Single(value),
+        (ZeroPage, _) => zero_page(is_short, value),
+        (Word, _) => Fragment::Entry(Directive::Addr, value),
+        (Distance, _) => Fragment::Distance(value),
     }
-    first_way(
-        coder,
-        absolute,
-        (short, Operand::One(Fragment::Oversized(value))),
-    )
 }
 
-/// An expression alone: by size, else relative.
-#[tactic(auto, using(crate::proofs::CodingLemmas::after_sizes), unfolding(crate::specs::Coding::ways))]
-fn direct<'s, 'a, A: Allocator + Clone>(
+/// An instruction in a mode, if the mnemonic has it.
+fn in_mode<'s, 'a, A: Allocator + Clone>(
     coder: &Coder<'_, '_, '_, A>,
+    mode: Mode,
+    operand: Operand<'s, 'a>,
+) -> Option<Instruction<'s, 'a>>
+    ensures { IsFirstWay result coder.now ((mode, operand_of operand.entry) ∷ []) }
+{
+    let opcode = coder.opcodes.encode(coder.mnemonic, mode)?;
+    Some(Instruction { opcode, operand })
+}
+
+/// An instruction with one expression, in the first mode of its notation that the mnemonic has.
+#[tactic(auto, unfolding(crate::specs::Coding::ways))]
+fn in_notation<'s, 'a, A: Allocator + Clone>(
+    coder: &Coder<'_, '_, '_, A>,
+    notation: Notation,
     value: &'s Value<'a>,
 ) -> Option<Instruction<'s, 'a>>
-    ensures { IsFirstWay result coder.now (ways coder.now.above.now (Direct Automatic (value_of value.now))) }
+    ensures { IsFirstOf result coder.now (One notation (value_of value.now)) }
 {
-    if let Some(found) = by_size(coder, Mode::Zp, Mode::Abs, value) {
-        return Some(found);
+    let is_short = has_zero_page_size(coder.above, value);
+    let modes = modes_in(is_short, notation);
+    'modes: for mode in modes {
+        if let Some(opcode) = coder.opcodes.encode(coder.mnemonic, mode.0) {
+            let operand = Operand::One(fragment_in(is_short, notation, mode.1, value));
+            return Some(Instruction { opcode, operand });
+        }
     }
-    way(coder, (Mode::Rel, Operand::One(Fragment::Distance(value))))
+    None
 }
 
-/// A mode that only the zero page has, else one that takes either size.
-fn indirect<'s, 'a, A: Allocator + Clone>(
-    coder: &Coder<'_, '_, '_, A>,
-    short: Mode,
-    long: Mode,
-    value: &'s Value<'a>,
-) -> Option<Instruction<'s, 'a>>
-    ensures { IsFirstWay result coder.now (zero_page_first coder.now.above.now short long (value_of value.now)) }
-{
-    let zero_page = (short, Operand::One(zero_page(coder.above, value)));
-    first_way(coder, zero_page, (long, Operand::One(word_operand(value))))
-}
-
-/// The coding of an instruction, or `None` if the mnemonic has no mode of the written form; after `a:` the absolute mode alone.
+/// The coding of an instruction, or `None` if the mnemonic has no mode of the written form.
 #[tactic(auto, unfolding(crate::specs::Coding::ways))]
 fn instruction_in<'s, 'a, A: Allocator + Clone>(
     coder: &Coder<'_, '_, '_, A>,
     form: &'s Form<'a>,
 ) -> Option<Instruction<'s, 'a>>
-    ensures { IsFirstWay result coder.now (ways coder.now.above.now (form_of form.now)) }
+    ensures { IsFirstOf result coder.now (form_of form.now) }
 {
     match form {
-        Form::Empty => way(coder, (Mode::Imp, Operand::None)),
-        Form::Accumulator => way(coder, (Mode::Acc, Operand::None)),
-        Form::Immediate(v) => way(coder, (Mode::Imm, Operand::One(Fragment::Single(v)))),
-        Form::ImmediateHalf(half, v) => way(
-            coder,
-            (Mode::Imm, Operand::One(Fragment::Half(*half, v))),
-        ),
-        Form::Direct(AddressSize::Absolute, v) => way(
-            coder,
-            (Mode::Abs, Operand::One(word_operand(v))),
-        ),
-        Form::Direct(AddressSize::Automatic, v) => direct(coder, v),
-        Form::DirectX(AddressSize::Absolute, v) => way(
-            coder,
-            (Mode::Absx, Operand::One(word_operand(v))),
-        ),
-        Form::DirectX(AddressSize::Automatic, v) => by_size(coder, Mode::Zpx, Mode::Absx, v),
-        Form::DirectY(AddressSize::Absolute, v) => way(
-            coder,
-            (Mode::Absy, Operand::One(word_operand(v))),
-        ),
-        Form::DirectY(AddressSize::Automatic, v) => by_size(coder, Mode::Zpy, Mode::Absy, v),
+        Form::Empty => in_mode(coder, Imp, Operand::None),
+        Form::Accumulator => in_mode(coder, Acc, Operand::None),
+        Form::One(notation, value) => in_notation(coder, *notation, value),
         Form::Two(v, w) => {
-            let operand = Operand::Two(zero_page(coder.above, v), Fragment::Distance(w));
-            way(coder, (Mode::Zprel, operand))
+            let first = zero_page(has_zero_page_size(coder.above, v), v);
+            in_mode(coder, Zprel, Operand::Two(first, Fragment::Distance(w)))
         }
-        Form::Indirect(v) => indirect(coder, Mode::Zpind, Mode::Ind, v),
-        Form::IndirectX(v) => indirect(coder, Mode::Indx, Mode::Absindx, v),
-        Form::IndirectY(v) => way(coder, (Mode::Indy, Operand::One(zero_page(coder.above, v)))),
     }
 }
 

@@ -3,13 +3,15 @@
 ghost use Rattle.std.specs.Prelude.{◌≡◌};
 ghost use Rattle.stmt65.specs.Code.Found.{Gives};
 ghost use Rattle.stmt65.specs.Code.SourceLineViews.{value_of, form_of as form_of_code};
+ghost use Rattle.stmt65.specs.Forms.{sized};
 ghost use Rattle.stmt65.specs.SourceLine.{is_absolute};
 ghost use Rattle.stmt65.specs.Reading.{whole, tail_at, inner_at, half_form, immediate_of, form_of};
 
 use crate::language::Language;
 use crate::reading::expressions::{halved_in, next_value};
 use crate::reading::parts::Parts;
-use crate::source_line::{AddressSize, Form, Half, Value};
+use crate::source_line::{AddressSize, Form, Half, Notation, Value};
+use isa65::Pattern;
 
 /// The form, if nothing is left.
 fn whole<'a>(form: Form<'a>, parts: &Parts<'a>) -> Option<Form<'a>>
@@ -24,19 +26,31 @@ fn is_absolute(size: AddressSize) -> bool
     matches!(size, AddressSize::Absolute)
 }
 
+/// A pattern, after `a:` if the operand is absolute.
+fn sized(size: AddressSize, pattern: Pattern) -> Notation
+    ensures { result ≡ sized size pattern }
+{
+    match (size, pattern) {
+        (AddressSize::Absolute, Pattern::Direct) => Notation::Absolute,
+        (AddressSize::Absolute, Pattern::DirectX) => Notation::AbsoluteX,
+        (AddressSize::Absolute, Pattern::DirectY) => Notation::AbsoluteY,
+        (_, pattern) => Notation::Plain(pattern),
+    }
+}
+
 /// After the first expression; `size` says whether `a:` stands before it.
 #[tactic(auto, unfolding(crate::specs::Reading::tail_at))]
 fn tail_at<'a>(size: AddressSize, value: Value<'a>, parts: &mut Parts<'a>) -> Option<Form<'a>>
     ensures { Gives form_of_code result (tail_at size (value_of value.entry) parts.old) }
 {
     if !parts.eat(b',') {
-        return whole(Form::Direct(size, value), parts);
+        return whole(Form::One(sized(size, Pattern::Direct), value), parts);
     }
     if parts.eat_word(b"x") {
-        return whole(Form::DirectX(size, value), parts);
+        return whole(Form::One(sized(size, Pattern::DirectX), value), parts);
     }
     if parts.eat_word(b"y") {
-        return whole(Form::DirectY(size, value), parts);
+        return whole(Form::One(sized(size, Pattern::DirectY), value), parts);
     }
     if is_absolute(size) {
         return None;
@@ -52,12 +66,12 @@ fn inner_at<'a>(value: Value<'a>, parts: &mut Parts<'a>) -> Option<Form<'a>>
 {
     if parts.eat(b')') {
         if !parts.eat(b',') {
-            return whole(Form::Indirect(value), parts);
+            return whole(Form::One(Notation::Plain(Pattern::Indirect), value), parts);
         }
         if !parts.eat_word(b"y") {
             return None;
         }
-        return whole(Form::IndirectY(value), parts);
+        return whole(Form::One(Notation::Plain(Pattern::IndirectY), value), parts);
     }
     if !parts.eat(b',') {
         return None;
@@ -68,7 +82,7 @@ fn inner_at<'a>(value: Value<'a>, parts: &mut Parts<'a>) -> Option<Form<'a>>
     if !parts.eat(b')') {
         return None;
     }
-    whole(Form::IndirectX(value), parts)
+    whole(Form::One(Notation::Plain(Pattern::IndirectX), value), parts)
 }
 
 /// After `#` and `<` or `>`.
@@ -76,7 +90,7 @@ fn half_form<'a>(half: Half, parts: &mut Parts<'a>) -> Option<Form<'a>>
     ensures { Gives form_of_code result (half_form half parts.old) }
 {
     let value = halved_in(parts)?;
-    whole(Form::ImmediateHalf(half, value), parts)
+    whole(Form::One(Notation::Half(half), value), parts)
 }
 
 /// After `#`.
@@ -93,7 +107,7 @@ fn immediate_of<'a>(language: Language, parts: &mut Parts<'a>) -> Option<Form<'a
         }
     }
     let value = next_value(language, parts)?;
-    whole(Form::Immediate(value), parts)
+    whole(Form::One(Notation::Plain(Pattern::Immediate), value), parts)
 }
 
 /// The operand: everything after a mnemonic.

@@ -1,0 +1,9 @@
+use Rattle.std.proofs.Common.{◌≡◌, map, drop}
+use Rattle.stmt65.specs.Code.SourceLineViews.{value_of}
+use Rattle.stmt65.specs.Coding.{first_way, way_in}
+use Rattle.stmt65.proofs.assembling.coding.in_notation.Given as goal
+
+abbrev pub invariant-modes : goal.invariant-modes
+invariant-modes g l =
+    first_way l.coder.opcodes.now l.coder.mnemonic (map (way_in l.is_short l.notation (value_of l.value)) (drop l.mode-index l.modes))
+    ≡ first_way l.coder.opcodes.now l.coder.mnemonic (map (way_in l.is_short l.notation (value_of l.value)) l.modes)
