@@ -4,5 +4,6 @@ pub mod SegmentLemmas
 pub mod CommentLemmas
 pub mod MarkLemmas
 pub mod NextLemmas
+pub mod HeadingLemmas
 pub mod ConstantLemmas
 pub mod ListedGroupLemmas

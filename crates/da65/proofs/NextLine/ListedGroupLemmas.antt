@@ -1,29 +1,27 @@
 -- The groups that the code lists, and their statements.
-use Rattle.std.proofs.Common.{◌≡◌, ◌∙◌, ◌⊎◌, inl, inr, ℕ, ◌+◌, ◌<◌, ◌≤◌, List, length, Option, Some, None, true, refl, ap, sym, subst, arith}
+use Rattle.std.proofs.Common.{◌≡◌, ◌∙◌, ◌⊎◌, inl, inr, ℕ, ◌<◌, ◌≤◌, List, length, Some, None, true, refl, ap, sym, subst, arith}
 use Rattle.std.specs.Prelude.{is_some}
-use Rattle.std.specs.Option.{option_map}
 use Rattle.std.proofs.lemmas.List.{length-take}
-use Rattle.isa65.specs.Mode.{len_of, row_len, size_of}
+use Rattle.isa65.specs.Mode.{len_of}
 use Rattle.isa65.specs.declared.op.Op.{Op}
-use Rattle.isa65.specs.declared.row.OperandKind.{OperandKind}
 use Rattle.isa65.specs.declared.row.Row.{Row}
 use Rattle.isa65.specs.declared.row.Row.TheVariants as row
 use Rattle.info65.specs.declared.information.range.RangeType.{RangeType}
 use Rattle.info65.specs.declared.information.range.RangeType.TheVariants.{Code}
-use Rattle.map65.specs.ImageView.{IsPlaced, is_inside}
+use Rattle.map65.specs.ImageView.{is_inside}
 use Rattle.map65.proofs.Public.{inside-if}
 use Rattle.map65.specs.MapView.{MapView, opcodes}
 use Rattle.map65.specs.Roles.{role_of}
 use Rattle.stmt65.specs.Views as view
-use Rattle.stmt65.specs.Views.{ExprView, OperandsView, StatementView}
+use Rattle.stmt65.specs.Views.{OperandsView, StatementView}
 use Rattle.da65.specs.BaseNames.{Names, names_of}
-use Rattle.da65.specs.Code.ListedGroups.{IsGroupIn, IsInstructionIn, WritesOne, WritesTwo}
+use Rattle.da65.specs.Code.ListedGroups.{IsGroupIn, IsInstructionIn}
 use Rattle.da65.specs.Instructions.{instruction_in}
 use Rattle.da65.specs.Lines.{IsStatementOf}
 use Rattle.da65.specs.Shapes.{IsGroupOf}
-use Rattle.da65.specs.Statements.{is_forced, operand_expr, operands_of, row_operands, statement_for, statement_in}
+use Rattle.da65.specs.Statements.{is_forced, operands_of, row_operands, statement_for, statement_in}
 use Rattle.da65.specs.declared.listing.group.Group.{Group}
-use Rattle.da65.proofs.Groups.GroupLemmas.{group-fits, group-some}
+use Rattle.da65.proofs.Groups.GroupLemmas.{group-some}
 use Rattle.da65.proofs.Groups.ShapeLemmas.{group-shape}
 use Rattle.isa65.proofs.ModeLaws.{len-small}
 use Rattle.da65.proofs.Statements.EachStatement.{of_group}
@@ -33,9 +31,6 @@ use Rattle.map65.specs.Items.{code_size}
 
 pub has-bytes : (m : MapView) (g : Group) → IsGroupIn m g → 0 < length g.bytes.now
 has-bytes m g is = omega (arith, is.len_is, group-some m g.index is.start.place is.start.inside is.start.shown)
-
-pub in-space : (m : MapView) (g : Group) → IsPlaced m.image → IsGroupIn m g → g.address + length g.bytes.now ≤ 65536
-in-space m g placed is = omega (arith, is.address_is, is.len_is, group-fits m g.index is.start.place is.start.inside is.start.shown, placed.room)
 
 -- its first byte lies in the image
 pub is-inside : (m : MapView) (g : Group) → IsGroupIn m g → is_inside m.image g.address ≡ true
@@ -106,31 +101,3 @@ is-long m g op is = (begins_with (opcodes m) g.bytes.now op is.begins).long
 pub bare : (n : Names) (r : Row) (next : ℕ) (bytes : List ℕ) → (r ≡ row.Implied) ⊎ (r ≡ row.Accumulator) → Some view.none ≡ row_operands n r next bytes
 bare n r next bytes (inl is) = rw is refl
 bare n r next bytes (inr is) = rw is refl
-
--- a row with one operand has that one
-pub one-operand : (n : Names) (r : Row) (kind : OperandKind) (next : ℕ) (bytes : List ℕ) (o : Option ExprView) → WritesOne r kind
-    → o ≡ operand_expr n kind next 1 bytes → option_map (λ e. view.one e) o ≡ row_operands n r next bytes
-one-operand n (row.One p k) kind next bytes o same is = rw (same, is) refl
-one-operand n row.Implied kind next bytes o same is = absurd same
-one-operand n row.Accumulator kind next bytes o same is = absurd same
-one-operand n (row.Two k l) kind next bytes o same is = absurd same
-
-pub one-len : (r : Row) (kind : OperandKind) → WritesOne r kind → 1 + size_of kind ≡ row_len r
-one-len (row.One p k) kind same = rw same refl
-one-len row.Implied kind same = absurd same
-one-len row.Accumulator kind same = absurd same
-one-len (row.Two k l) kind same = absurd same
-
--- and one with two has those two
-pub two-operands : (n : Names) (r : Row) (first second : OperandKind) (next : ℕ) (bytes : List ℕ) → WritesTwo r first second
-    → row_operands n (row.Two first second) next bytes ≡ row_operands n r next bytes
-two-operands n (row.Two k l) first second next bytes same = rw (same.0, same.1) refl
-two-operands n row.Implied first second next bytes same = absurd same
-two-operands n row.Accumulator first second next bytes same = absurd same
-two-operands n (row.One p k) first second next bytes same = absurd same
-
-pub two-len : (r : Row) (first second : OperandKind) → WritesTwo r first second → row_len (row.Two first second) ≡ row_len r
-two-len (row.Two k l) first second same = rw (same.0, same.1) refl
-two-len row.Implied first second same = absurd same
-two-len row.Accumulator first second same = absurd same
-two-len (row.One p k) first second same = absurd same

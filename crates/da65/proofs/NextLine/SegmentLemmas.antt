@@ -1,6 +1,6 @@
 -- The segment of the group before.
-use Rattle.std.proofs.Common.{◌≡◌, ◌∙◌, ℕ, zero, suc, ◌+◌, ◌-◌, ◌<◌, true, false, List, length, Option, Some, None, refl, ap, arith, sym, ⊎_elim, []}
-use Rattle.std.proofs.lemmas.Bool.{cases_eq, cond-true, cond-false, cond_both, false_from_ne_true, true≢false}
+use Rattle.std.proofs.Common.{◌≡◌, ◌∙◌, ℕ, zero, suc, ◌+◌, ◌-◌, ◌<◌, true, false, List, length, Option, Some, None, refl, ap, arith, sym, []}
+use Rattle.std.proofs.lemmas.Bool.{cond-true, cond-false, cond_both, false_from_ne_true, true≢false}
 use Rattle.std.proofs.lemmas.Slice.Eq.{bytes_eq-Decides}
 use Rattle.map65.specs.MapView.{MapView}
 use Rattle.map65.specs.Pieces.{AreOneRun, is_in_run}
@@ -51,31 +51,35 @@ segment-next m k start =
     let place : k + group_len m (m.image.start + k) ≡ k + suc (group_len m (m.image.start + k) - 1) = omega (arith, some) in
     ap (segment_before m) place ∙ segment-inside m k (group_len m (m.image.start + k) - 1) start (omega (arith, some))
 
+-- after any byte of one
+pub segment-after : (m : MapView) (k : ℕ) → k < length m.image.bytes → is_skip (role_of m.info (m.image.start + k)) ≡ false → segment_before m (k + 1) ≡ segment_at m (m.image.start + k)
+segment-after m k low shown =
+    let held = holder m k low in
+    let p : ℕ = held.first in
+    let shown : is_skip (role_of m.info (m.image.start + p)) ≡ false =
+    false_from_ne_true (is_skip (role_of m.info (m.image.start + p))) (λ skip.
+    let alone : p ≡ k = omega (arith, held.low, held.reach, stride-skip m (m.image.start + p) skip) in
+    true≢false (sym skip ∙ ap (λ (x : ℕ). is_skip (role_of m.info (m.image.start + x))) alone ∙ shown)) in
+    let inside : p < length m.image.bytes = omega (arith, held.low, low) in
+    let group : IsGroupStart m p = record { place = held.place; inside = inside; shown = shown } in
+    let within : k < p + group_len m (m.image.start + p) = omega (arith, held.reach, stride-group m (m.image.start + p) shown) in
+    let after : k + 1 ≡ p + suc (k - p) = omega (arith, held.low) in
+    let piece = group-piece m p held.place inside shown in
+    let one : AreOneRun m (m.image.start + p) (m.image.start + k) = λ x above upto. joined-run m x (piece x above (omega (arith, upto, within))) in
+    ap (segment_before m) after ∙ segment-inside m p (k - p) group (omega (arith, within, held.low))
+    ∙ sym ((run_law m).segment (m.image.start + p) (m.image.start + k) (m.image.start + k) one (omega (arith, held.low)) (omega arith))
+
 -- the group before one that goes on with its run has the same segment
 pub segment-run : (m : MapView) (k : ℕ) → IsGroupStart m k → is_in_run m (m.image.start + k) ≡ true → segment_before m k ≡ segment_at m (m.image.start + k)
 segment-run m k start run =
     let a : ℕ = m.image.start + k in
     let here = in-run m a run in
     let i : ℕ = k - 1 in
-    let held = holder m i (omega (arith, start.inside)) in
-    let p : ℕ = held.first in
-    let last : m.image.start + i ≡ a - 1 = omega (arith, here.low) in
-    let shown-last : is_skip (role_of m.info (m.image.start + i)) ≡ false = ap (λ (x : ℕ). is_skip (role_of m.info x)) last ∙ ap is_skip here.same ∙ start.shown in
-    let shown : is_skip (role_of m.info (m.image.start + p)) ≡ false =
-    false_from_ne_true (is_skip (role_of m.info (m.image.start + p))) (λ skip.
-    let alone : p ≡ i = omega (arith, held.low, held.reach, stride-skip m (m.image.start + p) skip) in
-    true≢false (sym skip ∙ ap (λ (x : ℕ). is_skip (role_of m.info (m.image.start + x))) alone ∙ shown-last)) in
-    let low : p < length m.image.bytes = omega (arith, held.low, start.inside, here.low) in
-    let group : IsGroupStart m p = record { place = held.place; inside = low; shown = shown } in
-    let within : i < p + group_len m (m.image.start + p) = omega (arith, held.reach, stride-group m (m.image.start + p) shown) in
-    let after : p + suc (i - p) ≡ k = omega (arith, held.low, here.low) in
-    let piece = group-piece m p held.place low shown in
-    let one : AreOneRun m (m.image.start + p) a = λ x above upto.
-    ⊎_elim
-    (λ same. ap (is_in_run m) same ∙ run)
-    (λ other. joined-run m x (piece x above (omega (arith, upto, other, within, last))))
-    (cases_eq x a) in
-    ap (segment_before m) (sym after) ∙ segment-inside m p (i - p) group (omega (arith, within, held.low)) ∙ sym ((run_law m).segment (m.image.start + p) a a one (omega (arith, held.low)) (omega arith))
+    let last : a - 1 ≡ m.image.start + i = omega (arith, here.low) in
+    let after : k ≡ i + 1 = omega (arith, here.low) in
+    let shown : is_skip (role_of m.info (m.image.start + i)) ≡ false = ap (λ (x : ℕ). is_skip (role_of m.info x)) (sym last) ∙ ap is_skip here.same ∙ start.shown in
+    let one : AreOneRun m (m.image.start + i) a = λ x above upto. let same : x ≡ a = omega (arith, above, upto, last) in ap (is_in_run m) same ∙ run in
+    ap (segment_before m) after ∙ segment-after m i (omega (arith, start.inside)) shown ∙ sym ((run_law m).segment (m.image.start + i) a a one (omega (arith, after)) (omega arith))
 
 -- where each address is of the default
 pub segment-none : (m : MapView) (k : ℕ) → ((a : ℕ) → segment_at m a ≡ None) → segment_before m k ≡ None

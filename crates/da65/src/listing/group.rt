@@ -1,5 +1,7 @@
 //! The group that a line lists.
 
+ghost use Rattle.std.specs.Prelude.{◌≡◌, Some};
+
 /// The group that a line lists: bytes of one role that follow each other.
 #[derive(Clone, Copy)]
 pub struct Group<'a> {
@@ -9,4 +11,21 @@ pub struct Group<'a> {
     pub address: u16,
     /// Its bytes, 1 to 16.
     pub bytes: &'a [u8],
+    /// The label on the line of its statement, if there is one.
+    pub label: Option<&'a [u8]>,
+}
+
+impl<'a> Group<'a> {
+    /// The same group with this label.
+    pub fn with_label(self, label: &'a [u8]) -> Group<'a>
+        ensures { result ≡ record { index = self.entry.index; address = self.entry.address; bytes = self.entry.bytes; label = Some label.entry } }
+    {
+        let label = Some(label);
+        Group {
+            index: self.index,
+            address: self.address,
+            bytes: self.bytes,
+            label,
+        }
+    }
 }

@@ -1,20 +1,24 @@
-//! The lines before a group: the separator, the segment and the comments of its names.
+//! The lines before the label of a group: the separator, the segment, the comments of its names and its forward lines.
 
 ghost use Rattle.std.specs.Option.{option_copied};
-ghost use Rattle.std.specs.Prelude.{IfSome, ◌+◌, ◌≡◌};
+ghost use Rattle.std.specs.Bool.{OnFalse, OnTrue};
+ghost use Rattle.std.specs.Prelude.{IfSome, ◌+◌, ◌*◌, ◌≡◌, ◌≤◌, ◌<◌, length};
 ghost use Rattle.stmt65.specs.Printable.{IsNameLong};
-ghost use Rattle.da65.specs.Lines.{IsGroupStart, IsNext, IsNextIn, IsOfGroup, comments_left, groups_left, segment_left};
-ghost use Rattle.da65.specs.Listing.{has_separator, line_text, plain, separator};
+ghost use Rattle.da65.specs.BaseNames.{names_of};
+ghost use Rattle.da65.specs.Code.ListedGroups.{IsGroupIn};
+ghost use Rattle.da65.specs.Lines.{IsLineOf, IsUnnamed, group_left, groups_left, heading_lines};
+ghost use Rattle.da65.specs.Listing.{comment_lines, forward_lines, line_text, plain, segment_lines, separator_lines};
 ghost use Rattle.da65.specs.Segments.{is_same_segment, segment_before, segment_statement};
 ghost use Rattle.map65.specs.Segments.{segment_at};
 
-use crate::listing::comment_lines::put_comment;
-use crate::listing::group_lines::{group_at, put_from_forwards};
+use crate::listing::base_names::put_base;
+use crate::listing::comment_lines::comment_at;
+use crate::listing::group::Group;
+use crate::listing::line_groups::is_skipped;
 use crate::listing::listed_image::ListedImage;
-use crate::listing::place::ListingPlace;
-use crate::listing::statement_line::put_plain;
-use crate::listing::statements::OperandNames;
+use crate::listing::statement_line::{put_plain, put_remark};
 use crate::listing::style::Style;
+use map65::NameBuf;
 use std::alloc::Allocator;
 use stmt65::{Line, Statement};
 
@@ -38,16 +42,41 @@ fn is_same_segment(one: Option<&[u8]>, other: Option<&[u8]>) -> bool
     }
 }
 
+/// The segment of the last group before the byte of this index, with which a group begins. Without one it is the default.
+fn segment_before<'a, A: Allocator>(listed: &ListedImage<'a, A>, index: usize) -> Option<&'a [u8]>
+    requires { index ≤ length listed.now.image.bytes }
+    ensures { option_copied result ≡ segment_before listed.now index }
+{
+    let mut left = index;
+    'skipped: while 0 < left {
+        left -= 1;
+        let address = listed.address(left);
+        if !is_skipped(listed.map(), address) {
+            return segment_at(listed, address);
+        }
+    }
+    None
+}
+
 /// What stands in the separator.
 const HYPHENS: &[u8] =
     b"----------------------------------------------------------------------------";
 
-/// Replaces the buffer by the separator.
+/// Replaces the buffer by the separator, if it stands before this group: the group begins a run.
 #[tactic(auto, unfolding(crate::specs::Listing::separator))]
-fn put_separator(out: &mut Line, style: &Style)
-    ensures { out.new.items ≡ line_text style.now (plain separator) }
+fn put_separator<A: Allocator>(
+    out: &mut Line,
+    listed: &ListedImage<'_, A>,
+    group: Group<'_>,
+) -> bool
+    requires { IsGroupIn listed.now group }
+    ensures { IsLineOf listed.now (separator_lines listed.now group.entry.address) out.new.items result }
 {
-    put_plain(out, style, &Statement::Remark(HYPHENS));
+    if listed.style().level.get() == 0 || listed.map().is_in_run(group.address) {
+        return false;
+    }
+    put_remark(out, listed.style(), HYPHENS);
+    true
 }
 
 /// Replaces the buffer by the line that enters a segment.
@@ -61,81 +90,150 @@ fn put_segment_line(out: &mut Line, style: &Style, segment: Option<&[u8]>)
     }
 }
 
-/// Replaces the buffer by the first line of a group from the comment of the name of this address on, and returns the next
-/// place.
-#[inline(always)]
-pub fn put_from_comments<A: Allocator>(
+/// Replaces the buffer by the line that enters the segment of this group, if it is not that of the group before.
+fn put_segment<A: Allocator>(out: &mut Line, listed: &ListedImage<'_, A>, group: Group<'_>) -> bool
+    requires { IsGroupIn listed.now group }
+    ensures { IsLineOf listed.now (segment_lines listed.now group.entry.address) out.new.items result }
+{
+    let segment = segment_at(listed, group.address);
+    if is_same_segment(segment, segment_before(listed, group.index)) {
+        return false;
+    }
+    put_segment_line(out, listed.style(), segment);
+    true
+}
+
+/// Replaces the buffer by the comment of the name of this address, if it has one.
+fn put_comment<A: Allocator>(out: &mut Line, listed: &ListedImage<'_, A>, address: u16) -> bool
+    ensures { IsLineOf listed.now (comment_lines listed.now address) out.new.items result }
+{
+    match comment_at(listed, address) {
+        Some(text) => {
+            put_remark(out, listed.style(), text);
+            true
+        }
+        None => false,
+    }
+}
+
+/// Replaces the buffer by the forward line of an address, if it is defined by name, in the group that begins at `first`. The buffer for
+/// the name has a stack frame of its own.
+#[inline(never)]
+fn put_forward_named<A: Allocator>(
     out: &mut Line,
     listed: &ListedImage<'_, A>,
-    names: &mut OperandNames,
-    index: usize,
-    address: usize,
-) -> ListingPlace
-    requires { IsOfGroup listed.now index address }
-    ensures { IsNextIn listed.now index (comments_left listed.now index address) out.new.items result }
+    first: u16,
+    address: u16,
+) -> bool
+    requires { first ≤ address }
+    ensures { IsLineOf listed.now (forward_lines (names_of listed.now) first address) out.new.items result }
 {
-    let group = group_at(listed, index);
-    let first = group.address as usize;
-    match put_comment(out, listed, address, first + group.bytes.len()) {
-        Some(next) => ListingPlace::Comment {
-            index,
-            address: next + 1,
-        },
-        None => put_from_forwards(out, listed, names, group, first + 1),
+    let mut name = NameBuf::new();
+    if !put_base(listed.map(), address, &mut name) {
+        return false;
     }
+    put_plain(
+        out,
+        listed.style(),
+        &Statement::Forward(name.as_slice(), address - first),
+    );
+    true
 }
 
-/// Replaces the buffer by the first line of a group after its separator, and returns the next place. `segment` is that of the
-/// group before, and becomes that of this group.
-pub fn put_from_segment<'a, A: Allocator>(
+/// The same. Most addresses have no name, and need no buffer for one.
+#[inline(always)]
+#[tactic(auto, using(crate::proofs::Names::BaseLemmas::base_unnamed))]
+fn put_forward<A: Allocator>(
     out: &mut Line,
-    listed: &ListedImage<'a, A>,
-    segment: &mut Option<&'a [u8]>,
-    names: &mut OperandNames,
-    index: usize,
-) -> ListingPlace
-    requires start { IsGroupStart listed.now index }
-    requires segment { option_copied segment.old ≡ segment_before listed.now index }
-    ensures { IsNext listed.now (segment_left listed.now index) out.new.items result (option_copied segment.new) }
+    listed: &ListedImage<'_, A>,
+    first: u16,
+    address: u16,
+) -> bool
+    requires { first ≤ address }
+    ensures { IsLineOf listed.now (forward_lines (names_of listed.now) first address) out.new.items result }
 {
-    let address = listed.address(index);
-    let here = segment_at(listed, address);
-    if is_same_segment(here, *segment) {
-        return put_from_comments(out, listed, names, index, address as usize);
+    if !listed.map().has_name(address) {
+        return false;
     }
-    *segment = here;
-    put_segment_line(out, listed.style(), here);
-    ListingPlace::Comment {
-        index,
-        address: address as usize,
-    }
+    put_forward_named(out, listed, first, address)
 }
 
-/// Whether the separator stands before the group that begins with the byte of this index.
-fn has_separator<A: Allocator>(listed: &ListedImage<'_, A>, index: usize) -> bool
-    requires { IsGroupStart listed.now index }
-    ensures { result ≡ has_separator listed.now (listed.now.image.start + index) }
-{
-    listed.style().level.get() != 0 && !listed.map().is_in_run(listed.address(index))
-}
-
-/// Replaces the buffer by the first line of a group, and returns the next place. `segment` is that of the group before, and becomes
-/// that of this group where its line is written.
-#[inline(never)]
-pub fn put_from_separator<'a, A: Allocator>(
+/// Replaces the buffer by what has this number among the lines that may stand before the label of a group, if that is there.
+#[inline(always)]
+pub fn put_heading<A: Allocator>(
     out: &mut Line,
-    listed: &ListedImage<'a, A>,
-    segment: &mut Option<&'a [u8]>,
-    names: &mut OperandNames,
-    index: usize,
-) -> ListingPlace
-    requires start { IsGroupStart listed.now index }
-    requires segment { option_copied segment.old ≡ segment_before listed.now index }
-    ensures { IsNext listed.now (groups_left listed.now index) out.new.items result (option_copied segment.new) }
+    listed: &ListedImage<'_, A>,
+    group: Group<'_>,
+    number: usize,
+) -> bool
+    requires group { IsGroupIn listed.now group }
+    requires low { number < 2 * length group.bytes.now + 1 }
+    ensures { IsLineOf listed.now (heading_lines listed.now group.entry.address number) out.new.items result }
 {
-    if has_separator(listed, index) {
-        put_separator(out, listed.style());
-        return ListingPlace::Segment { index };
+    if number == 0 {
+        return put_separator(out, listed, group);
     }
-    put_from_segment(out, listed, segment, names, index)
+    if number == 1 {
+        return put_segment(out, listed, group);
+    }
+    let byte = number - 2;
+    let len = group.bytes.len();
+    if byte < len {
+        put_comment(out, listed, group.address + byte as u16)
+    } else {
+        put_forward(
+            out,
+            listed,
+            group.address,
+            group.address + (byte - len + 1) as u16,
+        )
+    }
+}
+
+/// Whether no address of a group has a name.
+#[inline(always)]
+fn is_unnamed<A: Allocator>(listed: &ListedImage<'_, A>, group: Group<'_>) -> bool
+    requires { IsGroupIn listed.now group }
+    ensures { OnTrue result (IsUnnamed listed.now group.entry.address (length group.entry.bytes.now)) }
+{
+    let first = usize::from(group.address);
+    for address in first..first + group.bytes.len() {
+        if listed.map().has_name(address as u16) {
+            return false;
+        }
+    }
+    true
+}
+
+/// Whether a separator or a segment line may stand before a group. It stands only before the first group of a run.
+#[inline(always)]
+fn may_have_head<A: Allocator>(listed: &ListedImage<'_, A>, group: Group<'_>) -> bool
+    requires { IsGroupIn listed.now group }
+    ensures { OnFalse result (group_left listed.now group.entry.index 2 ≡ groups_left listed.now group.entry.index) }
+{
+    if !listed.is_marked() {
+        return false;
+    }
+    if listed.map().is_in_run(group.address) {
+        return false;
+    }
+    true
+}
+
+/// A number before which a group has no such lines. Most listings have none but forward lines, and most groups have no names.
+#[inline(always)]
+pub fn first_heading<A: Allocator>(listed: &ListedImage<'_, A>, group: Group<'_>) -> usize
+    requires { IsGroupIn listed.now group }
+    ensures { group_left listed.now group.entry.index result ≡ groups_left listed.now group.entry.index }
+{
+    if may_have_head(listed, group) {
+        return 0;
+    }
+    if is_unnamed(listed, group) {
+        return 2 * group.bytes.len() + 1;
+    }
+    if listed.is_marked() {
+        return 2;
+    }
+    2 + group.bytes.len()
 }

@@ -1,23 +1,21 @@
 //! The lines of a listing, one at a time.
 
-ghost use Rattle.std.specs.Prelude.{◌≡◌, ◌+◌, ◌<◌, ◌≤◌, [], ◌∷◌, IfNone, IfSome, MatchOption, None, OnOk, OnErr, false};
-ghost use Rattle.std.specs.Option.{option_copied};
+ghost use Rattle.std.specs.Prelude.{◌≡◌, ◌≤◌, [], ◌∷◌, IfSome, MatchOption, OnOk, OnErr};
 ghost use Rattle.std.specs.Bool.{OnTrue, OnFalse};
 ghost use Rattle.std.specs.Io.KnownBytes.{Appends};
 ghost use Rattle.map65.specs.Device.{Counts, AppendsFront};
 ghost use Rattle.da65.specs.Groups.{IsGroupPlace};
-ghost use Rattle.da65.specs.Lines.{HasNoHead, IsGroupStart, IsNext, IsPlace, MayBeNext, groups_left, constants_left, left_from, segment_of};
+ghost use Rattle.da65.specs.Lines.{IsGroupStart, IsNext, IsPlace, MayBeNext, constants_left, groups_left, left_from};
 ghost use Rattle.da65.specs.Listing.{lines_of, text_of};
-ghost use Rattle.da65.specs.Segments.{segment_before};
+ghost use Rattle.da65.specs.declared.listing.place.ListingPlace.TheVariants.{Header};
 
 use crate::listing::constant_lines::{put_assignment, put_next_constant};
-use crate::listing::group_lines::{group_at, put_from_forwards, put_from_statement};
-use crate::listing::heading_lines::{put_from_comments, put_from_segment, put_from_separator};
+use crate::listing::group_lines::{group_at, put_group_line, put_statement};
+use crate::listing::heading_lines::first_heading;
 use crate::listing::line_groups::is_skipped;
 use crate::listing::listed_image::ListedImage;
 use crate::listing::place::ListingPlace;
-use crate::listing::statement_line::{put_blank, put_cpu, put_title};
-use crate::listing::statements::OperandNames;
+use crate::listing::statement_line::{put_blank, put_header_line};
 use info65::Info;
 use map65::{DeviceFault, Image, Map, Sink, write_whole};
 use std::alloc::{Allocator, Global};
@@ -29,13 +27,10 @@ use stmt65::Line;
 pub struct Lines<'a, A: Allocator = Global> {
     listed: ListedImage<'a, A>,
     place: ListingPlace,
-    segment: Option<&'a [u8]>,
-    names: OperandNames,
 }
 
 impl<'a, A: Allocator> Model for Lines<'a, A> {
     ghost use Rattle.std.specs.Prelude.{ℕ, List};
-    ghost use Rattle.std.specs.Option.{option_copied};
 
     ghost Value = { List (List ℕ) };
 
@@ -43,16 +38,15 @@ impl<'a, A: Allocator> Model for Lines<'a, A> {
 
     ghost view = { λ l. lines_from l.place l.listed };
 
-    ghost use Rattle.da65.specs.Lines.{AreLines};
+    ghost use Rattle.da65.specs.Lines.{IsPlace};
 
-    ghost invariant = { λ l. AreLines l.place l.listed (option_copied l.segment) };
+    ghost invariant = { λ l. IsPlace l.place l.listed };
 }
 
 /// The first byte from this one on that is not skipped, if there is one. A group begins with it.
 fn shown_from<A: Allocator>(listed: &ListedImage<'_, A>, from: usize) -> Option<usize>
     requires { IsGroupPlace listed.now from }
     ensures lines { MatchOption result (groups_left listed.now from ≡ []) (λ at. groups_left listed.now at ≡ groups_left listed.now from) }
-    ensures segment { IfSome result (λ at. segment_before listed.now at ≡ segment_before listed.now from) }
     ensures start { IfSome result (IsGroupStart listed.now) }
 {
     for at in from..listed.bytes().len() {
@@ -80,75 +74,43 @@ fn is_shown<A: Allocator>(listed: &ListedImage<'_, A>, index: usize) -> bool
     true
 }
 
-/// Whether a separator or a segment line may stand before the group that begins with the byte of this index. It stands only
-/// before the first group of a run.
-#[inline(always)]
-fn may_have_head<A: Allocator>(listed: &ListedImage<'_, A>, index: usize) -> bool
-    requires { IsGroupStart listed.now index }
-    ensures { OnFalse result (HasNoHead listed.now index) }
-{
-    if !listed.is_marked() {
-        return false;
-    }
-    if listed.map().is_in_run(listed.address(index)) {
-        return false;
-    }
-    true
-}
-
 /// Replaces the buffer by the first line of the group that begins with the byte of this index, and returns the next place.
-/// `segment` is that of the group before, and becomes that of this group where its line is written.
 #[inline(always)]
-fn put_group_at<'a, A: Allocator>(
+fn put_first_line<A: Allocator>(
     out: &mut Line,
-    listed: &ListedImage<'a, A>,
-    segment: &mut Option<&'a [u8]>,
-    names: &mut OperandNames,
+    listed: &ListedImage<'_, A>,
     index: usize,
 ) -> ListingPlace
-    requires start { IsGroupStart listed.now index }
-    requires segment { option_copied segment.old ≡ segment_before listed.now index }
-    ensures { IsNext listed.now (groups_left listed.now index) out.new.items result (option_copied segment.new) }
+    requires { IsGroupStart listed.now index }
+    ensures { IsNext listed.now (groups_left listed.now index) out.new.items result }
 {
-    if may_have_head(listed, index) {
-        return put_from_separator(out, listed, segment, names, index);
-    }
-    let address = listed.address(index) as usize;
-    put_from_comments(out, listed, names, index, address)
+    let group = group_at(listed, index);
+    put_group_line(out, listed, group, first_heading(listed, group))
 }
 
-/// Replaces the buffer by the first line of the next group from this byte on, and returns the next place. `segment` is that of
-/// the group before, and becomes that of this group where its line is written.
+/// Replaces the buffer by the first line of the next group from this byte on, and returns the next place.
 #[inline(never)]
-fn put_next_group<'a, A: Allocator>(
+fn put_next_group<A: Allocator>(
     out: &mut Line,
-    listed: &ListedImage<'a, A>,
-    segment: &mut Option<&'a [u8]>,
-    names: &mut OperandNames,
+    listed: &ListedImage<'_, A>,
     from: usize,
 ) -> Option<ListingPlace>
-    requires place { IsGroupPlace listed.now from }
-    requires segment { option_copied segment.old ≡ segment_before listed.now from }
-    ensures next { MayBeNext listed.now (groups_left listed.now from) out.new.items result (option_copied segment.new) }
-    ensures kept { IfNone result (option_copied segment.new ≡ option_copied segment.old) }
+    requires { IsGroupPlace listed.now from }
+    ensures { MayBeNext listed.now (groups_left listed.now from) out.new.items result }
 {
     let index = shown_from(listed, from)?;
-    Some(put_group_at(out, listed, segment, names, index))
+    Some(put_first_line(out, listed, index))
 }
 
 /// Replaces the buffer by the next line of constants from this address on, else by what follows them, and returns the next place.
-fn put_constants<'a, A: Allocator>(
+fn put_constants<A: Allocator>(
     out: &mut Line,
-    listed: &ListedImage<'a, A>,
-    segment: &mut Option<&'a [u8]>,
-    names: &mut OperandNames,
+    listed: &ListedImage<'_, A>,
     address: usize,
     after_another: bool,
 ) -> Option<ListingPlace>
-    requires inside { address ≤ 65536 }
-    requires segment { option_copied segment.old ≡ None }
-    ensures next { MayBeNext listed.now (constants_left listed.now address after_another) out.new.items result (option_copied segment.new) }
-    ensures kept { IfNone result (option_copied segment.new ≡ option_copied segment.old) }
+    requires { address ≤ 65536 }
+    ensures { MayBeNext listed.now (constants_left listed.now address after_another) out.new.items result }
 {
     if let Some(next) = put_next_constant(out, listed, address, after_another) {
         return Some(next);
@@ -157,61 +119,53 @@ fn put_constants<'a, A: Allocator>(
         put_blank(out, listed.style());
         return Some(ListingPlace::Group { index: 0 });
     }
-    put_next_group(out, listed, segment, names, 0)
+    put_next_group(out, listed, 0)
 }
 
-/// Replaces the buffer by the line at a place, and returns the place of the next one. `segment` is that of the place, and becomes that
-/// of the next place.
-#[inline(always)]
-fn put_next<'a, A: Allocator>(
+/// Replaces the buffer by the line of this number of the header, and returns the next place.
+fn put_header<A: Allocator>(
     out: &mut Line,
-    listed: &ListedImage<'a, A>,
-    segment: &mut Option<&'a [u8]>,
-    names: &mut OperandNames,
+    listed: &ListedImage<'_, A>,
+    number: usize,
+) -> ListingPlace
+    requires { IsPlace (Header number) listed.now }
+    ensures { IsNext listed.now (left_from (Header number) listed.now) out.new.items result }
+{
+    put_header_line(out, listed.style(), number);
+    if number < 3 {
+        ListingPlace::Header { number: number + 1 }
+    } else {
+        ListingPlace::Constant {
+            address: 0,
+            after_another: false,
+        }
+    }
+}
+
+/// Replaces the buffer by the line at a place, and returns the place of the next one.
+#[inline(always)]
+fn put_next<A: Allocator>(
+    out: &mut Line,
+    listed: &ListedImage<'_, A>,
     place: ListingPlace,
 ) -> Option<ListingPlace>
-    requires place { IsPlace place listed.now }
-    requires segment { option_copied segment.old ≡ segment_of place listed.now }
-    ensures next { MayBeNext listed.now (left_from place listed.now) out.new.items result (option_copied segment.new) }
-    ensures kept { IfNone result (option_copied segment.new ≡ option_copied segment.old) }
+    requires { IsPlace place listed.now }
+    ensures { MayBeNext listed.now (left_from place listed.now) out.new.items result }
 {
     match place {
-        ListingPlace::Title => {
-            put_title(out, listed.style());
-            Some(ListingPlace::AfterTitle)
-        }
-        ListingPlace::AfterTitle => {
-            put_blank(out, listed.style());
-            Some(ListingPlace::CpuLine)
-        }
-        ListingPlace::CpuLine => {
-            put_cpu(out, listed.style());
-            Some(ListingPlace::AfterCpu)
-        }
-        ListingPlace::AfterCpu => {
-            put_blank(out, listed.style());
-            Some(ListingPlace::Constant {
-                address: 0,
-                after_another: false,
-            })
-        }
+        ListingPlace::Header { number } => Some(put_header(out, listed, number)),
         ListingPlace::Constant {
             address,
             after_another,
-        } => put_constants(out, listed, segment, names, address, after_another),
+        } => put_constants(out, listed, address, after_another),
         ListingPlace::Assignment { address } => Some(put_assignment(out, listed, address)),
-        ListingPlace::Group { index } => put_next_group(out, listed, segment, names, index),
-        ListingPlace::Segment { index } => Some(put_from_segment(
-            out, listed, segment, names, index,
-        )),
-        ListingPlace::Comment { index, address } => {
-            Some(put_from_comments(out, listed, names, index, address))
-        },
-        ListingPlace::Forward { index, address } => {
-            let group = group_at(listed, index);
-            Some(put_from_forwards(out, listed, names, group, address))
-        },
-        ListingPlace::Statement { index } => Some(put_from_statement(out, listed, names, index)),
+        ListingPlace::Group { index } => put_next_group(out, listed, index),
+        ListingPlace::Heading { index, number } => {
+            Some(put_group_line(out, listed, group_at(listed, index), number))
+        }
+        ListingPlace::Statement { index } => {
+            Some(put_statement(out, listed, group_at(listed, index)))
+        }
         ListingPlace::Ending { index } => {
             put_blank(out, listed.style());
             Some(ListingPlace::Group { index })
@@ -228,9 +182,7 @@ impl<'a, A: Allocator> Lines<'a, A> {
     {
         Lines {
             listed: ListedImage::new(map),
-            place: ListingPlace::Title,
-            segment: None,
-            names: OperandNames::new(),
+            place: ListingPlace::Header { number: 0 },
         }
     }
 
@@ -248,13 +200,7 @@ impl<'a, A: Allocator> Lines<'a, A> {
         if let ListingPlace::Group { index } = self.place {
             // Most lines are the first of a group, and are made here.
             if is_shown(&self.listed, index) {
-                self.place = put_group_at(
-                    out,
-                    &self.listed,
-                    &mut self.segment,
-                    &mut self.names,
-                    index,
-                );
+                self.place = put_first_line(out, &self.listed, index);
                 return true;
             }
         }
@@ -270,13 +216,7 @@ impl<'a, A: Allocator> Lines<'a, A> {
         ensures still { OnFalse result (self.new ≡ []) }
         ensures empty { OnFalse result (out.new.items ≡ []) }
     {
-        match put_next(
-            out,
-            &self.listed,
-            &mut self.segment,
-            &mut self.names,
-            self.place,
-        ) {
+        match put_next(out, &self.listed, self.place) {
             Some(next) => {
                 self.place = next;
                 true

@@ -4,14 +4,10 @@
 /// known by the index of its first byte.
 #[derive(Clone, Copy)]
 pub enum ListingPlace {
-    /// The remark at the head.
-    Title,
-    /// The empty line after it.
-    AfterTitle,
-    /// `.setcpu`.
-    CpuLine,
-    /// The empty line after it.
-    AfterCpu,
+    /// The line of this number of the header, 0 to 3.
+    Header {
+        number: usize,
+    },
     /// The lines of the constant of this address, or of the next one that has any.
     Constant {
         address: usize,
@@ -26,19 +22,10 @@ pub enum ListingPlace {
     Group {
         index: usize,
     },
-    /// The line that enters the segment of this group, or what follows it: its separator was written.
-    Segment {
+    /// What has this number among the lines that may stand before the label of this group, or what follows it.
+    Heading {
         index: usize,
-    },
-    /// The comment of the name of the address, or what follows it in this group.
-    Comment {
-        index: usize,
-        address: usize,
-    },
-    /// The forward line of the address, or what follows it in this group.
-    Forward {
-        index: usize,
-        address: usize,
+        number: usize,
     },
     /// The statement of this group, after its label.
     Statement {

@@ -11,7 +11,7 @@ ghost use Rattle.stmt65.specs.Code.StatementViews.{expr_seen, operands_seen, sta
 ghost use Rattle.da65.specs.BaseNames.{names_of};
 ghost use Rattle.da65.specs.Instructions.{instruction_in};
 ghost use Rattle.da65.specs.Shapes.{IsGroupOf};
-ghost use Rattle.da65.specs.Statements.{address_entry, is_forced, numbers, operand_expr, return_entry, row_operands, statement_for};
+ghost use Rattle.da65.specs.Statements.{address_entry, is_forced, numbers, operand_expr, operands_of, return_entry, statement_for};
 
 use crate::listing::base_names::{address_expr, target, zero_page_expr};
 use info65::{Entry, RangeType};
@@ -85,25 +85,35 @@ pub fn operand_expr<'n, A: Allocator>(
     }
 }
 
-/// Two operands, of these kinds: none where an expression of them is none.
+/// The operands of an instruction at this address, whose bytes these begin with: none where a target lies outside the address space.
 #[inline(always)]
-pub fn two_operands<'n, A: Allocator>(
+#[tactic(auto, unfolding(crate::specs::Statements::operands_of))]
+pub fn operands_of<'n, A: Allocator>(
     map: &Map<'_, A>,
-    first: OperandKind,
-    second: OperandKind,
-    next: u32,
+    op: Op,
+    address: u16,
     bytes: &[u8],
     names: &'n mut OperandNames,
 ) -> Option<Operands<'n>>
     requires names { AreNames map.now.info.names }
-    requires all { row_len (Two first second) ≤ length bytes.now }
-    requires room { next ≤ 65536 }
-    ensures { option_map operands_seen result ≡ row_operands (names_of map.now) (Two first second) next bytes.now }
+    requires all { len_of op.mode ≤ length bytes.now }
+    requires room { address + len_of op.mode ≤ 65536 }
+    ensures { option_map operands_seen result ≡ operands_of (names_of map.now) op.mode address bytes.now }
 {
-    let at = 1 + usize::from(first.size());
-    let tested = operand_expr(map, first, next, 1, bytes, &mut names.first)?;
-    let target = operand_expr(map, second, next, at, bytes, &mut names.second)?;
-    Some(Operands::Two(tested, target))
+    let next = u32::from(address) + u32::from(op.mode.len());
+    match op.mode.row() {
+        Row::Implied | Row::Accumulator => Some(Operands::None),
+        Row::One(_, kind) => {
+            let operand = operand_expr(map, kind, next, 1, bytes, &mut names.first)?;
+            Some(Operands::One(operand))
+        }
+        Row::Two(first, second) => {
+            let at = 1 + usize::from(first.size());
+            let tested = operand_expr(map, first, next, 1, bytes, &mut names.first)?;
+            let target = operand_expr(map, second, next, at, bytes, &mut names.second)?;
+            Some(Operands::Two(tested, target))
+        }
+    }
 }
 
 /// Whether `a:` stands before the operand: an assembler would take the zero-page mode without it.
@@ -186,7 +196,7 @@ pub fn table_statement<'a, A: Allocator>(
     map: &Map<'_, A>,
     role: RangeType,
     bytes: &'a [u8],
-    names: &'a mut OperandNames,
+    name: &'a mut NameBuf,
 ) -> Statement<'a>
     requires names { AreNames map.now.info.names }
     requires some { 0 < length bytes.now }
@@ -200,8 +210,8 @@ pub fn table_statement<'a, A: Allocator>(
     }
     match layout.entry {
         Entry::Number(order) => numbers(layout.unit, order, bytes),
-        Entry::Address => address_entry(map, bytes, &mut names.first),
-        Entry::Return => return_entry(map, bytes, &mut names.first),
+        Entry::Address => address_entry(map, bytes, name),
+        Entry::Return => return_entry(map, bytes, name),
         Entry::Character => Statement::Text(bytes),
         Entry::Instruction | Entry::Skipped => unreachable!(),
     }

@@ -18,10 +18,6 @@ split_at-requires-2 g c =
     let rest = ap length c.split_at.ensures.back ∙ length-drop c.args.index c.bytes.result.now in
     omega (arith, fits, count, rest, len)
 
-pub returns-clause-len : goal.returns-clause-len
-returns-clause-len g c =
-    c.split_at-2.ensures.front_len ∙ c.group_len-len.ensures.len ∙ ap (λ (m : MapView). group_len m c.address-address.result) c.map-map.ensures.map ∙ ap (group_len c.args.listed.now) c.address-address.ensures
-
 pub returns-clause-group : goal.returns-clause-group
 returns-clause-group g c =
     let len : c.group_len-len.result ≡ group_len c.args.listed.now (c.args.listed.now.image.start + c.args.index) = c.group_len-len.ensures.len ∙ ap (λ (m : MapView). group_len m c.address-address.result) c.map-map.ensures.map ∙ ap (group_len c.args.listed.now) c.address-address.ensures in
@@ -33,5 +29,7 @@ returns-clause-group g c =
       address_is = c.address-address.ensures;
       bytes_are = bytes;
       len_is = c.split_at-2.ensures.front_len ∙ len;
+      room = omega (arith, c.address-address.ensures, c.split_at-2.ensures.front_len ∙ len, group-fits c.args.listed.now _ c.requires.place c.requires.inside c.requires.shown, c.bytes.ensures.placed.room);
+      label = tt;
       printable = (statement_prints _ _ (rw c.map-map.ensures.map at c.map-map.ensures.names) (rw c.map-map.ensures.map at c.map-map.ensures.placed) (rw bytes at c.are_bytes.ensures) (begins-true _ _ c.requires.inside c.requires.shown c.requires.place.group)).printable;
     }

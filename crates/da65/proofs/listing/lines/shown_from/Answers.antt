@@ -3,7 +3,6 @@ use Rattle.map65.specs.MapView.{MapView}
 use Rattle.map65.specs.Roles.{is_skip, role_of}
 use Rattle.da65.proofs.Groups.GroupLemmas.{place-skip}
 use Rattle.da65.proofs.NextLine.NextLemmas.{lines-end, lines-skip}
-use Rattle.da65.proofs.NextLine.SegmentLemmas.{segment-skip}
 use Rattle.da65.proofs.listing.lines.shown_from.Goals as goal
 
 pub loop-at-preserved : goal.loop-at-preserved
@@ -14,7 +13,6 @@ loop-at-preserved g c =
     record {
       place = place-skip _ _ c.loop-at.invariant.place low skip;
       lines = lines-skip _ _ c.loop-at.invariant.place low skip ∙ c.loop-at.invariant.lines;
-      segment = segment-skip _ _ low skip ∙ c.loop-at.invariant.segment;
     }
 
 pub returns-clause-lines : goal.returns-clause-lines

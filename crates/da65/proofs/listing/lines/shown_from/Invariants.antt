@@ -1,12 +1,10 @@
 use Rattle.std.proofs.Common.{◌≡◌}
 use Rattle.da65.specs.Groups.{IsGroupPlace}
 use Rattle.da65.specs.Lines.{groups_left}
-use Rattle.da65.specs.Segments.{segment_before}
 use Rattle.da65.proofs.listing.lines.shown_from.Given as goal
 
 abbrev pub invariant-loop-at : goal.invariant-loop-at
 invariant-loop-at g l = record {
   place : IsGroupPlace l.listed l.at;
   lines : groups_left l.listed l.at ≡ groups_left l.listed l.from;
-  segment : segment_before l.listed l.at ≡ segment_before l.listed l.from;
 }

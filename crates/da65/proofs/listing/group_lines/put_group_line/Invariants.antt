@@ -1,0 +1,6 @@
+use Rattle.std.proofs.Common.{◌≡◌}
+use Rattle.da65.specs.Lines.{group_left}
+use Rattle.da65.proofs.listing.group_lines.put_group_line.Given as goal
+
+abbrev pub invariant-loop-number : goal.invariant-loop-number
+invariant-loop-number g l = group_left l.listed l.group.index l.number ≡ group_left l.listed l.group.index l.from
