@@ -16,7 +16,7 @@ WIDER = {
     "info65": 51,
     "map65": 13,
     "usage65": 10,
-    "da65": 53,
+    "da65": 28,
     "reach65": 20,
     "files65": 4,
     "da65_cli": 12,

@@ -11,6 +11,7 @@ use Rattle.da65.specs.Comments.{comment_at}
 use Rattle.da65.specs.Groups.{IsGroupPlace, group_bytes, group_len, groups_from, is_skip_range}
 use Rattle.da65.specs.Listing.{ListingLine, assignment_line, comment_lines, constants, ending_lines, forward_lines, group_line, group_lines, has_constant_line, has_separator, header_lines, line_text, plain, segment_lines, separator_lines, statement_lines, with_empty_line}
 use Rattle.da65.specs.Marks.{has_marks}
+use Rattle.da65.specs.Segments.{segment_statement}
 use Rattle.map65.specs.Segments.{segment_at}
 use Rattle.da65.specs.Statements.{statement_at}
 use Rattle.da65.specs.Style.{style_of}
@@ -37,6 +38,13 @@ constants_from m v = constants m (65536 - v) v
 -- no address from one on and before another has a constant line
 abbrev pub PassesOver : MapView → ℕ → ℕ → Type 0
 PassesOver m from to = constants_from m from ≡ constants_from m to
+
+-- the same up to the one that is found, or else up to the end, or of all
+abbrev pub PassesTo : MapView → ℕ → ℕ → Option ℕ → Type 0
+PassesTo m from end found = MatchOption found (PassesOver m from end) (PassesOver m from)
+
+abbrev pub PassesAll : MapView → ℕ → Option ℕ → Type 0
+PassesAll m from found = MatchOption found (constants_from m from ≡ []) (PassesOver m from)
 
 -- from the lines of the constant of an address on
 unfoldable pub constants_left : MapView → ℕ → Bool → List ListingLine
@@ -120,6 +128,14 @@ abbrev pub IsLineOf : MapView → List ListingLine → List ℕ → Bool → Typ
 IsLineOf m lines text true = IsFirstOf (style_of m.info.settings) lines text []
 IsLineOf m lines text false = lines ≡ []
 
+-- this one is the forward line of an address in the group that begins at `first`
+abbrev pub IsForwardLine : MapView → ℕ → ℕ → List ℕ → Bool → Type 0
+IsForwardLine m first v text some = IsLineOf m (forward_lines (names_of m) first v) text some
+
+-- the line that enters a segment
+abbrev pub segment_line : Option (List ℕ) → ListingLine
+segment_line s = plain (segment_statement s)
+
 -- the text of the first of these lines, and the place from which the lines after it are left
 pub record IsNext (m : MapView) (left : List ListingLine) (text : List ℕ) (next : ListingPlace) : Type 0 where
   pub lines : IsFirstOf (style_of m.info.settings) left text (left_from next m)
@@ -129,9 +145,25 @@ pub record IsNext (m : MapView) (left : List ListingLine) (text : List ℕ) (nex
 abbrev pub MayBeNext : MapView → List ListingLine → List ℕ → Option ListingPlace → Type 0
 MayBeNext m left text next = MatchOption next (left ≡ []) (IsNext m left text)
 
+-- the same of the lines that are left from a place
+abbrev pub MayBeNextAt : MapView → ListingPlace → List ℕ → Option ListingPlace → Type 0
+MayBeNextAt m place text next = MayBeNext m (left_from place m) text next
+
+-- from the one byte on the groups are left that are left from the other on; none are left if there is none
+abbrev pub LeadsTo : MapView → ℕ → Option ℕ → Type 0
+LeadsTo m from to = MatchOption to (groups_left m from ≡ []) (λ at. groups_left m at ≡ groups_left m from)
+
+-- the text is that of the line of this number of the header
+abbrev pub IsHeaderLine : Style → ℕ → List ℕ → Type 0
+IsHeaderLine t n text = IsFirstOf t (drop n (header_lines t.cpu)) text (drop (n + 1) (header_lines t.cpu))
+
 -- the text is that of the first line of the constants from an address on, `any` if one stands above
 abbrev pub IsConstantNext : MapView → ℕ → Bool → List ℕ → ListingPlace → Type 0
 IsConstantNext m v any text next = IsNext m (constants_left m v any) text next
+
+-- the same, where there may be none
+abbrev pub MayBeConstantNext : MapView → ℕ → Bool → List ℕ → Option ListingPlace → Type 0
+MayBeConstantNext m v any text next = MatchOption next (constants_from m v ≡ []) (IsConstantNext m v any text)
 
 -- the text is that of the constant line of an address
 abbrev pub IsAssignmentNext : MapView → ℕ → List ℕ → ListingPlace → Type 0
@@ -150,8 +182,8 @@ abbrev pub MayFollow : MapView → ℕ → Option (List ℕ) → Type 0
 MayFollow m k label = MayBeLabelled (style_of m.info.settings).columns label (statement_at m (m.image.start + k))
 
 -- none of so many addresses from one on has a name
-abbrev pub IsUnnamed : MapView → ℕ → ℕ → Type 0
-IsUnnamed m a n = (v : ℕ) → a ≤ v → v < a + n → has_name m v ≡ false
+abbrev pub AreUnnamed : MapView → ℕ → ℕ → Type 0
+AreUnnamed m a n = (v : ℕ) → a ≤ v → v < a + n → has_name m v ≡ false
 
 -- ---- what lists an image
 

@@ -10,7 +10,7 @@ use Rattle.map65.specs.Segments.{segment_at}
 use Rattle.map65.specs.Spans.{addresses}
 use Rattle.da65.specs.BaseNames.{names_of}
 use Rattle.da65.specs.Groups.{group_len}
-use Rattle.da65.specs.Lines.{IsFirstOf, IsGroupStart, after_group, group_left, groups_left, heading_count, heading_lines, headings_from, IsUnnamed}
+use Rattle.da65.specs.Lines.{IsFirstOf, IsGroupStart, after_group, group_left, groups_left, heading_count, heading_lines, headings_from, AreUnnamed}
 use Rattle.da65.specs.Listing.{ListingLine, comment_line, comment_lines, comments, forward_lines, forwards, group_lines, has_separator, opening_lines, plain, segment_lines, separator_lines, statement_lines}
 use Rattle.da65.specs.Marks.{has_marks}
 use Rattle.da65.specs.Segments.{is_same_segment, segment_before, segment_statement}
@@ -144,7 +144,7 @@ headings-unmarked m k start bare =
     ∙ headings-bare m k start bare
 
 -- and without names there is no forward line either
-pub headings-unnamed : (m : MapView) (k : ℕ) → IsGroupStart m k → IsUnnamed m (m.image.start + k) (group_len m (m.image.start + k)) → group_left m k (heading_count m (m.image.start + k)) ≡ group_left m k 2
+pub headings-unnamed : (m : MapView) (k : ℕ) → IsGroupStart m k → AreUnnamed m (m.image.start + k) (group_len m (m.image.start + k)) → group_left m k (heading_count m (m.image.start + k)) ≡ group_left m k 2
 headings-unnamed m k start unnamed =
     let a : ℕ = m.image.start + k in
     let some = group-some m k start.place start.inside start.shown in

@@ -19,7 +19,7 @@ use Rattle.da65.specs.Style.{style_of}
 use Rattle.da65.specs.declared.listing.place.ListingPlace.{ListingPlace}
 use Rattle.da65.specs.declared.listing.place.ListingPlace.TheVariants.{Constant, Ending, Group, Header}
 use Rattle.da65.specs.declared.listing.style.Style.{Style}
-use Rattle.da65.proofs.Groups.GroupLemmas.{groups-end, groups-first, groups-skip, item-begins, place-next}
+use Rattle.da65.proofs.Groups.GroupLemmas.{groups-end, groups-first, groups-skip, place-next}
 use Rattle.da65.proofs.Groups.ShapeLemmas.{group-shape}
 use Rattle.da65.proofs.Groups.StepLemmas.{addresses-end, addresses-here}
 use Rattle.da65.proofs.Statements.LabelLaws.{group_takes}
@@ -178,6 +178,3 @@ constant-base m v is = (and_parts (is_base (names_of m) v) _ is.has).0
 -- an item begins at each group, and none at a skipped byte
 pub shown-start : (m : MapView) (k : ℕ) → IsGroupPlace m k → k < length m.image.bytes → 0 < item_len m (m.image.start + k) → IsGroupStart m k
 shown-start m k place low some = record { place = place; inside = low; shown = (begun m (m.image.start + k) some).shown }
-
-pub not-shown : (m : MapView) (k : ℕ) → item_len m (m.image.start + k) ≡ 0 → IsGroupStart m k → ⊥
-not-shown m k none start = omega (arith, item-begins m k start.place start.inside start.shown, none)

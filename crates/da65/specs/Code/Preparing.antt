@@ -1,12 +1,12 @@
 -- What the preparation of a run returns: what the run lists its input by, or why there is nothing to list.
-use Rattle.std.specs.Prelude.{◌≡◌, ℕ, List, Result, Ok, Err}
+use Rattle.std.specs.Prelude.{◌≡◌, ℕ, List, Result, Ok, Err, get_or}
 use Rattle.info65.specs.Includes.{with_names}
 use Rattle.info65.specs.Names.{AreNames}
-use Rattle.info65.specs.Views.{InfoView, NameView}
-use Rattle.info65.specs.Code.Results.{Fails}
+use Rattle.info65.specs.Views.{IncludeView, InfoView, NameView}
+use Rattle.info65.specs.Code.Results.{Fails, Gives}
 use Rattle.info65.specs.declared.fault.InfoFault.{InfoFault}
 use Rattle.da65.specs.Files.{FileView}
-use Rattle.da65.specs.Outcome.{◌>>=◌, or_message, with_all_includes, with_input}
+use Rattle.da65.specs.Outcome.{◌>>=◌, or_message, prepared_by, with_all_includes, with_file, with_input}
 use Rattle.da65.specs.declared.runs.preparing.Stop.{Stop}
 use Rattle.da65.specs.declared.runs.preparing.Stop.TheVariants.{Memory, Refused}
 
@@ -38,3 +38,19 @@ listed_by files i = with_input i >>= with_all_includes files
 abbrev pub Adds : {U : Type 0} → Result U Stop → InfoView → Result InfoView (List ℕ) → Type 0
 Adds (Ok x) now expected = expected ≡ Ok now
 Adds (Err stop) now expected = Stops stop expected
+
+-- this is the name of the include file at an index
+abbrev pub IsNameAt : InfoView → ℕ → List ℕ → Type 0
+IsNameAt i index name = (x : IncludeView) → x ≡ get_or i.includes index x → name ≡ x.file
+
+-- the result is the information with the names of the include file at an index
+abbrev pub PreparesWith : Result InfoView Stop → List FileView → ℕ → InfoView → Type 0
+PreparesWith result files index i = (x : IncludeView) → x ≡ get_or i.includes index x → Prepares result (with_file files index x i)
+
+-- it is the names with those of all include files
+abbrev pub NamesAll : Result (List NameView) Stop → List FileView → InfoView → Type 0
+NamesAll result files i = Names result i (with_all_includes files i)
+
+-- it is what an information file gives that was read or refused
+abbrev pub PreparesBy : Result InfoView Stop → Result InfoView InfoFault → List FileView → Type 0
+PreparesBy result read files = (defined : Result InfoView InfoFault) → Gives (λ i. i) read defined → Prepares result (prepared_by defined files)

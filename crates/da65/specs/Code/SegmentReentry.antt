@@ -43,10 +43,14 @@ of_name segments test name = by_key test (first_named segments name) name
 abbrev pub is_back : Entered → Option ℕ → Option ℕ → Bool
 is_back e segment name = not (is_same_key e.last segment) && has_had e name
 
+-- a group had this key, or one of those before did
+abbrev pub HasHadToo : Entered → Entered → Option ℕ → Type 0
+HasHadToo old new name = (k : Option ℕ) → has_had new k ≡ (is_same_key name k || has_had old k)
+
 -- what is known after one more group, whose segment and name have these keys
 pub record IsAfter (old new : Entered) (segment name : Option ℕ) : Type 0 where
   pub last : new.last ≡ segment
-  pub had : (k : Option ℕ) → has_had new k ≡ (is_same_key name k || has_had old k)
+  pub had : HasHadToo old new name
 
 -- no group yet
 pub record IsNew (e : Entered) : Type 0 where
@@ -60,3 +64,7 @@ pub record IsKnownFrom (m : MapView) (k : ℕ) (e : Entered) : Type 0 where
   pub had : List (List ℕ)
   pub same : (t : List ℕ) → is_among had t ≡ of_name m.info.segments (has_had e) t
   pub rest : enters_again (segment_before m k) had (map (segment_at m) (groups_from m k)) ≡ is_entered_again m
+
+-- the key is that of the segment of an address
+abbrev pub IsKeyedAt : MapView → ℕ → Option ℕ → Type 0
+IsKeyedAt m a key = IsKeyed m.info.segments (segment_at m a) key

@@ -1,13 +1,13 @@
 //! The constant lines of a listing.
 
-ghost use Rattle.std.specs.Prelude.{◌≡◌, ◌+◌, ◌-◌, ◌<◌, ◌≤◌, ℕ, [], IfSome, MatchOption, None, false, length, true};
+ghost use Rattle.std.specs.Prelude.{◌≡◌, ◌+◌, ◌-◌, ◌<◌, ◌≤◌, ℕ, IfSome, false, length};
 ghost use Rattle.std.specs.Bool.{OnTrue};
-ghost use Rattle.std.specs.List.{list_all, prefix_len};
+ghost use Rattle.std.specs.List.{list_all};
 ghost use Rattle.stmt65.specs.Printable.{IsNameLong};
 ghost use Rattle.map65.specs.Names.{has_name, place_of};
 ghost use Rattle.da65.specs.BaseNames.{base_name, is_constant, names_of};
-ghost use Rattle.da65.specs.Code.NamedCells.{is_unnamed};
-ghost use Rattle.da65.specs.Lines.{IsAssignmentNext, IsConstant, IsConstantNext, PassesOver, constants_from};
+ghost use Rattle.da65.specs.Code.NamedCells.{is_unnamed, unnamed_len};
+ghost use Rattle.da65.specs.Lines.{IsAssignmentNext, IsConstant, IsConstantNext, MayBeConstantNext, PassesAll, PassesOver, PassesTo};
 ghost use Rattle.da65.specs.Listing.{has_constant_line};
 
 use crate::listing::base_names::put_base;
@@ -64,7 +64,7 @@ fn are_unnamed(cells: &[u16]) -> bool
 /// The cells after a block of them without a name, if they begin with one.
 fn after_unnamed(cells: &[u16]) -> Option<&[u16]>
     ensures len { IfSome result (λ after. length cells.now ≡ BLOCK + length after.now) }
-    ensures unnamed { IfSome result (λ after. prefix_len is_unnamed cells.now ≡ BLOCK + prefix_len is_unnamed after.now) }
+    ensures unnamed { IfSome result (λ after. unnamed_len cells.now ≡ BLOCK + unnamed_len after.now) }
 {
     if cells.len() < BLOCK {
         return None;
@@ -79,7 +79,7 @@ fn after_unnamed(cells: &[u16]) -> Option<&[u16]>
 
 /// How many of these cells stand before the first whose address has a name, by each cell.
 fn unnamed_in(cells: &[u16]) -> usize
-    ensures value { result ≡ prefix_len is_unnamed cells.now }
+    ensures value { result ≡ unnamed_len cells.now }
     ensures fits { result ≤ length cells.now }
 {
     cells
@@ -90,7 +90,7 @@ fn unnamed_in(cells: &[u16]) -> usize
 
 /// How many of these cells of a map stand before the first whose address has a name.
 fn unnamed_before(cells: &[u16]) -> usize
-    ensures value { result ≡ prefix_len is_unnamed cells.now }
+    ensures value { result ≡ unnamed_len cells.now }
     ensures fits { result ≤ length cells.now }
 {
     let mut rest = cells;
@@ -122,7 +122,7 @@ fn constant_before<A: Allocator>(
 ) -> Option<usize>
     requires order { from ≤ end }
     requires bound { end ≤ 65536 }
-    ensures lines { MatchOption result (PassesOver listed.now from end) (PassesOver listed.now from) }
+    ensures lines { PassesTo listed.now from end result }
     ensures is { IfSome result (λ v. IsConstant listed.now v) }
     ensures text { IfSome result (λ v. name.new.items ≡ base_name (names_of listed.now) v) }
     ensures long { IfSome result (λ v. IsNameLong name.new.items) }
@@ -162,7 +162,7 @@ fn constant_from<A: Allocator>(
     name: &mut NameBuf,
 ) -> Option<usize>
     requires { from ≤ 65536 }
-    ensures lines { MatchOption result (constants_from listed.now from ≡ []) (PassesOver listed.now from) }
+    ensures lines { PassesAll listed.now from result }
     ensures is { IfSome result (λ v. IsConstant listed.now v) }
     ensures text { IfSome result (λ v. name.new.items ≡ base_name (names_of listed.now) v) }
     ensures long { IfSome result (λ v. IsNameLong name.new.items) }
@@ -224,7 +224,7 @@ pub fn put_next_constant<A: Allocator>(
     after_another: bool,
 ) -> Option<ListingPlace>
     requires { from ≤ 65536 }
-    ensures { MatchOption result (constants_from listed.now from ≡ []) (IsConstantNext listed.now from after_another out.new.items) }
+    ensures { MayBeConstantNext listed.now from after_another out.new.items result }
 {
     let mut name = NameBuf::new();
     let address = constant_from(listed, from, &mut name)?;

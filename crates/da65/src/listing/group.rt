@@ -1,6 +1,7 @@
 //! The group that a line lists.
 
-ghost use Rattle.std.specs.Prelude.{◌≡◌, Some};
+ghost use Rattle.std.specs.Prelude.{◌≡◌};
+ghost use Rattle.da65.specs.Code.ListedGroups.{labelled_group};
 
 /// The group that a line lists: bytes of one role that follow each other.
 #[derive(Clone, Copy)]
@@ -18,7 +19,7 @@ pub struct Group<'a> {
 impl<'a> Group<'a> {
     /// The same group with this label.
     pub fn with_label(self, label: &'a [u8]) -> Group<'a>
-        ensures { result ≡ record { index = self.entry.index; address = self.entry.address; bytes = self.entry.bytes; label = Some label.entry } }
+        ensures { result ≡ labelled_group self.entry label.entry }
     {
         let label = Some(label);
         Group {

@@ -1,14 +1,12 @@
 //! The lines of a group: what stands before its label, its label and its statement.
 
-ghost use Rattle.std.specs.Prelude.{◌≡◌, ◌≢◌, ◌+◌, None, Some};
+ghost use Rattle.std.specs.Prelude.{◌≡◌, ◌≢◌, ◌+◌, None};
 ghost use Rattle.stmt65.specs.Code.StatementViews.{operands_seen, statement_seen};
 ghost use Rattle.stmt65.specs.Views as view;
 ghost use Rattle.map65.specs.ImageView.{AreBytes};
 ghost use Rattle.map65.specs.Roles.{role_of};
-ghost use Rattle.da65.specs.BaseNames.{names_of};
-ghost use Rattle.da65.specs.Code.ListedGroups.{IsGroupIn, IsGroupLine, IsGroupNext, IsInstructionIn};
-ghost use Rattle.da65.specs.Lines.{IsGroupStart, IsLabelNext, IsNext, IsStatementOf, group_left};
-ghost use Rattle.da65.specs.Statements.{operands_of};
+ghost use Rattle.da65.specs.Code.ListedGroups.{AreOperandsIn, IsGroupIn, IsGroupLine, IsGroupNext, IsInstructionIn, IsNextFrom};
+ghost use Rattle.da65.specs.Lines.{IsGroupStart, IsLabelNext, IsStatementOf};
 
 use crate::listing::base_names::put_base;
 use crate::listing::group::Group;
@@ -122,7 +120,7 @@ fn put_instruction<A: Allocator>(
     operands: Operands<'_>,
 ) -> bool
     requires item { IsInstructionIn listed.now group op }
-    requires operands { Some (operands_seen operands) ≡ operands_of (names_of listed.now) op.mode group.address group.bytes.now }
+    requires operands { AreOperandsIn listed.now group op (operands_seen operands) }
     ensures { IsGroupLine listed.now group.entry out.new.items result }
 {
     let size = written_size(listed.opcodes(), op, group.bytes);
@@ -281,7 +279,7 @@ pub fn put_group_line<A: Allocator>(
 ) -> ListingPlace
     requires group { IsGroupIn listed.now group }
     requires bare { group.label ≡ None }
-    ensures { IsNext listed.now (group_left listed.now group.entry.index from) out.new.items result }
+    ensures { IsNextFrom listed.now group.entry from out.new.items result }
 {
     for number in from..2 * group.bytes.len() + 1 {
         if put_heading(out, listed, group, number) {

@@ -4,11 +4,10 @@ ghost use Rattle.std.specs.Option.{option_copied};
 ghost use Rattle.std.specs.Bool.{OnFalse, OnTrue};
 ghost use Rattle.std.specs.Prelude.{IfSome, ◌+◌, ◌*◌, ◌≡◌, ◌≤◌, ◌<◌, length};
 ghost use Rattle.stmt65.specs.Printable.{IsNameLong};
-ghost use Rattle.da65.specs.BaseNames.{names_of};
-ghost use Rattle.da65.specs.Code.ListedGroups.{IsGroupIn};
-ghost use Rattle.da65.specs.Lines.{IsLineOf, IsUnnamed, group_left, groups_left, heading_lines};
-ghost use Rattle.da65.specs.Listing.{comment_lines, forward_lines, line_text, plain, segment_lines, separator_lines};
-ghost use Rattle.da65.specs.Segments.{is_same_segment, segment_before, segment_statement};
+ghost use Rattle.da65.specs.Code.ListedGroups.{HasNoneBefore, IsGroupIn, IsHeading, IsSegmentLine, IsUnnamed};
+ghost use Rattle.da65.specs.Lines.{IsForwardLine, IsLineOf, segment_line};
+ghost use Rattle.da65.specs.Listing.{comment_lines, line_text, separator_lines};
+ghost use Rattle.da65.specs.Segments.{is_same_segment, segment_before};
 ghost use Rattle.map65.specs.Segments.{segment_at};
 
 use crate::listing::base_names::put_base;
@@ -62,17 +61,12 @@ fn segment_before<'a, A: Allocator>(listed: &ListedImage<'a, A>, index: usize) -
 const HYPHENS: &[u8] =
     b"----------------------------------------------------------------------------";
 
-/// Replaces the buffer by the separator, if it stands before this group: the group begins a run.
+/// Replaces the buffer by the separator, if it stands before the group at this address: a run begins there.
 #[tactic(auto, unfolding(crate::specs::Listing::separator))]
-fn put_separator<A: Allocator>(
-    out: &mut Line,
-    listed: &ListedImage<'_, A>,
-    group: Group<'_>,
-) -> bool
-    requires { IsGroupIn listed.now group }
-    ensures { IsLineOf listed.now (separator_lines listed.now group.entry.address) out.new.items result }
+fn put_separator<A: Allocator>(out: &mut Line, listed: &ListedImage<'_, A>, address: u16) -> bool
+    ensures { IsLineOf listed.now (separator_lines listed.now address) out.new.items result }
 {
-    if listed.style().level.get() == 0 || listed.map().is_in_run(group.address) {
+    if listed.style().level.get() == 0 || listed.map().is_in_run(address) {
         return false;
     }
     put_remark(out, listed.style(), HYPHENS);
@@ -82,7 +76,7 @@ fn put_separator<A: Allocator>(
 /// Replaces the buffer by the line that enters a segment.
 fn put_segment_line(out: &mut Line, style: &Style, segment: Option<&[u8]>)
     requires { IfSome (option_copied segment) IsNameLong }
-    ensures { out.new.items ≡ line_text style.now (plain (segment_statement (option_copied segment.entry))) }
+    ensures { out.new.items ≡ line_text style.now (segment_line (option_copied segment.entry)) }
 {
     match segment {
         Some(name) => put_plain(out, style, &Statement::Segment(name)),
@@ -93,7 +87,7 @@ fn put_segment_line(out: &mut Line, style: &Style, segment: Option<&[u8]>)
 /// Replaces the buffer by the line that enters the segment of this group, if it is not that of the group before.
 fn put_segment<A: Allocator>(out: &mut Line, listed: &ListedImage<'_, A>, group: Group<'_>) -> bool
     requires { IsGroupIn listed.now group }
-    ensures { IsLineOf listed.now (segment_lines listed.now group.entry.address) out.new.items result }
+    ensures { IsSegmentLine listed.now group.entry out.new.items result }
 {
     let segment = segment_at(listed, group.address);
     if is_same_segment(segment, segment_before(listed, group.index)) {
@@ -126,7 +120,7 @@ fn put_forward_named<A: Allocator>(
     address: u16,
 ) -> bool
     requires { first ≤ address }
-    ensures { IsLineOf listed.now (forward_lines (names_of listed.now) first address) out.new.items result }
+    ensures { IsForwardLine listed.now first address out.new.items result }
 {
     let mut name = NameBuf::new();
     if !put_base(listed.map(), address, &mut name) {
@@ -150,7 +144,7 @@ fn put_forward<A: Allocator>(
     address: u16,
 ) -> bool
     requires { first ≤ address }
-    ensures { IsLineOf listed.now (forward_lines (names_of listed.now) first address) out.new.items result }
+    ensures { IsForwardLine listed.now first address out.new.items result }
 {
     if !listed.map().has_name(address) {
         return false;
@@ -168,10 +162,10 @@ pub fn put_heading<A: Allocator>(
 ) -> bool
     requires group { IsGroupIn listed.now group }
     requires low { number < 2 * length group.bytes.now + 1 }
-    ensures { IsLineOf listed.now (heading_lines listed.now group.entry.address number) out.new.items result }
+    ensures { IsHeading listed.now group.entry number out.new.items result }
 {
     if number == 0 {
-        return put_separator(out, listed, group);
+        return put_separator(out, listed, group.address);
     }
     if number == 1 {
         return put_segment(out, listed, group);
@@ -194,7 +188,7 @@ pub fn put_heading<A: Allocator>(
 #[inline(always)]
 fn is_unnamed<A: Allocator>(listed: &ListedImage<'_, A>, group: Group<'_>) -> bool
     requires { IsGroupIn listed.now group }
-    ensures { OnTrue result (IsUnnamed listed.now group.entry.address (length group.entry.bytes.now)) }
+    ensures { OnTrue result (IsUnnamed listed.now group.entry) }
 {
     let first = usize::from(group.address);
     for address in first..first + group.bytes.len() {
@@ -209,7 +203,7 @@ fn is_unnamed<A: Allocator>(listed: &ListedImage<'_, A>, group: Group<'_>) -> bo
 #[inline(always)]
 fn may_have_head<A: Allocator>(listed: &ListedImage<'_, A>, group: Group<'_>) -> bool
     requires { IsGroupIn listed.now group }
-    ensures { OnFalse result (group_left listed.now group.entry.index 2 ≡ groups_left listed.now group.entry.index) }
+    ensures { OnFalse result (HasNoneBefore listed.now group.entry 2) }
 {
     if !listed.is_marked() {
         return false;
@@ -224,7 +218,7 @@ fn may_have_head<A: Allocator>(listed: &ListedImage<'_, A>, group: Group<'_>) ->
 #[inline(always)]
 pub fn first_heading<A: Allocator>(listed: &ListedImage<'_, A>, group: Group<'_>) -> usize
     requires { IsGroupIn listed.now group }
-    ensures { group_left listed.now group.entry.index result ≡ groups_left listed.now group.entry.index }
+    ensures { HasNoneBefore listed.now group.entry result }
 {
     if may_have_head(listed, group) {
         return 0;

@@ -1,13 +1,13 @@
 //! The lines of a listing, one at a time.
 
-ghost use Rattle.std.specs.Prelude.{◌≡◌, ◌≤◌, [], ◌∷◌, IfSome, MatchOption, OnOk, OnErr};
+ghost use Rattle.std.specs.Prelude.{◌≡◌, ◌≤◌, [], ◌∷◌, IfSome, OnOk, OnErr};
 ghost use Rattle.std.specs.Bool.{OnTrue, OnFalse};
 ghost use Rattle.std.specs.Io.KnownBytes.{Appends};
 ghost use Rattle.map65.specs.Device.{Counts, AppendsFront};
 ghost use Rattle.da65.specs.Groups.{IsGroupPlace};
-ghost use Rattle.da65.specs.Lines.{IsGroupStart, IsNext, IsPlace, MayBeNext, constants_left, groups_left, left_from};
+ghost use Rattle.da65.specs.Lines.{IsGroupStart, IsNext, IsPlace, LeadsTo, MayBeNextAt, groups_left, left_from};
 ghost use Rattle.da65.specs.Listing.{lines_of, text_of};
-ghost use Rattle.da65.specs.declared.listing.place.ListingPlace.TheVariants.{Header};
+ghost use Rattle.da65.specs.declared.listing.place.ListingPlace.TheVariants.{Constant, Group, Header};
 
 use crate::listing::constant_lines::{put_assignment, put_next_constant};
 use crate::listing::group_lines::{group_at, put_group_line, put_statement};
@@ -46,7 +46,7 @@ impl<'a, A: Allocator> Model for Lines<'a, A> {
 /// The first byte from this one on that is not skipped, if there is one. A group begins with it.
 fn shown_from<A: Allocator>(listed: &ListedImage<'_, A>, from: usize) -> Option<usize>
     requires { IsGroupPlace listed.now from }
-    ensures lines { MatchOption result (groups_left listed.now from ≡ []) (λ at. groups_left listed.now at ≡ groups_left listed.now from) }
+    ensures lines { LeadsTo listed.now from result }
     ensures start { IfSome result (IsGroupStart listed.now) }
 {
     for at in from..listed.bytes().len() {
@@ -61,8 +61,7 @@ fn shown_from<A: Allocator>(listed: &ListedImage<'_, A>, from: usize) -> Option<
 #[inline(always)]
 fn is_shown<A: Allocator>(listed: &ListedImage<'_, A>, index: usize) -> bool
     requires { IsGroupPlace listed.now index }
-    ensures start { OnTrue result (IsGroupStart listed.now index) }
-    ensures none { OnFalse result (IsGroupStart listed.now index → ⊥) }
+    ensures { OnTrue result (IsGroupStart listed.now index) }
 {
     if listed.bytes().len() <= index {
         return false;
@@ -96,7 +95,7 @@ fn put_next_group<A: Allocator>(
     from: usize,
 ) -> Option<ListingPlace>
     requires { IsGroupPlace listed.now from }
-    ensures { MayBeNext listed.now (groups_left listed.now from) out.new.items result }
+    ensures { MayBeNextAt listed.now (Group from) out.new.items result }
 {
     let index = shown_from(listed, from)?;
     Some(put_first_line(out, listed, index))
@@ -110,7 +109,7 @@ fn put_constants<A: Allocator>(
     after_another: bool,
 ) -> Option<ListingPlace>
     requires { address ≤ 65536 }
-    ensures { MayBeNext listed.now (constants_left listed.now address after_another) out.new.items result }
+    ensures { MayBeNextAt listed.now (Constant address after_another) out.new.items result }
 {
     if let Some(next) = put_next_constant(out, listed, address, after_another) {
         return Some(next);
@@ -150,7 +149,7 @@ fn put_next<A: Allocator>(
     place: ListingPlace,
 ) -> Option<ListingPlace>
     requires { IsPlace place listed.now }
-    ensures { MayBeNext listed.now (left_from place listed.now) out.new.items result }
+    ensures { MayBeNextAt listed.now place out.new.items result }
 {
     match place {
         ListingPlace::Header { number } => Some(put_header(out, listed, number)),

@@ -1,11 +1,11 @@
 //! The line of a statement.
 
-ghost use Rattle.std.specs.Prelude.{◌≡◌, ◌<◌, ◌+◌, drop};
+ghost use Rattle.std.specs.Prelude.{◌≡◌, ◌<◌};
 ghost use Rattle.stmt65.specs.Printable.{IsPrintable};
 ghost use Rattle.stmt65.specs.Code.StatementViews.{statement_seen};
 ghost use Rattle.stmt65.specs.Views as view;
-ghost use Rattle.da65.specs.Lines.{IsFirstOf};
-ghost use Rattle.da65.specs.Listing.{header_lines, line_text, plain};
+ghost use Rattle.da65.specs.Lines.{IsHeaderLine};
+ghost use Rattle.da65.specs.Listing.{line_text, plain};
 
 use crate::listing::style::Style;
 use stmt65::{Line, Remarks, Statement, put_line};
@@ -42,7 +42,7 @@ pub fn put_remark(out: &mut Line, style: &Style, text: &[u8])
 #[inline(never)]
 pub fn put_header_line(out: &mut Line, style: &Style, number: usize)
     requires { number < 4 }
-    ensures { IsFirstOf style.now (drop number (header_lines style.now.cpu)) out.new.items (drop (number + 1) (header_lines style.now.cpu)) }
+    ensures { IsHeaderLine style.now number out.new.items }
 {
     if number == 0 {
         return put_plain(out, style, &Statement::Remark(b"da65 listing"));

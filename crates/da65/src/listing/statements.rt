@@ -2,16 +2,15 @@
 
 ghost use Rattle.std.specs.Prelude.{◌≡◌, ◌≢◌, ◌+◌, ◌*◌, ◌<◌, ◌≤◌, ℕ, [], length, option_map, slice_index};
 ghost use Rattle.info65.specs.Names.{AreNames};
-ghost use Rattle.isa65.specs.Mode.{len_of, row_len, size_of};
+ghost use Rattle.isa65.specs.Mode.{len_of, size_of};
 ghost use Rattle.isa65.specs.Opcodes.{Table};
-ghost use Rattle.isa65.specs.declared.row.Row.TheVariants.{Two};
-ghost use Rattle.map65.specs.Targets.{entry_of, target_of};
 ghost use Rattle.stmt65.specs.SourceLine.{is_absolute};
 ghost use Rattle.stmt65.specs.Code.StatementViews.{expr_seen, operands_seen, statement_seen};
 ghost use Rattle.da65.specs.BaseNames.{names_of};
+ghost use Rattle.da65.specs.Code.ListedGroups.{operands_at};
 ghost use Rattle.da65.specs.Instructions.{instruction_in};
 ghost use Rattle.da65.specs.Shapes.{IsGroupOf};
-ghost use Rattle.da65.specs.Statements.{address_entry, is_forced, numbers, operand_expr, operands_of, return_entry, statement_for};
+ghost use Rattle.da65.specs.Statements.{address_entry, is_forced, numbers, operand_expr, return_entry, statement_for};
 
 use crate::listing::base_names::{address_expr, target, zero_page_expr};
 use info65::{Entry, RangeType};
@@ -98,7 +97,7 @@ pub fn operands_of<'n, A: Allocator>(
     requires names { AreNames map.now.info.names }
     requires all { len_of op.mode ≤ length bytes.now }
     requires room { address + len_of op.mode ≤ 65536 }
-    ensures { option_map operands_seen result ≡ operands_of (names_of map.now) op.mode address bytes.now }
+    ensures { option_map operands_seen result ≡ operands_at map.now op address bytes.now }
 {
     let next = u32::from(address) + u32::from(op.mode.len());
     match op.mode.row() {

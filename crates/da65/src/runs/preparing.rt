@@ -1,12 +1,9 @@
 //! What a run lists its input by: what the information file says, with the names of its include files.
 
-ghost use Rattle.std.specs.Prelude.{◌≡◌, ◌≢◌, ◌<◌, ◌≤◌, Result, Some, get_or, length};
-ghost use Rattle.info65.specs.Code.Results.{Gives};
-ghost use Rattle.info65.specs.Views.{IncludeView, InfoView};
-ghost use Rattle.info65.specs.declared.fault.InfoFault.{InfoFault};
-ghost use Rattle.da65.specs.Code.Preparing.{Adds, Names, Prepares, StopsFor, listed_by};
+ghost use Rattle.std.specs.Prelude.{◌≡◌, ◌≢◌, ◌<◌, ◌≤◌, Some, length};
+ghost use Rattle.da65.specs.Code.Preparing.{Adds, IsNameAt, NamesAll, Prepares, PreparesBy, PreparesWith, StopsFor, listed_by};
 ghost use Rattle.da65.specs.Files.{files_seen};
-ghost use Rattle.da65.specs.Outcome.{prepared_by, with_all_includes, with_file, with_include};
+ghost use Rattle.da65.specs.Outcome.{with_include};
 
 use crate::runs::files::{File, file_named};
 use crate::runs::messages::{
@@ -58,7 +55,7 @@ fn with_bytes<'a, A: Allocator + Copy>(
 #[tactic(auto, using(crate::proofs::Outcomes::IncludeFacts::short_name))]
 fn name_at<'a, A: Allocator + Copy>(included: &Inclusion<'a, A>, index: usize) -> &'a str
     requires { index < length included.now.includes }
-    ensures name { (x : IncludeView) → x ≡ get_or included.now.includes index x → result.now ≡ x.file }
+    ensures name { IsNameAt included.now index result.now }
     ensures short { length result.now ≤ 255 }
 {
     let include = &included.includes()[index];
@@ -72,7 +69,7 @@ fn with_include<'a, 'f: 'a, A: Allocator + Copy>(
     files: &[File<'f>],
 ) -> Result<Inclusion<'a, A>, Stop>
     requires { index < length included.includes }
-    ensures { (x : IncludeView) → x ≡ get_or included.entry.includes index x → Prepares result (with_file (files_seen files.now) index x included.entry) }
+    ensures { PreparesWith result (files_seen files.now) index included.entry }
 {
     let name = name_at(&included, index);
     match file_named(files, name) {
@@ -96,7 +93,7 @@ fn all_names<'a, 'f: 'a, A: Allocator + Copy>(
     info: &'a Info<A>,
     files: &[File<'f>],
 ) -> Result<NamePool<A>, Stop>
-    ensures { Names result info.entry.now (with_all_includes (files_seen files.now) info.entry.now) }
+    ensures { NamesAll result (files_seen files.now) info.entry.now }
 {
     let Ok(mut included) = Inclusion::of(alloc, info, bytes_of(files)) else {
         return Err(Stop::Memory);
@@ -135,7 +132,7 @@ pub(crate) fn prepare<A: Allocator + Copy>(
     read: Result<Info<A>, InfoFault>,
     files: &[File<'_>],
 ) -> Result<Info<A>, Stop>
-    ensures { (defined : Result InfoView InfoFault) → Gives (λ i. i) read defined → Prepares result (prepared_by defined (files_seen files.now)) }
+    ensures { PreparesBy result read (files_seen files.now) }
 {
     match read {
         Ok(mut info) => match add_includes(alloc, &mut info, files) {

@@ -1,8 +1,8 @@
 //! Whether a segment is entered again.
 
-ghost use Rattle.std.specs.Prelude.{◌≡◌, ◌||◌, Option, ℕ, true, false};
+ghost use Rattle.std.specs.Prelude.{◌≡◌, true, false};
 ghost use Rattle.std.specs.Bool.{OnFalse};
-ghost use Rattle.da65.specs.Code.SegmentReentry.{IsAfter, IsKeyed, IsNew, has_had, is_back, is_same_key};
+ghost use Rattle.da65.specs.Code.SegmentReentry.{HasHadToo, IsAfter, IsKeyed, IsKeyedAt, IsNew, has_had, is_back};
 ghost use Rattle.da65.specs.SegmentReentry.{is_entered_again};
 ghost use Rattle.map65.specs.Pieces.{is_in_run};
 ghost use Rattle.map65.specs.Segments.{segment_at};
@@ -35,7 +35,7 @@ fn segment_key<A: Allocator>(map: &Map<'_, A>, address: u16) -> Option<u16>
 /// segment border inside.
 fn key_after<A: Allocator>(map: &Map<'_, A>, address: u16, last: Option<u16>) -> Option<u16>
     ensures run { is_in_run map.now address ≡ true → result ≡ last }
-    ensures first { is_in_run map.now address ≡ false → IsKeyed map.now.info.segments (segment_at map.now address) result }
+    ensures first { is_in_run map.now address ≡ false → IsKeyedAt map.now address result }
 {
     if map.is_in_run(address) {
         last
@@ -75,7 +75,7 @@ impl Entered {
     /// Keeps the name of the segment of a group.
     fn keep(&mut self, name: Option<u16>)
         ensures last { self.new.last ≡ self.old.last }
-        ensures had { (k : Option ℕ) → has_had self.new k ≡ (is_same_key name k || has_had self.old k) }
+        ensures had { HasHadToo self.old self.new name }
     {
         match name {
             Some(key) => self.keys.insert(key),

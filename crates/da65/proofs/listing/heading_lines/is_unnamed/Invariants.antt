@@ -1,6 +1,6 @@
 use Rattle.std.proofs.Common.{◌-◌}
-use Rattle.da65.specs.Lines.{IsUnnamed}
+use Rattle.da65.specs.Lines.{AreUnnamed}
 use Rattle.da65.proofs.listing.heading_lines.is_unnamed.Given as goal
 
 abbrev pub invariant-loop-address : goal.invariant-loop-address
-invariant-loop-address g l = IsUnnamed l.listed l.first (l.address - l.first)
+invariant-loop-address g l = AreUnnamed l.listed l.first (l.address - l.first)
