@@ -31,9 +31,11 @@ fn flush_then_report<W: Sink, M: Sink>(
     errors: &mut M,
 ) -> Result<Status, RunFault>
     requires { HasRoom was }
-    ensures text { FlushesThenReports was result (buffered_taken W.taken buffer.old) (W.taken (buffered_out buffer.new))
+    ensures text { FlushesThenReports was result
+        (buffered_taken W.taken buffer.old) (W.taken (buffered_out buffer.new))
         messages.now (M.taken errors.old) (M.taken errors.new) }
-    ensures out_count { ReportsOutCount was result (W.faults (buffered_out buffer.old)) (W.faults (buffered_out buffer.new)) }
+    ensures out_count { ReportsOutCount was result
+        (W.faults (buffered_out buffer.old)) (W.faults (buffered_out buffer.new)) }
     ensures errors_count { MessagesCount result (M.faults errors.old) (M.faults errors.new) }
 {
     let status = was?;
@@ -60,13 +62,18 @@ pub fn run_read_buffered<A: Allocator + Copy, R: Source, W: Sink, M: Sink>(
     errors: &mut M,
 ) -> Listed<W>
     // What is on the output and on standard error, of an output that begins empty.
-    ensures answer { OfRead read (λ defined. W.taken output ≡ Some [] → OfBytes (R.faults input.old) (R.left input.old) (λ bytes.
-        Delivers result.result (outcome_by (prepared_by defined (files_seen files.now)) bytes (has_failed (R.faults input.old) (R.faults input.new)))
+    ensures answer { OfRead read (λ defined. W.taken output ≡ Some [] →
+        OfBytes (R.faults input.old) (R.left input.old) (λ bytes.
+        Delivers result.result
+        (outcome_by (prepared_by defined (files_seen files.now)) bytes
+        (has_failed (R.faults input.old) (R.faults input.new)))
         (W.taken result.output) (M.taken errors.old) (M.taken errors.new))) }
 
     // If the result is Done and no byte of the image is skipped, the output assembles to the image.
-    ensures reassembles { OfRead read (λ defined. W.taken output ≡ Some [] → OfBytes (R.faults input.old) (R.left input.old) (λ bytes.
-        Reassembles result.result (prepared_by defined (files_seen files.now)) bytes (has_failed (R.faults input.old) (R.faults input.new))
+    ensures reassembles { OfRead read (λ defined. W.taken output ≡ Some [] →
+        OfBytes (R.faults input.old) (R.left input.old) (λ bytes.
+        Reassembles result.result (prepared_by defined (files_seen files.now)) bytes
+        (has_failed (R.faults input.old) (R.faults input.new))
         (Some []) (W.taken result.output))) }
 
     // These hold for every reader and every output.

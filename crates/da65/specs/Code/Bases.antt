@@ -1,7 +1,11 @@
 -- What a name says of its base.
-use Rattle.std.specs.Prelude.{ℕ, ◌==◌, Bool, false, Option, Some, None, if◌then◌else◌}
+use Rattle.std.specs.Prelude.{ℕ, ◌==◌, Bool, false, Option, Some, None, if◌then◌else◌, option_map}
+use Rattle.map65.specs.MapView.{MapView}
+use Rattle.map65.specs.Names.{base_at}
 use Rattle.map65.specs.declared.name.NameKind.{NameKind}
 use Rattle.da65.specs.BaseNames.{is_constant}
+use Rattle.da65.specs.Statements.{target_by}
+use Rattle.stmt65.specs.Views.{TargetView}
 
 -- the name has no offset
 abbrev pub is_own_name : Option NameKind → Bool
@@ -12,3 +16,7 @@ is_own_name (Some k) = k.offset == 0
 abbrev pub constant_offset : Option NameKind → Option ℕ
 constant_offset None = None
 constant_offset (Some k) = if is_constant k.place then Some k.offset else None
+
+-- an address as a target, if it has a name
+abbrev pub target_at : MapView → ℕ → Option TargetView
+target_at m a = option_map (target_by a) (base_at m a)

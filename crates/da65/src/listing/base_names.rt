@@ -3,13 +3,12 @@
 ghost use Rattle.std.specs.Prelude.{◌≡◌, option_map};
 ghost use Rattle.std.specs.Bool.{OnTrue};
 ghost use Rattle.info65.specs.Names.{AreNames};
-ghost use Rattle.map65.specs.Names.{base_at};
 ghost use Rattle.stmt65.specs.Printable.{IsNameLong};
 ghost use Rattle.stmt65.specs.Code.StatementViews.{expr_seen, target_seen};
 ghost use Rattle.da65.specs.BaseNames.{base_name, is_base, names_of};
-ghost use Rattle.da65.specs.Code.Bases.{constant_offset, is_own_name};
+ghost use Rattle.da65.specs.Code.Bases.{constant_offset, is_own_name, target_at};
 ghost use Rattle.da65.specs.Groups.{is_defined};
-ghost use Rattle.da65.specs.Statements.{address_expr, target_by, zero_page_expr};
+ghost use Rattle.da65.specs.Statements.{address_expr, zero_page_expr};
 
 use map65::{Map, NameBuf, NameKind, Place};
 use std::alloc::Allocator;
@@ -102,7 +101,7 @@ pub fn target<'n, A: Allocator>(
     name: &'n mut NameBuf,
 ) -> Option<Target<'n>>
     requires { AreNames map.now.info.names }
-    ensures { option_map target_seen result ≡ option_map (target_by address) (base_at map.now address) }
+    ensures { option_map target_seen result ≡ target_at map.now address }
 {
     match map.name(address, name) {
         Some(kind) => Some(Target {
