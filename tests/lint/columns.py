@@ -15,14 +15,14 @@ WIDER = {
     "stmt65": 83,
     "info65": 51,
     "map65": 13,
-    "usage65": 10,
+    "usage65": 5,
     "da65": 27,
     "reach65": 20,
-    "files65": 4,
-    "da65_cli": 6,
-    "as65": 23,
+    "files65": 2,
+    "da65_cli": 2,
+    "as65": 11,
     "trace65": 29,
-    "name65": 7,
+    "name65": 3,
 }
 
 SCRIPTS = ("Makefile", ".ci/run", "tests/*.sh", "tests/shim.c")

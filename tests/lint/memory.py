@@ -11,9 +11,7 @@ ANSWERS = ("AllocError", "AllocFailed", "OutOfMemory", "out_of_memory")
 # Those that stand after `::` alone.
 VARIANTS = ("Memory", "MEMORY")
 ALLOWED = """
-as65 Failure::from 1
 as65 failure_of 5
-as65 information_in 2
 da65 all_names 2
 da65 image_message 1
 da65 list_input 1
@@ -21,7 +19,7 @@ da65 needs_read 2
 da65 refuse_image 2
 da65 run_read 2
 da65 stop_of 2
-da65_cli Failure::from 1
+files65 Failure::from 3
 files65 FileFault::from 1
 files65 FileFault::of_error 2
 files65 FileFault::of_opening 1
@@ -34,10 +32,9 @@ info65 InfoFaultKind::text 1
 info65 narrow 1
 map65 ImageFault::from 2
 map65 TakeFault::from 1
-name65 Failure::from 3
-name65 Refusal::from 2
+name65 Failure::from 2
+name65 Refusal::from 1
 name65 assembled 2
-name65 failure_of 2
 relist Failure::from 2
 stmt65 AsmFault::from 1
 stmt65 Symbols::define 2

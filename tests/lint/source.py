@@ -137,7 +137,7 @@ class Source:
             if self.peek() == "!":
                 self.take("!")
             name, text = self.peek(1), self.group()
-            if name in ("derive", "error", "macro_export"):
+            if name in ("derive", "error", "error_bound", "macro_export"):
                 attributes.append("#" + text)
             elif name not in ("tactic", "inline", "cycle"):
                 self.refuse(f"an attribute {name}")

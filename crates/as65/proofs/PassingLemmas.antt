@@ -1,5 +1,5 @@
 -- The lines are passed over once, as the stretches rise.
-use Rattle.std.proofs.Common.{◌≡◌, ◌∙◌, ◌+◌, ◌-◌, ◌<◌, ◌≤◌, ℕ, zero, suc, Bool, true, false, cond, List, [], ◌∷◌, ap, arith, drop, get_or, length, nat_le, refl, ap₂}
+use Rattle.std.proofs.Common.{◌≡◌, ◌∙◌, ◌+◌, ◌-◌, ◌<◌, ◌≤◌, ℕ, zero, suc, Bool, true, List, [], ◌∷◌, ap, arith, drop, get_or, nat_le, ap₂}
 use Rattle.std.proofs.lemmas.Bool.Decides.{nat_tests}
 use Rattle.std.proofs.lemmas.List.{drop-drop, get_or-drop}
 use Rattle.std.specs.List.{prefix_len}
@@ -9,16 +9,11 @@ use Rattle.as65.specs.Origins.{Moves, OriginsView}
 use Rattle.as65.specs.Stretches.{AreRuns, differs}
 use Rattle.as65.specs.declared.stretches.Stretch.{Stretch}
 
-prefix_left_in : (p : ℕ → Bool) (k x : ℕ) (xs : List ℕ) (b : Bool) → p x ≡ b → (k ≤ prefix_len p xs → prefix_len p xs ≡ k + prefix_len p (drop k xs))
-    → suc k ≤ cond b (1 + prefix_len p xs) 0 → cond b (1 + prefix_len p xs) 0 ≡ suc k + prefix_len p (drop k xs)
-prefix_left_in p k x xs true is rest few = let fewer : k ≤ prefix_len p xs = omega arith in omega (arith, rest fewer)
-prefix_left_in p k x xs false is rest few = absurd (omega arith)
-
 -- the first elements that pass the test, after some of them
 pub prefix_left : (p : ℕ → Bool) (k : ℕ) (xs : List ℕ) → k ≤ prefix_len p xs → prefix_len p xs ≡ k + prefix_len p (drop k xs)
 prefix_left p zero xs few = omega arith
 prefix_left p (suc k) [] few = absurd (omega arith)
-prefix_left p (suc k) (x ∷ xs) few = prefix_left_in p k x xs (p x) refl (prefix_left p k xs) few
+prefix_left p (suc k) (x ∷ xs) few = let rest : k ≤ prefix_len p xs → prefix_len p xs ≡ k + prefix_len p (drop k xs) = prefix_left p k xs in grind (arith, nat_tests)
 
 -- more addresses come before a greater one
 pub prefix_rises : (m n : ℕ) (xs : List ℕ) → m ≤ n → prefix_len (λ a. nat_le a m) xs ≤ prefix_len (λ a. nat_le a n) xs
@@ -26,16 +21,10 @@ prefix_rises m n [] less = omega arith
 prefix_rises m n (x ∷ xs) less = let rest = prefix_rises m n xs less in grind (arith, nat_tests)
 
 -- where rows differ both have a byte
-below_one : (one other : List ℕ) (i : ℕ) → differs one other i ≡ true → i < length one
-below_one one other i is = grind (arith, nat_tests)
-
-below_other : (one other : List ℕ) (i : ℕ) → differs one other i ≡ true → i < length other
-below_other one other i is = grind (arith, nat_tests)
-
 in_both : (one other : List ℕ) (s : Stretch) → s.at < s.end → ((i : ℕ) → s.at ≤ i → i < s.end → differs one other i ≡ true) → IsInBoth one other s
 in_both one other s some all =
     let last : differs one other (s.end - 1) ≡ true = all (s.end - 1) (omega arith) (omega arith) in
-    record { order = omega arith; in_one = omega (arith, below_one one other (s.end - 1) last); in_other = omega (arith, below_other one other (s.end - 1) last) }
+    record { order = omega arith; in_one = grind (arith, nat_tests); in_other = grind (arith, nat_tests) }
 
 -- all runs, of which the lines before the first offset may have been passed over
 pub runs_are_ready : (c : Compared) (from passed : ℕ) (found : List Stretch) → passed ≤ prefix_len (λ a. nat_le a (c.start + from)) c.ends

@@ -3,32 +3,28 @@ use Rattle.std.specs.Prelude.{◌≡◌, ◌≢◌, ℕ, List, Option, Result, O
 use Rattle.std.specs.Io.KnownBytes.{Appends}
 use Rattle.map65.specs.Device.{AppendsFront, one_more}
 use Rattle.as65.specs.Differences.{Compared, IsDifferences}
-use Rattle.as65.specs.declared.failure.Failure.{Failure}
-use Rattle.as65.specs.declared.failure.Failure.TheVariants.{Memory, Writing}
+use Rattle.files65.specs.declared.failure.Failure.{Failure}
+use Rattle.files65.specs.declared.failure.Failure.TheVariants.{Memory, File}
+use Rattle.files65.specs.declared.fault.FileFault.TheVariants.{Writing}
+use Rattle.as65.specs.declared.failure.Refused.{Refused}
 use Rattle.as65.specs.declared.status.Ended.{Ended}
 use Rattle.as65.specs.declared.status.Ended.TheVariants.{Done, Differs}
 
--- the differences were written
-pub record WritesDifferences (c : Compared) (old new : Option (List ℕ)) : Type 0 where
+-- of the differences this much was written
+pub record Writes (c : Compared) (IsWritten : List ℕ → Type 0) : Type 0 where
   pub text : List ℕ
   pub lines : IsDifferences c text
-  pub written : Appends old new text
-
--- a prefix of the differences was written
-pub record WritesSome (c : Compared) (old new : Option (List ℕ)) : Type 0 where
-  pub text : List ℕ
-  pub lines : IsDifferences c text
-  pub written : AppendsFront old new text
+  pub written : IsWritten text
 
 -- Nothing differs and nothing is written, or something does and is written, or a write of that failed, or memory ran out before.
-abbrev pub Compares : Compared → Option (List ℕ) → Option (List ℕ) → Result Ended Failure → Type 0
+abbrev pub Compares : Compared → Option (List ℕ) → Option (List ℕ) → Result Ended (Failure Refused) → Type 0
 Compares c old new (Ok Done) = (c.image ≡ c.bytes) × (new ≡ old)
-Compares c old new (Ok Differs) = (c.image ≢ c.bytes) × WritesDifferences c old new
+Compares c old new (Ok Differs) = (c.image ≢ c.bytes) × Writes c (Appends old new)
 Compares c old new (Err Memory) = new ≡ old
-Compares c old new (Err Writing) = WritesSome c old new
+Compares c old new (Err (File Writing)) = Writes c (AppendsFront old new)
 Compares c old new (Err _) = ⊥
 
 -- the count of failed writes rises by one exactly if that is the failure
-abbrev pub CountsWrites : ℕ → ℕ → Result Ended Failure → Type 0
-CountsWrites old new (Err Writing) = new ≡ one_more old
+abbrev pub CountsWrites : ℕ → ℕ → Result Ended (Failure Refused) → Type 0
+CountsWrites old new (Err (File Writing)) = new ≡ one_more old
 CountsWrites old new _ = new ≡ old

@@ -7,8 +7,10 @@ use Rattle.stmt65.specs.declared.assembling.assembler.Source.{Source}
 use Rattle.stmt65.specs.declared.assembling.fault.AsmFault.{AsmFault}
 use Rattle.as65.specs.Differences.{shown_line}
 use Rattle.as65.specs.Hint.{hint, line_at}
-use Rattle.as65.specs.declared.failure.Failure.{Failure}
-use Rattle.as65.specs.declared.failure.Failure.TheVariants.{Memory, Line}
+use Rattle.as65.specs.declared.failure.Refused.{Refused}
+use Rattle.as65.specs.declared.failure.Refused.TheVariants.{Line}
+use Rattle.files65.specs.declared.failure.Failure.{Failure}
+use Rattle.files65.specs.declared.failure.Failure.TheVariants.{Memory, Own}
 
 -- `: hint`
 abbrev pub hint_text : List ℕ → List ℕ
@@ -23,12 +25,12 @@ abbrev pub FailsWith : {L : Type 0} → AsmFault → Source L → Type 0
 FailsWith fault s = (source_meaning s ≡ Err fault) ⊎ (fault ≡ out_of_memory)
 
 -- the failure reports the fault of the listing of this name, with what it is about, unless memory ran out
-abbrev pub Reports : {L : Type 0} → List ℕ → Source L → Failure → Type 0
+abbrev pub Reports : {L : Type 0} → List ℕ → Source L → Failure Refused → Type 0
 Reports name s Memory = Unit {0}
-Reports name s (Line listing fault said) = (string_bytes listing ≡ name) × (source_meaning s ≡ Err fault) × (said.items ≡ about fault s)
+Reports name s (Own (Line listing fault said)) = (string_bytes listing ≡ name) × (source_meaning s ≡ Err fault) × (said.items ≡ about fault s)
 Reports name s _ = ⊥
 
 -- what is said after the text of a failure
-abbrev pub said_after : Failure → List ℕ
-said_after (Line listing fault said) = said.items
+abbrev pub said_after : Failure Refused → List ℕ
+said_after (Own (Line listing fault said)) = said.items
 said_after _ = []

@@ -186,12 +186,9 @@ operation_by kind.OutOfRange n s operation = range_by (source_definitions s) (ad
 operation_by kind.PastStart n s operation = segment_by s.layout.now (address_after n s) operation
 operation_by _ n s operation = []
 
-abbrev pub operation_hint : {L : Type 0} → AsmFault → Source L → Operation → List ℕ
-operation_hint fault s operation = operation_by fault.kind fault.line s operation
-
 -- that of the operation of a line; a line that only defines a name has none
 abbrev pub read_hint : {L : Type 0} → AsmFault → Source L → Option SourceLine → List ℕ
-read_hint fault s (Some (Statement label operation)) = operation_hint fault s operation
+read_hint fault s (Some (Statement label operation)) = operation_by fault.kind fault.line s operation
 read_hint fault s _ = []
 
 -- what the fault of line n is about; empty if the line itself says it

@@ -2,15 +2,16 @@
 use Rattle.std.specs.Prelude.{◌≡◌, ◌&&◌, ◌-◌, ℕ, Option, Some, None, Result, Err, nat_le, nat_lt, if◌then◌else◌}
 use Rattle.info65.specs.Views.{InfoView, OptionsView, no_options}
 use Rattle.info65.specs.declared.fault.InfoFault.{InfoFault}
-use Rattle.as65.specs.declared.failure.Failure.{Failure}
-use Rattle.as65.specs.declared.failure.Failure.TheVariants.{Memory, Info}
+use Rattle.files65.specs.declared.failure.Failure.{Failure}
+use Rattle.files65.specs.declared.failure.Failure.TheVariants.{Memory, Info}
+use Rattle.as65.specs.declared.failure.Refused.{Refused}
 
 -- no option but the start
 abbrev pub options_at : Option ℕ → OptionsView
 options_at start = record no_options { start = start }
 
 -- the failure is the fault of the file, unless memory ran out
-abbrev pub IsRefused : Result InfoView InfoFault → Failure → Type 0
+abbrev pub IsRefused : Result InfoView InfoFault → Failure Refused → Type 0
 IsRefused information Memory = Unit {0}
 IsRefused information (Info fault) = information ≡ Err fault
 IsRefused information _ = ⊥

@@ -15,34 +15,26 @@ use Rattle.as65.specs.declared.request.Place.{Place}
 use Rattle.as65.specs.declared.request.Request.{Request}
 use Rattle.as65.specs.declared.request.Request.TheVariants.{Help, Version, Write, Compare}
 
--- the start, and the byte before segments that begin at their START
-pub record PlaceView : Type 0 where
-  pub start : Option ℕ
-  pub fill : Option ℕ
-
 -- a listing, the information file, the output, and where the bytes belong
 pub record Given : Type 0 where
   pub listing : Text
   pub info : Option Text
   pub output : Option Text
-  pub place : PlaceView
+  pub place : Place
 
 -- what is asked for: the bytes of a listing, or a comparison with an image
 pub data Asked : Type 0 where
   AskHelp : Asked
   AskVersion : Asked
-  AskWrite : NamesView → PlaceView → Asked
-  AskCompare : NamesView → PlaceView → Text → Asked
-
-abbrev pub place_of : Place → PlaceView
-place_of p = record { start = p.start; fill = p.fill }
+  AskWrite : NamesView → Place → Asked
+  AskCompare : NamesView → Place → Text → Asked
 
 -- a request as what it asks for
 abbrev pub asked_of : Request → Asked
 asked_of Help = AskHelp
 asked_of Version = AskVersion
-asked_of (Write w) = AskWrite (names_seen w.names) (place_of w.place)
-asked_of (Compare c) = AskCompare (names_seen c.names) (place_of c.place) (string_bytes c.image)
+asked_of (Write w) = AskWrite (names_seen w.names) w.place
+asked_of (Compare c) = AskCompare (names_seen c.names) c.place (string_bytes c.image)
 
 -- the bytes of a listing are to be written: there is a start, or an information file that may have one
 unfoldable pub to_write : Given → Result Asked Refusal

@@ -4,12 +4,13 @@ ghost use Rattle.std.specs.Prelude.{◌≡◌, Ok, IfErr, IfOk, OnErr, OnOk};
 ghost use Rattle.std.specs.Io.KnownBytes.{Appends};
 ghost use Rattle.map65.specs.Device.{AppendsFront, Counts};
 ghost use Rattle.stmt65.specs.Sources.{source_meaning};
-ghost use Rattle.as65.specs.Assembled.{seen};
+ghost use Rattle.as65.specs.Assembled.{AssembledView, seen};
 ghost use Rattle.as65.specs.FaultyLine.{Reports};
 
 use crate::failure::Failure;
 use crate::faulty_line::failure_of;
-use map65::{Sink, write_whole};
+use files65::{FileFault, write_text};
+use map65::Sink;
 use std::alloc::Global;
 use std::marker::Model;
 use stmt65::{Source, assemble_source};
@@ -22,10 +23,6 @@ pub struct Assembled<'s, 't, 'l, 'n> {
 }
 
 impl<'s, 't, 'l, 'n> Model for Assembled<'s, 't, 'l, 'n> {
-    ghost use Rattle.std.specs.Prelude.{◌≡◌, Ok};
-    ghost use Rattle.stmt65.specs.Sources.{source_meaning};
-    ghost use Rattle.as65.specs.Assembled.{AssembledView, seen};
-
     ghost Value = { AssembledView };
 
     ghost view = { λ a. seen a.source.now a.bytes.items };
@@ -66,15 +63,12 @@ impl<'s, 't, 'l, 'n> Assembled<'s, 't, 'l, 'n> {
     }
 
     /// Writes the bytes.
-    pub fn write<W: Sink>(&self, out: &mut W) -> Result<(), Failure>
+    pub fn write<W: Sink>(&self, out: &mut W) -> Result<(), FileFault>
         ensures whole { OnOk result (IfOk self.now.means (Appends (W.taken out.old) (W.taken out.new))) }
         ensures front { OnErr result (IfOk self.now.means (AppendsFront (W.taken out.old) (W.taken out.new))) }
         ensures count { Counts (W.faults out.old) (W.faults out.new) result }
-        ensures failure { IfErr result (λ e. e ≡ Failure.Writing) }
+        ensures failure { IfErr result (λ e. e ≡ FileFault.Writing) }
     {
-        match write_whole(out, self.bytes()) {
-            Ok(()) => Ok(()),
-            Err(_) => Err(Failure::Writing),
-        }
+        write_text(out, self.bytes())
     }
 }

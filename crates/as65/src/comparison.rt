@@ -8,7 +8,8 @@ use crate::assembled::Assembled;
 use crate::differences::differences;
 use crate::failure::Failure;
 use crate::status::Ended;
-use map65::{Image, Sink, write_whole};
+use files65::write_text;
+use map65::{Image, Sink};
 use std::alloc::Global;
 
 /// Compares an image with the bytes of a listing, and writes where they differ. Both begin at the same address.
@@ -26,8 +27,6 @@ pub fn compare<W: Sink>(
         return Ok(Ended::Done);
     }
     let text = differences(alloc, image, assembled)?;
-    match write_whole(out, text.as_slice()) {
-        Ok(()) => Ok(Ended::Differs),
-        Err(_) => Err(Failure::Writing),
-    }
+    write_text(out, text.as_slice())?;
+    Ok(Ended::Differs)
 }

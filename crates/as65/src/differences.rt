@@ -1,7 +1,6 @@
 //! The lines that say where a listing and an image differ.
 
-ghost use Rattle.std.specs.Prelude.{◌≡◌, ◌+◌, ◌++◌, IfOk, OnOk, decimal, flat_map, map, take};
-ghost use Rattle.text65.specs.Digits.{digits4};
+ghost use Rattle.std.specs.Prelude.{◌≡◌, ◌+◌, ◌++◌, IfOk, OnOk, flat_map, map, take};
 ghost use Rattle.as65.specs.Differences.{IsDifferences, change_text, compared, dots_above, is_control, lengths_line, line_of, origin_text, shown, shown_byte, shown_bytes, shown_line, spaced, trimmed};
 ghost use Rattle.as65.specs.Origins.{Moves};
 ghost use Rattle.as65.specs.Code.Passing.{IsInBoth, IsReady, beside, line_left};
@@ -9,7 +8,7 @@ ghost use Rattle.as65.specs.Code.Passing.{IsInBoth, IsReady, beside, line_left};
 use crate::assembled::Assembled;
 use crate::origins::{Origin, Origins};
 use crate::stretches::{Stretch, stretches};
-use itoa::Buffer;
+use files65::{put_address, put_decimal};
 use map65::Image;
 use std::alloc::{AllocError, Global};
 use stmt65::line_addresses;
@@ -100,26 +99,6 @@ pub(crate) fn put_line(out: &mut Vec<u8>, line: &[u8]) -> Result<(), AllocError>
     put_shown(out, trimmed(line))
 }
 
-/// Appends four hex digits.
-pub(crate) fn put_address(out: &mut Vec<u8>, address: usize) -> Result<(), AllocError>
-    ensures { OnOk result (out.new.items ≡ out.old.items ++ digits4 address) }
-{
-    let text = [
-        hex_digit((address / 4096 % 16) as u8),
-        hex_digit((address / 256 % 16) as u8),
-        hex_digit((address / 16 % 16) as u8),
-        hex_digit((address % 16) as u8),
-    ];
-    out.extend_from_slice(&text)
-}
-
-pub(crate) fn put_decimal(out: &mut Vec<u8>, number: usize) -> Result<(), AllocError>
-    ensures { OnOk result (out.new.items ≡ out.old.items ++ decimal number) }
-{
-    let mut buffer = Buffer::new();
-    out.extend_from_slice(buffer.format(number).as_bytes())
-}
-
 /// Appends an address, and the bytes that the image and the listing have there.
 #[tactic(auto, unfolding(crate::specs::Differences::change_text))]
 fn put_change(
@@ -130,8 +109,7 @@ fn put_change(
 ) -> Result<(), AllocError>
     ensures { OnOk result (out.new.items ≡ out.old.items ++ change_text address image.now bytes.now) }
 {
-    out.extend_from_slice(b"$")?;
-    put_address(out, address)?;
+    put_address(out, b"$", address)?;
     out.extend_from_slice(b":")?;
     put_bytes(out, image)?;
     out.extend_from_slice(b" ->")?;
@@ -141,10 +119,10 @@ fn put_change(
 /// Appends the number of a line, and its beginning.
 #[tactic(auto, unfolding(crate::specs::Differences::origin_text))]
 fn put_origin(out: &mut Vec<u8>, origin: &Origin<'_>) -> Result<(), AllocError>
-    ensures { OnOk result (out.new.items ≡ out.old.items ++ origin_text origin.now.number origin.now.line.now) }
+    ensures { OnOk result (out.new.items
+        ≡ out.old.items ++ origin_text origin.now.number origin.now.line.now) }
 {
-    out.extend_from_slice(b", line ")?;
-    put_decimal(out, origin.number)?;
+    put_decimal(out, b", line ", origin.number)?;
     out.extend_from_slice(b": ")?;
     put_shown(out, origin.line)?;
     out.extend_from_slice(b"\n")
@@ -158,10 +136,8 @@ fn put_lengths(out: &mut Vec<u8>, had: usize, has: usize) -> Result<(), AllocErr
     if had == has {
         return Ok(());
     }
-    out.extend_from_slice(b"the image has ")?;
-    put_decimal(out, had)?;
-    out.extend_from_slice(b" bytes, the listing ")?;
-    put_decimal(out, has)?;
+    put_decimal(out, b"the image has ", had)?;
+    put_decimal(out, b" bytes, the listing ", has)?;
     out.extend_from_slice(b"\n")
 }
 
@@ -174,7 +150,8 @@ fn put_found(
     origins: &mut Origins<'_>,
 ) -> Result<(), AllocError>
     requires inside { IsInBoth image.now.bytes bytes.now stretch.now }
-    ensures line { OnOk result (out.new.items ≡ out.old.items ++ line_left (beside image.now bytes.now origins.old) origins.new stretch.now) }
+    ensures line { OnOk result (out.new.items ≡ out.old.items
+        ++ line_left (beside image.now bytes.now origins.old) origins.new stretch.now) }
     ensures moves { Moves (image.now.start + stretch.now.at) origins.old origins.new }
 {
     let old = image.bytes();
@@ -195,7 +172,8 @@ fn put_all(
 ) -> Result<(), AllocError>
     requires first { origins.old.passed ≡ 0 }
     requires ready { IsReady (beside image.now bytes.now origins.old) 0 found.now }
-    ensures { OnOk result (out.new.items ≡ out.old.items ++ flat_map (line_of (beside image.now bytes.now origins.old)) found.now) }
+    ensures { OnOk result (out.new.items ≡ out.old.items
+        ++ flat_map (line_of (beside image.now bytes.now origins.old)) found.now) }
 {
     let mut rest = found;
     'stretches: while let Some((stretch, later)) = rest.split_first() {

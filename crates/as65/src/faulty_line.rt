@@ -4,7 +4,7 @@ ghost use Rattle.std.specs.Prelude.{◌≡◌, ◌++◌, IfOk, OnOk};
 ghost use Rattle.as65.specs.FaultyLine.{FailsWith, Reports, about, hint_text};
 
 use crate::differences::put_line;
-use crate::failure::Failure;
+use crate::failure::{Failure, Refused};
 use crate::hint::hint;
 use crate::origins::line_at;
 use std::alloc::{AllocError, Global};
@@ -48,7 +48,7 @@ pub fn failure_of(
         return Failure::Memory;
     }
     match (String::from_str(alloc, name), about(alloc, fault, source)) {
-        (Ok(name), Ok(said)) => Failure::Line(name, fault, said),
+        (Ok(name), Ok(said)) => Failure::Own(Refused::Line(name, fault, said)),
         _ => Failure::Memory,
     }
 }

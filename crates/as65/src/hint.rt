@@ -1,24 +1,16 @@
 //! What the fault of a line is about: the name that is undefined, how far a branch would go, or a guess from the text of the line.
 //! No fault depends on it.
 
-ghost use Rattle.std.specs.Prelude.{◌≡◌, ◌==◌, ◌||◌, ◌-◌, ◌≤◌, IfOk, OnOk, Some, [], ◌∷◌, ◌++◌, false, get_or, length, map, option_and_then, option_map, unwrap_or};
-ghost use Rattle.std.specs.List.{flat_map, prefix_len, slice_get};
-ghost use Rattle.text65.specs.Digits.{digits4};
+ghost use Rattle.std.specs.Prelude.{◌≡◌, ◌==◌, ◌||◌, ◌-◌, ◌≤◌, IfOk, OnOk, Some, [], ◌++◌, false, length, map, option_map};
+ghost use Rattle.std.specs.List.{flat_map, prefix_len};
 ghost use Rattle.text65.specs.Names.{is_blank, is_word_byte};
-ghost use Rattle.stmt65.specs.Code.SourceLineViews.{datum_of, form_of, operation_of, source_of, value_of};
-ghost use Rattle.stmt65.specs.Code.Held.{held};
+ghost use Rattle.stmt65.specs.Code.SourceLineViews.{datum_of, form_of, operation_of, value_of};
 ghost use Rattle.stmt65.specs.FaultLaws.{datum_values, operation_values};
 ghost use Rattle.stmt65.specs.Forms.{form_values};
-ghost use Rattle.stmt65.specs.Lexing.{parts};
-ghost use Rattle.stmt65.specs.Layout.{start_of};
-ghost use Rattle.stmt65.specs.Reading.{reading_of};
-ghost use Rattle.stmt65.specs.Sources.{source_addresses, source_definitions};
-ghost use Rattle.stmt65.specs.Symbols.{word_in};
-ghost use Rattle.stmt65.specs.declared.language.Language.TheVariants.{Repair};
-ghost use Rattle.as65.specs.Hint.{address_after, after_blanks, after_label, alone, below_zero, branch_hint, branch_target, code_of, difference_hint, distance_hint, ends_string, first_difference, first_unknown, first_word, has, has_0x, has_inner_quote, has_unknown_operation, hint, hint_for, hint_in, is_code, lacks_colon, name_in, operation_hint, past_start, range_by, read_hint, reading_at, segment_by, too_far};
+ghost use Rattle.as65.specs.Hint.{address_after, after_blanks, after_label, alone, branch_hint, branch_target, code_of, difference_hint, distance_hint, ends_string, first_difference, first_unknown, first_word, has, has_0x, has_inner_quote, has_unknown_operation, hint, hint_for, hint_in, is_code, lacks_colon, name_in, operation_by, past_start, range_by, segment_by, too_far};
 
-use crate::differences::{put_address, put_decimal};
 use crate::origins::line_at;
+use files65::{put_address, put_decimal};
 use isa65::{Cpu, Mode, OpcodeSet, Pattern};
 use std::alloc::{AllocError, Global};
 use stmt65::{
@@ -39,8 +31,7 @@ fn code_len(line: &[u8]) -> usize
 fn code_of(line: &[u8]) -> &[u8]
     ensures { result.now ≡ code_of line.now }
 {
-    let len = code_len(line);
-    &line[..len]
+    &line[..code_len(line)]
 }
 
 fn has(mark: u8, line: &[u8]) -> bool
@@ -61,16 +52,14 @@ fn word_len(line: &[u8]) -> usize
 fn first_word(line: &[u8]) -> &[u8]
     ensures { result.now ≡ first_word line.now }
 {
-    let len = word_len(line);
-    &line[..len]
+    &line[..word_len(line)]
 }
 
 /// The line without the blanks at its beginning.
 fn after_blanks(line: &[u8]) -> &[u8]
     ensures { result.now ≡ after_blanks line.now }
 {
-    let len = blank_len(line);
-    &line[len..]
+    &line[blank_len(line)..]
 }
 
 /// How many blanks are at the beginning of a line.
@@ -109,19 +98,13 @@ fn has_0x(line: &[u8]) -> bool
     let mut inside = false;
     let mut rest = line;
     'bytes: while let Some((byte, later)) = rest.split_first() {
-        if !inside && *byte == b'0' && is_x(later) {
+        if !inside && *byte == b'0' && matches!(later.first(), Some(b'x' | b'X')) {
             return true;
         }
         inside = is_word_byte(*byte);
         rest = later;
     }
     false
-}
-
-fn is_x(bytes: &[u8]) -> bool
-    ensures { result ≡ (get_or bytes.now 0 0 == 120 || get_or bytes.now 0 0 == 88) }
-{
-    matches!(bytes.first(), Some(b'x' | b'X'))
 }
 
 /// Whether what comes after a string may do so.
@@ -315,18 +298,6 @@ fn first_unknown<'a>(names: &Names<'_, '_, '_, '_>, values: &[Value<'a>]) -> &'a
     &[]
 }
 
-/// The first name of an operation that has no definition.
-fn name_hint(
-    alloc: Global,
-    names: &Names<'_, '_, '_, '_>,
-    operation: &Operation<'_>,
-) -> Result<Vec<u8>, AllocError>
-    ensures { IfOk result (λ name. name.items ≡ first_unknown names.now (operation_values (operation_of operation.now))) }
-{
-    let values = operation_values(alloc, operation)?;
-    owned(alloc, first_unknown(names, &values))
-}
-
 // ---- a branch that goes too far
 
 /// Where a branch leads.
@@ -348,8 +319,7 @@ fn too_far(alloc: Global, sign: &[u8], count: u64) -> Result<Vec<u8>, AllocError
     ensures { IfOk result (λ text. text.items ≡ too_far sign.now count) }
 {
     let mut out = owned(alloc, b"branch too far: ")?;
-    out.extend_from_slice(sign)?;
-    put_decimal(&mut out, count as usize)?;
+    put_decimal(&mut out, sign, count as usize)?;
     out.extend_from_slice(b" bytes")?;
     Ok(out)
 }
@@ -362,27 +332,15 @@ fn distance_hint(alloc: Global, next: u64, target: Option<u16>) -> Result<Vec<u8
     let Some(target) = target else {
         return Ok(Vec::new(alloc));
     };
-    let ahead = u64::from(target).saturating_sub(next);
-    let back = next.saturating_sub(u64::from(target));
-    if 127 < ahead {
-        return too_far(alloc, b"", ahead);
-    }
-    if 128 < back {
-        return too_far(alloc, b"-", back);
-    }
-    Ok(Vec::new(alloc))
-}
-
-/// The address of the target of a branch.
-fn target_in(names: &Names<'_, '_, '_, '_>, operation: &Operation<'_>) -> Option<u16>
-    ensures { result ≡ option_and_then (word_in names.now) (branch_target (operation_of operation.now)) }
-{
-    match branch_target(operation) {
-        Some(value) => names.word(value),
-        None => None,
+    let target = u64::from(target);
+    match (target.saturating_sub(next), next.saturating_sub(target)) {
+        (ahead, _) if 127 < ahead => too_far(alloc, b"", ahead),
+        (_, back) if 128 < back => too_far(alloc, b"-", back),
+        _ => Ok(Vec::new(alloc)),
     }
 }
 
+#[tactic(auto, unfolding(crate::specs::Hint::distance_hint))]
 fn branch_hint(
     alloc: Global,
     names: &Names<'_, '_, '_, '_>,
@@ -391,24 +349,13 @@ fn branch_hint(
 ) -> Result<Vec<u8>, AllocError>
     ensures { IfOk result (λ h. h.items ≡ branch_hint names.now next (operation_of operation.now)) }
 {
-    distance_hint(alloc, next, target_in(names, operation))
+    match branch_target(operation) {
+        Some(value) => distance_hint(alloc, next, names.word(value)),
+        None => Ok(Vec::new(alloc)),
+    }
 }
 
 // ---- a difference that is below 0
-
-/// How far the second of two addresses is past the first.
-fn below_zero(alloc: Global, one: Option<u16>, other: Option<u16>) -> Result<Vec<u8>, AllocError>
-    ensures { IfOk result (λ h. h.items ≡ below_zero one other) }
-{
-    match (one, other) {
-        (Some(one), Some(other)) if one < other => {
-            let mut out = owned(alloc, b"the difference is -")?;
-            put_decimal(&mut out, usize::from(other - one))?;
-            Ok(out)
-        }
-        _ => Ok(Vec::new(alloc)),
-    }
-}
 
 fn difference_hint(
     alloc: Global,
@@ -417,12 +364,17 @@ fn difference_hint(
 ) -> Result<Vec<u8>, AllocError>
     ensures { IfOk result (λ h. h.items ≡ difference_hint names.now (value_of value.entry)) }
 {
-    match value {
-        Value::Difference(name, other) => {
-            below_zero(alloc, names.word(alone(name)), names.word(alone(other)))
+    let Value::Difference(name, other) = value else {
+        return Ok(Vec::new(alloc));
+    };
+    let mut out = Vec::new(alloc);
+    match (names.word(alone(name)), names.word(alone(other))) {
+        (Some(one), Some(other)) if one < other => {
+            put_decimal(&mut out, b"the difference is -", usize::from(other - one))?;
         }
-        _ => Ok(Vec::new(alloc)),
+        _ => {}
     }
+    Ok(out)
 }
 
 /// That of the first expression that has one.
@@ -473,9 +425,9 @@ fn past_start(alloc: Global, at: u64, start: Option<u16>) -> Result<Vec<u8>, All
     let mut out = Vec::new(alloc);
     if let Some(start) = start {
         let past = at.saturating_sub(u64::from(start));
-        put_decimal(&mut out, past as usize)?;
+        put_decimal(&mut out, b"", past as usize)?;
         out.extend_from_slice(b" bytes past $")?;
-        put_address(&mut out, usize::from(start))?;
+        put_address(&mut out, b"", usize::from(start))?;
     }
     Ok(out)
 }
@@ -518,11 +470,17 @@ fn operation_hint(
     source: &Source<'_, '_, '_>,
     operation: &Operation<'_>,
 ) -> Result<Vec<u8>, AllocError>
-    ensures { IfOk result (λ h. h.items ≡ operation_hint fault source.now (operation_of operation.now)) }
+    ensures { IfOk result (λ h.
+        h.items ≡ operation_by fault.kind fault.line source.now (operation_of operation.now)) }
 {
     let names = Definitions::new(&alloc, source)?;
     match fault.kind {
-        AsmFaultKind::Undefined => name_hint(alloc, &names, operation),
+        AsmFaultKind::Undefined => {
+            owned(
+                alloc,
+                first_unknown(&names, &operation_values(alloc, operation)?),
+            )
+        }
         AsmFaultKind::OutOfRange => {
             let next = address_after(alloc, source, fault.line)?;
             range_hint(alloc, &names, next, operation)
@@ -530,22 +488,6 @@ fn operation_hint(
         AsmFaultKind::PastStart => {
             let at = address_after(alloc, source, fault.line)?;
             segment_hint(alloc, source.layout, at, operation)
-        }
-        _ => Ok(Vec::new(alloc)),
-    }
-}
-
-/// The same of what the line says.
-fn read_hint(
-    alloc: Global,
-    fault: AsmFault,
-    source: &Source<'_, '_, '_>,
-) -> Result<Vec<u8>, AllocError>
-    ensures { IfOk result (λ h. h.items ≡ read_hint fault source.now (reading_at fault.line source.now.text.now)) }
-{
-    match read_line(alloc, Language::Repair, line_at(source.text, fault.line))? {
-        Some(SourceLine::Statement { operation, .. }) => {
-            operation_hint(alloc, fault, source, &operation)
         }
         _ => Ok(Vec::new(alloc)),
     }
@@ -560,9 +502,15 @@ pub fn hint(
 ) -> Result<Vec<u8>, AllocError>
     ensures { IfOk result (λ h. h.items ≡ hint fault source.now) }
 {
+    let line = line_at(source.text, fault.line);
     match fault.kind {
-        AsmFaultKind::Syntax => owned(alloc, hint_for(line_at(source.text, fault.line))),
+        AsmFaultKind::Syntax => owned(alloc, hint_for(line)),
         AsmFaultKind::UnknownCpu => owned(alloc, b"6502, 65SC02 or 65C02"),
-        _ => read_hint(alloc, fault, source),
+        _ => match read_line(alloc, Language::Repair, line)? {
+            Some(SourceLine::Statement { operation, .. }) => {
+                operation_hint(alloc, fault, source, &operation)
+            }
+            _ => Ok(Vec::new(alloc)),
+        },
     }
 }

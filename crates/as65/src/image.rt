@@ -5,7 +5,7 @@ ghost use Rattle.map65.specs.Device.{has_failed};
 ghost use Rattle.map65.specs.Image.{image_of};
 ghost use Rattle.as65.specs.Image.{IsFailureOf, IsNoImage};
 
-use crate::failure::Failure;
+use crate::failure::{Failure, Refused};
 use files65::{FileFault, Input};
 use info65::Info;
 use map65::{Image, ImageFault, Source, read_image};
@@ -16,9 +16,9 @@ fn failure_of(alloc: Global, fault: ImageFault, name: &str) -> Failure
     ensures { IsFailureOf fault result }
 {
     match (fault, String::from_str(alloc, name)) {
-        (ImageFault::Empty, _) => Failure::EmptyImage,
-        (ImageFault::Short, _) => Failure::ShortImage,
-        (ImageFault::TooLarge, _) => Failure::LargeImage,
+        (ImageFault::Empty, _) => Failure::Own(Refused::EmptyImage),
+        (ImageFault::Short, _) => Failure::Own(Refused::ShortImage),
+        (ImageFault::TooLarge, _) => Failure::Own(Refused::LargeImage),
         (ImageFault::Read, Ok(name)) => Failure::File(FileFault::Reading(name)),
         (ImageFault::Memory, _) | (ImageFault::Read, Err(_)) => Failure::Memory,
     }

@@ -6,7 +6,7 @@ ghost use Rattle.as65.specs.Information.{IsRefused, options_at, placed_at};
 
 use crate::failure::Failure;
 use files65::read_information;
-use info65::{Info, InfoFaultKind, Options, Settings, read_info};
+use info65::{Info, Options, Settings, read_info};
 use std::alloc::Global;
 
 /// What the file of this name says, under the start of the command line. Without a name it is the empty file.
@@ -25,13 +25,7 @@ fn information_in(alloc: Global, start: Option<u16>, bytes: &[u8]) -> Result<Inf
 {
     let mut options: Options = Options::none();
     options.start = start;
-    match read_info(alloc, &options, bytes) {
-        Ok(info) => Ok(info),
-        Err(fault) => match fault.kind {
-            InfoFaultKind::Memory => Err(Failure::Memory),
-            _ => Err(Failure::Info(fault)),
-        },
-    }
+    Ok(read_info(alloc, &options, bytes)?)
 }
 
 /// Where settings place an image: at its start, or so that its size ends at $FFFF.

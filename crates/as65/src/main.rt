@@ -32,15 +32,14 @@ use image::image;
 use info65::Info;
 use information::{information, placed_at};
 use listing::need_bytes;
-use map65::Image;
-use message::{say, say_named_start, say_start};
+use message::{say, say_starts};
 use named_start::named_start;
 use request::{Comparing, Request, Writing, is_compared_by, is_comparing, request_of};
 use segment_starts::layout_of;
 use status::{Ended, status_of};
 use std::process::ExitCode;
 use stmt65::{Language, Layout, Source};
-use usage65::{Names, RequestFault, words_of};
+use usage65::{RequestFault, words_of};
 
 /// Writes a text about the program on standard output.
 fn tell(rt: &HostRuntime, text: &[u8]) -> Result<Ended, Failure> {
@@ -58,107 +57,61 @@ fn repair<'t, 'l, 'n>(layout: &'l Layout<'n>, start: u16, text: &'t [u8]) -> Sou
     }
 }
 
-/// Writes the bytes of the listing of this name. The output is created once they are there.
-fn write_bytes(
-    rt: &HostRuntime,
-    name: &str,
-    source: &Source<'_, '_, '_>,
-    output: Option<String>,
-) -> Result<Ended, Failure> {
-    let assembled = Assembled::new(rt.alloc(), source, name)?;
+/// Reads the listing, and writes its bytes. The output is created once they are there.
+fn write_under(rt: &HostRuntime, mut writing: Writing, info: &Info) -> Result<Ended, Failure> {
+    let start = placed_at(info.settings()).ok_or(RequestFault::NoStart)?;
+    let layout = layout_of(rt.alloc(), info.segments(), writing.place.fill)?;
+    let output = writing.names.output.take();
+    let name = writing.names.listing.as_str();
+    let text = read_listing(rt, name)?;
+    let source = repair(&layout, start, &text);
+    let assembled = Assembled::new(rt.alloc(), &source, name)?;
     need_bytes(rt.alloc(), &assembled, name)?;
     let mut output = Output::create(rt, output)?;
     assembled.write(&mut output)?;
     Ok(Ended::Done)
 }
 
-/// Reads the listing, and writes its bytes.
-fn write_under(rt: &HostRuntime, writing: Writing, info: &Info) -> Result<Ended, Failure> {
-    let start = placed_at(info.settings()).ok_or(RequestFault::NoStart)?;
-    let Writing { names, place } = writing;
-    let layout = layout_of(rt.alloc(), info.segments(), place.fill)?;
-    let Names {
-        listing,
-        output,
-        ..
-    } = names;
-    let text = read_listing(rt, listing.as_str())?;
-    write_bytes(rt, listing.as_str(), &repair(&layout, start, &text), output)
-}
-
 /// Reads what says where the image is, and writes it. Its output may not be the input of the information file either.
 fn write_image(rt: &HostRuntime, writing: Writing) -> Result<Ended, Failure> {
-    let Names {
-        listing,
-        info,
-        output,
-    } = &writing.names;
-    let inputs = [info.as_deref(), Some(listing.as_str())];
-    keep_inputs(rt, output.as_deref(), &inputs)?;
+    let names = &writing.names;
+    let inputs = [names.info.as_deref(), Some(names.listing.as_str())];
+    let output = names.output.as_deref();
+    keep_inputs(rt, output, &inputs)?;
     keep_apart(rt, &inputs)?;
-    let info = information(rt, info.as_deref(), writing.place.start)?;
-    keep_inputs(rt, output.as_deref(), &[info.settings().input.as_deref()])?;
+    let info = information(rt, names.info.as_deref(), writing.place.start)?;
+    keep_inputs(rt, output, &[info.settings().input.as_deref()])?;
     write_under(rt, writing, &info)
 }
 
-/// Says on standard error where an image is taken to begin whose start nobody gave, and what the names of the listing say of that.
-fn say_assumed(
-    rt: &HostRuntime,
-    name: &str,
-    image: &Image,
-    source: &Source<'_, '_, '_>,
-) -> Result<(), Failure> {
-    let named = named_start(rt.alloc(), source, image.bytes().len())?;
-    say_start(rt, name, image.start())?;
-    match &named {
-        Some(named) => say_named_start(rt, named),
-        None => Ok(()),
-    }
-}
-
-/// Writes on standard output where the bytes of a listing differ from those of the image.
-fn compare_text(
-    rt: &HostRuntime,
-    comparing: &Comparing,
-    image: &Image,
-    is_assumed: bool,
-    source: &Source<'_, '_, '_>,
-) -> Result<Ended, Failure> {
-    let name = comparing.names.listing.as_str();
-    let assembled = Assembled::new(rt.alloc(), source, name)?;
-    need_bytes(rt.alloc(), &assembled, name)?;
-    if is_assumed && image.bytes() != assembled.bytes() {
-        say_assumed(rt, comparing.image.as_str(), image, source)?;
-    }
-    compare(rt.alloc(), image, &assembled, &mut Output::standard(rt))
-}
-
-/// Reads the image and the listing, and compares them.
+/// Reads the image and the listing, and writes on standard output where their bytes differ.
 fn compare_under(rt: &HostRuntime, comparing: &Comparing, info: &Info) -> Result<Ended, Failure> {
     let image = image(rt, comparing.image.as_str(), info)?;
     let layout = layout_of(rt.alloc(), info.segments(), comparing.place.fill)?;
-    let text = read_listing(rt, comparing.names.listing.as_str())?;
-    compare_text(
-        rt,
-        comparing,
-        &image,
-        info.settings().start.is_none(),
-        &repair(&layout, image.start(), &text),
-    )
+    let name = comparing.names.listing.as_str();
+    let text = read_listing(rt, name)?;
+    let source = repair(&layout, image.start(), &text);
+    let assembled = Assembled::new(rt.alloc(), &source, name)?;
+    need_bytes(rt.alloc(), &assembled, name)?;
+    if info.settings().start.is_none() && image.bytes() != assembled.bytes() {
+        let named = named_start(rt.alloc(), &source, image.bytes().len())?;
+        say_starts(rt, comparing.image.as_str(), image.start(), named)?;
+    }
+    compare(rt.alloc(), &image, &assembled, &mut Output::standard(rt))
 }
 
 /// Reads what says where the image is, and compares. The output is standard output.
 fn compare_with(rt: &HostRuntime, comparing: &Comparing) -> Result<Ended, Failure> {
-    let Comparing {
-        names,
-        place,
-        image,
-    } = comparing;
+    let names = &comparing.names;
     let info = names.info.as_deref();
-    let inputs = [info, Some(image.as_str()), Some(names.listing.as_str())];
+    let inputs = [
+        info,
+        Some(comparing.image.as_str()),
+        Some(names.listing.as_str()),
+    ];
     keep_inputs(rt, None, &inputs)?;
     keep_apart(rt, &inputs)?;
-    let info = information(rt, info, place.start)?;
+    let info = information(rt, info, comparing.place.start)?;
     keep_inputs(rt, None, &[info.settings().input.as_deref()])?;
     compare_under(rt, comparing, &info)
 }

@@ -1,6 +1,6 @@
 //! The start that the names of a listing speak for: da65 calls an address `LXXXX` that has no name.
 
-ghost use Rattle.std.specs.Prelude.{◌≡◌, ◌<◌, ◌≤◌, ◌++◌, IfOk, IfSome, OnOk, count_by, option_map, option_to_list};
+ghost use Rattle.std.specs.Prelude.{◌≡◌, ◌<◌, ◌≤◌, ◌++◌, IfOk, IfSome, count_by, option_map};
 ghost use Rattle.stmt65.specs.Lexing.{parts};
 ghost use Rattle.stmt65.specs.Sources.{source_meaning, source_readings};
 ghost use Rattle.stmt65.specs.Reading.{reading_of};
@@ -81,7 +81,8 @@ fn start_in_line(
     at: u64,
     line: &[u8],
 ) -> Result<Option<Option<u16>>, AllocError>
-    ensures { IfOk result (λ found. found ≡ start_in_line source.now.start at (reading_of source.now.language (parts source.now.language line.now))) }
+    ensures { IfOk result (λ found. found ≡ start_in_line source.now.start at
+        (reading_of source.now.language (parts source.now.language line.now))) }
 {
     match read_line(alloc, source.language, line)? {
         Some(
@@ -94,16 +95,6 @@ fn start_in_line(
     }
 }
 
-/// Appends what a label speaks for, if it has a name of that form.
-fn put_start(out: &mut Vec<Option<u16>>, start: Option<Option<u16>>) -> Result<(), AllocError>
-    ensures { OnOk result (out.new.items ≡ out.old.items ++ option_to_list start) }
-{
-    if let Some(start) = start {
-        out.push(start)?;
-    }
-    Ok(())
-}
-
 /// The starts for which the labels of a text speak, by the address after each of its lines.
 #[tactic(auto, unfolding(crate::specs::NamedStart::starts_in))]
 fn starts_in(
@@ -111,7 +102,8 @@ fn starts_in(
     source: &Source<'_, '_, '_>,
     ends: &[u64],
 ) -> Result<Vec<Option<u16>>, AllocError>
-    ensures { IfOk result (λ found. found.items ≡ starts_in source.now.start source.now.start (source_readings source.now) ends.now) }
+    ensures { IfOk result (λ found. found.items
+        ≡ starts_in source.now.start source.now.start (source_readings source.now) ends.now) }
 {
     let mut found = Vec::new(alloc);
     let mut at = u64::from(source.start);
@@ -121,7 +113,7 @@ fn starts_in(
         let Some((end, later)) = left.split_first() else {
             return Ok(found);
         };
-        put_start(&mut found, start_in_line(alloc, source, at, line)?)?;
+        found.extend_from_slice(start_in_line(alloc, source, at, line)?.as_slice())?;
         at = *end;
         rest = after;
         left = later;
@@ -133,13 +125,10 @@ fn starts_in(
 fn count_of(starts: &[Option<u16>], start: u16) -> usize
     ensures { result ≡ count_by (is_start start) starts.now }
 {
-    let mut count = 0;
-    'starts: for other in starts {
-        if is_start(start, *other) {
-            count += 1;
-        }
-    }
-    count
+    starts
+        .iter()
+        .filter(|other| is_start(start, **other))
+        .count()
 }
 
 fn is_start(start: u16, other: Option<u16>) -> bool
@@ -175,7 +164,8 @@ pub fn named_start(
     size: usize,
 ) -> Result<Option<NamedStart>, AllocError>
     requires { size ≤ 65536 }
-    ensures { IfOk (source_meaning source.now) (λ _. IfOk result (λ found. option_map named_start_of found ≡ named_start source.now size)) }
+    ensures { IfOk (source_meaning source.now) (λ _.
+        IfOk result (λ found. option_map named_start_of found ≡ named_start source.now size)) }
 {
     let ends = line_addresses(alloc, source)?;
     let starts = starts_in(alloc, source, &ends)?;

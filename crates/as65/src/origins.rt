@@ -4,7 +4,8 @@ ghost use Rattle.std.specs.Prelude.{◌≡◌, ◌+◌, ◌≤◌, [], drop, get
 ghost use Rattle.std.specs.List.{prefix_len};
 ghost use Rattle.text65.specs.Lines.{text_lines};
 ghost use Rattle.as65.specs.Differences.{trimmed};
-ghost use Rattle.as65.specs.Origins.{Moves};
+ghost use Rattle.as65.specs.Origins.{Moves, OriginsView};
+ghost use Rattle.as65.specs.Code.Passing.{IsAtLine};
 ghost use Rattle.as65.specs.Hint.{line_at};
 
 use crate::differences::trimmed;
@@ -31,10 +32,6 @@ pub struct Origins<'a> {
 }
 
 impl<'a> Model for Origins<'a> {
-    ghost use Rattle.text65.specs.Lines.{text_lines};
-    ghost use Rattle.as65.specs.Code.Passing.{IsAtLine};
-    ghost use Rattle.as65.specs.Origins.{OriginsView};
-
     ghost Value = { OriginsView };
 
     ghost view = { λ o. record { lines = text_lines o.rest.now; ends = o.ends.now; passed = o.passed } };

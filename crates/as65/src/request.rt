@@ -142,16 +142,11 @@ fn request_in(alloc: Global, matches: &ArgMatches) -> Result<Request, RequestFau
 fn to_write(alloc: Global, given: Given<'_>) -> Result<Request, RequestFault>
     ensures { Gives asked_of result (to_write (given_of given.entry)) }
 {
-    let Given {
-        listing,
-        info,
-        output,
-        place,
-    } = given;
-    if !(place.start.is_some() || info.is_some()) {
+    if !(given.place.start.is_some() || given.info.is_some()) {
         return Err(RequestFault::NoStart);
     }
-    let names = names_apart(alloc, listing, info, output)?;
+    let names = names_apart(alloc, given.listing, given.info, given.output)?;
+    let place = given.place;
     Ok(Request::Write(Writing { names, place }))
 }
 
@@ -160,23 +155,17 @@ fn to_write(alloc: Global, given: Given<'_>) -> Result<Request, RequestFault>
 fn to_compare(alloc: Global, given: Given<'_>, image: &str) -> Result<Request, RequestFault>
     ensures { Gives asked_of result (to_compare (given_of given.entry) image.now) }
 {
-    let Given {
-        listing,
-        info,
-        output,
-        place,
-    } = given;
-    if output.is_some() {
+    if given.output.is_some() {
         return Err(RequestFault::Usage(UsageFault::Words));
     }
-    if is_taken(Some(listing), image) || is_taken(info, image) {
+    if is_taken(Some(given.listing), image) || is_taken(given.info, image) {
         return Err(RequestFault::StandardTwice);
     }
-    let names = names_apart(alloc, listing, info, None)?;
+    let names = names_apart(alloc, given.listing, given.info, None)?;
     let image = String::from_str(alloc, image)?;
     Ok(Request::Compare(Comparing {
         names,
-        place,
+        place: given.place,
         image,
     }))
 }

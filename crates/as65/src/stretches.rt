@@ -36,9 +36,11 @@ fn next_stretch(one: &[u8], other: &[u8], from: usize) -> Option<Stretch>
     requires one { from ≤ length one.now }
     requires other { from ≤ length other.now }
     ensures low { IfSome result (λ s. from ≤ s.at) }
-    ensures before { IfSome result (λ s. (i : ℕ) → from ≤ i → i < s.at → differs one.now other.now i ≡ false) }
+    ensures before { IfSome result (λ s.
+        (i : ℕ) → from ≤ i → i < s.at → differs one.now other.now i ≡ false) }
     ensures some { IfSome result (λ s. s.at < s.end) }
-    ensures inside { IfSome result (λ s. (i : ℕ) → s.at ≤ i → i < s.end → differs one.now other.now i ≡ true) }
+    ensures inside { IfSome result (λ s.
+        (i : ℕ) → s.at ≤ i → i < s.end → differs one.now other.now i ≡ true) }
     ensures after { IfSome result (λ s. differs one.now other.now s.end ≡ false) }
     ensures one { IfSome result (λ s. s.end ≤ length one.now) }
     ensures other { IfSome result (λ s. s.end ≤ length other.now) }

@@ -5,12 +5,12 @@ use Rattle.std.specs.Io.KnownBytes.{Appends, Keeps, append_known}
 use Rattle.std.proofs.KnownBytes.{Keeps-refl, append_known-grown}
 
 -- bytes that come after those that were kept
-pub Appends-after : (old mid : Option (List ℕ)) (bytes more : List ℕ) → Keeps old (append_known mid bytes) → Appends old (append_known mid (bytes ++ more)) more
-Appends-after old mid bytes more k = append_known-grown old mid bytes (bytes ++ more) more k refl
+pub appends_after : (old mid : Option (List ℕ)) (bytes more : List ℕ) → Keeps old (append_known mid bytes) → Appends old (append_known mid (bytes ++ more)) more
+appends_after old mid bytes more k = append_known-grown old mid bytes (bytes ++ more) more k refl
 
 -- and so where nothing was passed on
-pub Appends-more : (taken : Option (List ℕ)) (bytes more : List ℕ) → Appends (append_known taken bytes) (append_known taken (bytes ++ more)) more
-Appends-more taken bytes more = Appends-after (append_known taken bytes) taken bytes more (Keeps-refl (append_known taken bytes))
+pub appends_more : (taken : Option (List ℕ)) (bytes more : List ℕ) → Appends (append_known taken bytes) (append_known taken (bytes ++ more)) more
+appends_more taken bytes more = appends_after (append_known taken bytes) taken bytes more (Keeps-refl (append_known taken bytes))
 
 -- where no byte waits, all were taken
 pub all_taken : (xs : List ℕ) (first end : ℕ) → first ≤ end → end ≤ length xs → drop first (take end xs) ≡ [] → first ≡ end

@@ -1,5 +1,5 @@
 -- From a run over a buffer to what is on the output and on standard error.
-use Rattle.std.proofs.Common.{◌≡◌, ◌<◌, ℕ, List, [], ◌∷◌, ◌++◌, IfSome, Option, None, Some, Result, Ok, Err, length, refl, sym, ◌∙◌, ap, subst, append_assoc, arith}
+use Rattle.std.proofs.Common.{◌≡◌, ◌<◌, ℕ, List, [], ◌∷◌, ◌++◌, IfSome, Option, None, Some, Result, Ok, Err, length, refl, sym, ◌∙◌, ap, append_assoc, arith}
 use Rattle.std.proofs.lemmas.List.{append-nil}
 use Rattle.std.specs.Io.KnownBytes.{Appends, Keeps, append_known}
 use Rattle.std.proofs.KnownBytes.{Keeps-refl}
@@ -76,33 +76,21 @@ none_out (Some xs) (Some ys) k s = ap Some (nil_left ys s.left (s.kept ∙ k))
 
 delivers_from : (was result : Result Status RunFault) (outcome : Outcome) (taken out : Option (List ℕ)) (waiting : List ℕ) (errors errors' : Option (List ℕ)) → Writes was outcome (Some []) taken (Some []) (Some waiting) → FlushesThenReports was result taken out waiting errors errors' → Delivers result outcome out errors errors'
 delivers_from was (Ok status) outcome taken out waiting errors errors' w s =
-    let P : Result Status RunFault → Type 0 = λ r. Writes r outcome (Some []) taken (Some []) (Some waiting) in
-    let done : P (Ok status) = subst P s.0 w in
-    (done.0, whole_out taken out outcome.listing done.1 s.1, (let Q : List ℕ → Type 0 = λ t. Appends errors errors' t in subst Q done.2 s.2))
+    let done = rw s.0 at w in (done.0, whole_out taken out outcome.listing done.1 s.1, (rw done.2 at s.2))
 delivers_from was (Err Messages) outcome taken out waiting errors errors' w s =
     let whole = listed_whole was outcome taken (Some waiting) s.0 w in
-    (whole_out taken out outcome.listing whole.0 s.1, (let Q : List ℕ → Type 0 = λ t. AppendsFront errors errors' t in subst Q whole.1 s.2))
+    (whole_out taken out outcome.listing whole.0 s.1, (rw whole.1 at s.2))
 delivers_from was (Err Write) outcome taken out waiting errors errors' w s = (prefix_out taken out outcome.listing (front_of was outcome taken (Some waiting) w) s.0, s.1)
 delivers_from was (Err Memory) outcome taken out waiting errors errors' w s =
-    let P : Result Status RunFault → Type 0 = λ r. Writes r outcome (Some []) taken (Some []) (Some waiting) in
-    let none : P (Err Memory) = subst P s.0 w in
-    (none_out taken out none.0 s.1, s.2)
-
--- From what the run promises of the buffer to what is on the output.
-delivers : (was result : Result Status RunFault) (outcome : Outcome) (old taken out : Option (List ℕ)) (msgs : Option (List ℕ)) (waiting : List ℕ) (errors errors' : Option (List ℕ))
-    → old ≡ Some [] → msgs ≡ Some [] → Writes was outcome old taken msgs (Some waiting) → FlushesThenReports was result taken out waiting errors errors' → Delivers result outcome out errors errors'
-delivers was result outcome old taken out msgs waiting errors errors' o m w s =
-    let P : Option (List ℕ) → Type 0 = λ x. Writes was outcome x taken msgs (Some waiting) in
-    let Q : Option (List ℕ) → Type 0 = λ x. Writes was outcome (Some []) taken x (Some waiting) in
-    delivers_from was result outcome taken out waiting errors errors' (subst Q m (subst P o w)) s
+    let none = rw s.0 at w in (none_out taken out none.0 s.1, s.2)
 
 -- a buffer before a sink that has taken nothing, with no byte in it, has taken nothing
 pub fresh_taken : (out : Option (List ℕ)) (bytes : List ℕ) → out ≡ Some [] → bytes ≡ [] → append_known out bytes ≡ Some []
 fresh_taken out bytes o b = rw (o, b) refl
 
--- The same for the input's bytes, where they are told.
+-- From what the run promises of the buffer to what is on the output, for the input's bytes, where they are told.
 pub delivers_told : (left : Option (List ℕ)) (outcome : List ℕ → Outcome) (was result : Result Status RunFault) (old taken out : Option (List ℕ)) (msgs : Option (List ℕ)) (waiting : List ℕ) (errors errors' : Option (List ℕ))
     → old ≡ Some [] → msgs ≡ Some [] → IfSome left (λ bytes. Writes was (outcome bytes) old taken msgs (Some waiting)) → FlushesThenReports was result taken out waiting errors errors'
     → IfSome left (λ bytes. Delivers result (outcome bytes) out errors errors')
 delivers_told None outcome was result old taken out msgs waiting errors errors' o m w s = tt
-delivers_told (Some bytes) outcome was result old taken out msgs waiting errors errors' o m w s = delivers was result (outcome bytes) old taken out msgs waiting errors errors' o m w s
+delivers_told (Some bytes) outcome was result old taken out msgs waiting errors errors' o m w s = delivers_from was result (outcome bytes) taken out waiting errors errors' (rw (o, m) at w) s

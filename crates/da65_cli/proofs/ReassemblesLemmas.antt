@@ -1,5 +1,5 @@
 -- What a run over a buffer assembles to, the output assembles to.
-use Rattle.std.proofs.Common.{◌≡◌, ◌∙◌, ℕ, Bool, List, [], IfSome, Option, None, Some, Result, Ok, Err, subst}
+use Rattle.std.proofs.Common.{◌≡◌, ◌∙◌, ℕ, Bool, List, [], IfSome, Option, None, Some, Result, Ok, Err}
 use Rattle.std.specs.Io.KnownBytes.{Keeps}
 use Rattle.info65.specs.Views.{InfoView}
 use Rattle.map65.specs.Image.{image_of}
@@ -26,9 +26,7 @@ took_of (Err message) bytes failed taken out k t = absurd t
 
 reassembles : (was result : Result Status RunFault) (info : Result InfoView (List ℕ)) (bytes : List ℕ) (failed : Bool) (taken out : Option (List ℕ)) (waiting : List ℕ) (errors errors' : Option (List ℕ))
     → Reassembles was info bytes failed (Some []) taken → FlushesThenReports was result taken out waiting errors errors' → Reassembles result info bytes failed (Some []) out
-reassembles was (Ok Done) info bytes failed taken out waiting errors errors' r s =
-    let P : Result Status RunFault → Type 0 = λ x. Reassembles x info bytes failed (Some []) taken in
-    took_of info bytes failed taken out s.1 (subst P s.0 r)
+reassembles was (Ok Done) info bytes failed taken out waiting errors errors' r s = took_of info bytes failed taken out s.1 (rw s.0 at r)
 reassembles was (Ok Refused) info bytes failed taken out waiting errors errors' r s = tt
 reassembles was (Err fault) info bytes failed taken out waiting errors errors' r s = tt
 
@@ -37,5 +35,4 @@ pub reassembles_told : (left : Option (List ℕ)) (info : Result InfoView (List 
     → old ≡ Some [] → IfSome left (λ bytes. Reassembles was info bytes failed old taken) → FlushesThenReports was result taken out waiting errors errors' → IfSome left (λ bytes. Reassembles result info bytes failed (Some []) out)
 reassembles_told None info failed was result old taken out waiting errors errors' o r s = tt
 reassembles_told (Some bytes) info failed was result old taken out waiting errors errors' o r s =
-    let P : Option (List ℕ) → Type 0 = λ x. Reassembles was info bytes failed x taken in
-    reassembles was result info bytes failed taken out waiting errors errors' (subst P o r) s
+    reassembles was result info bytes failed taken out waiting errors errors' (rw o at r) s

@@ -1,5 +1,8 @@
 //! A block of bytes that is filled at its end and taken from at its front.
 
+ghost use Rattle.std.specs.Prelude.{◌≡◌, ◌-◌, ◌<◌, ◌≤◌, ◌++◌, [], drop, length, take};
+ghost use Rattle.da65_cli.specs.Code.Block.{BlockView};
+
 use std::marker::Model;
 
 /// How many bytes a block has.
@@ -14,9 +17,6 @@ pub struct Block {
 }
 
 impl Model for Block {
-    ghost use Rattle.std.specs.Prelude.{◌≡◌, ◌-◌, ◌≤◌, drop, take};
-    ghost use Rattle.da65_cli.specs.Code.Block.{BlockView};
-
     ghost Value = { BlockView };
 
     ghost view = { λ b. record { bytes = drop b.first (take b.end b.bytes); room = 8192 - b.end } };
@@ -25,8 +25,6 @@ impl Model for Block {
 }
 
 impl Block {
-    ghost use Rattle.std.specs.Prelude.{◌≡◌, ◌-◌, ◌<◌, ◌≤◌, ◌++◌, [], drop, length};
-
     /// An empty block.
     pub fn new() -> Block
         ensures { result.bytes ≡ [] }
@@ -46,6 +44,7 @@ impl Block {
     }
 
     /// For how many bytes more there is room. An empty block has some.
+    #[tactic(auto, using(crate::proofs::BufferLemmas::all_taken))]
     pub fn room(&self) -> usize
         ensures room { result ≡ self.now.room }
         ensures some { self.now.bytes ≡ [] → 0 < result }

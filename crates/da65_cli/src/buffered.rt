@@ -31,7 +31,8 @@ impl<W: Sink> Buffered<W> {
     pub fn flush(&mut self) -> Result<(), DeviceFault>
         ensures taken { Keeps (buffered_taken W.taken self.old) (buffered_taken W.taken self.new) }
         ensures empty { OnOk result (buffered_bytes self.new ≡ []) }
-        ensures count { Counts (W.faults (buffered_out self.old)) (W.faults (buffered_out self.new)) result }
+        ensures count { Counts
+            (W.faults (buffered_out self.old)) (W.faults (buffered_out self.new)) result }
     {
         'writes: while !self.block.as_slice().is_empty() {
             let n = self.out.write_some(self.block.as_slice())?;
@@ -54,6 +55,7 @@ impl<W: Sink> Sink for Buffered<W> {
 
     ghost faults = { λ b. W.faults (buffered_out b) };
 
+    #[tactic(auto, using(crate::proofs::BufferLemmas::appends_after, crate::proofs::BufferLemmas::appends_more))]
     fn write_some(&mut self, bytes: &[u8]) -> Result<usize, DeviceFault> {
         if self.block.room() == 0 {
             self.flush()?;

@@ -25,7 +25,8 @@ fn is_read(files: &[Content], name: &str) -> bool
 
 /// Adds a file after the others, if it was read.
 fn add(files: &mut Vec<Content>, name: String, read: Option<Vec<u8>>) -> Result<(), AllocError>
-    ensures some { IfSome read (λ bytes. OnOk result (files.new.items ≡ files.old.items ++ record { name = name; bytes = bytes } ∷ [])) }
+    ensures some { IfSome read (λ bytes. OnOk result (files.new.items
+        ≡ files.old.items ++ record { name = name; bytes = bytes } ∷ [])) }
     ensures none { IfNone read (files.new.items ≡ files.old.items) }
 {
     if let Some(bytes) = read {

@@ -77,10 +77,13 @@ pub fn run_read_buffered<A: Allocator + Copy, R: Source, W: Sink, M: Sink>(
         (Some []) (W.taken result.output))) }
 
     // These hold for every reader and every output.
-    ensures memory { IsErrOf result.result RunFault.Memory → Keeps (M.taken errors.old) (M.taken errors.new) }
+    ensures memory { IsErrOf result.result RunFault.Memory →
+        Keeps (M.taken errors.old) (M.taken errors.new) }
     ensures write { IsErrOf result.result RunFault.Write → Keeps (M.taken errors.old) (M.taken errors.new) }
-    ensures reads { OfRead read (λ defined. ReadsFor (prepared_by defined (files_seen files.now)) (R.left input.old) (R.left input.new)) }
-    ensures unread { OfRead read (λ defined. IfErr (prepared_by defined (files_seen files.now)) (λ _. input.new ≡ input.old)) }
+    ensures reads { OfRead read (λ defined.
+        ReadsFor (prepared_by defined (files_seen files.now)) (R.left input.old) (R.left input.new)) }
+    ensures unread { OfRead read (λ defined.
+        IfErr (prepared_by defined (files_seen files.now)) (λ _. input.new ≡ input.old)) }
 
     // A failed write is reported, and nothing else is reported as one.
     ensures out_count { OutCount result.result (W.faults output) (W.faults result.output) }

@@ -8,24 +8,26 @@
 
 mod block;
 mod buffered;
-mod failure;
 mod include_files;
 mod listing;
 mod message_buffer;
 
 use da65::{
-    File, Info, InfoFault, Options, RunFault, Status, Told, needs_read, options_of, read_info,
+    Info, InfoFault, Options, RunFault, Status, Told, needs_read, options_of, read_info,
     this_program,
 };
-use failure::Failure;
 use files65::{FileFault, Input, Output, Placeholders, read_information, say, write_text};
 use include_files::{Content, files_for_run, include_files};
 use listing::{Listed, run_read_buffered};
 use std::process::ExitCode;
-use usage65::words_of;
+use usage65::{RequestFault, words_of};
+
+/// What ends the program early. A refusal is none of these, since `run` writes its message. After a failed write of a message, of the help
+/// text or of the version nothing more is said.
+type Failure = files65::Failure<RunFault>;
 
 /// The options of the program's words.
-fn options(rt: &HostRuntime) -> Result<Options, Failure> {
+fn options(rt: &HostRuntime) -> Result<Options, RequestFault> {
     let words = words_of(rt)?;
     Ok(options_of(rt.alloc(), &words)?)
 }
@@ -34,26 +36,8 @@ fn options(rt: &HostRuntime) -> Result<Options, Failure> {
 fn tell(rt: &HostRuntime, text: &[u8]) -> Result<Status, Failure> {
     match write_text(&mut Output::standard(rt), text) {
         Ok(()) => Ok(Status::Done),
-        Err(_) => Err(Failure::Run(RunFault::Messages)),
+        Err(_) => Err(Failure::Own(RunFault::Messages)),
     }
-}
-
-/// Lists the input on the output.
-fn list(
-    rt: &HostRuntime,
-    read: Result<Info, InfoFault>,
-    files: &[File<'_>],
-    mut input: Input,
-    output: Output,
-) -> Result<Status, Failure> {
-    let alloc = rt.alloc();
-    let mut errors = Told::new(rt.stderr());
-    let listed = run_read_buffered(alloc, read, files, &mut input, output, &mut errors);
-    let Listed {
-        output: _output,
-        result,
-    } = listed;
-    Ok(result?)
 }
 
 /// Opens the named input, then creates the output. Without an input name the run is refused, and no output
@@ -78,9 +62,16 @@ fn list_with(
     input: Option<String>,
     output: Option<String>,
 ) -> Result<Status, Failure> {
-    let files = files_for_run(rt.alloc(), contents)?;
-    let (input, output) = devices(rt, input, output)?;
-    list(rt, read, &files, input, output)
+    let alloc = rt.alloc();
+    let files = files_for_run(alloc, contents)?;
+    let (mut input, output) = devices(rt, input, output)?;
+    let mut errors = Told::new(rt.stderr());
+    let listed = run_read_buffered(alloc, read, &files, &mut input, output, &mut errors);
+    let Listed {
+        output: _output,
+        result,
+    } = listed;
+    result.map_err(Failure::Own)
 }
 
 /// Reads the information file and its include files, and lists under them.
@@ -95,28 +86,23 @@ fn list_under(rt: &HostRuntime, options: &Options) -> Result<Status, Failure> {
     list_with(rt, read, &contents, needs.input, needs.output)
 }
 
-/// Does what the options ask for.
-fn run_options(rt: &HostRuntime, options: &Options) -> Result<Status, Failure> {
+fn program(rt: &HostRuntime) -> Result<Status, Failure> {
+    // Messages to a closed standard error must not end up in the output file.
+    let _placeholders = Placeholders::take(rt)?;
+    let options = options(rt)?;
     if options.help {
         return tell(rt, &this_program().help_text(rt.alloc())?);
     }
     if options.version {
         return tell(rt, &this_program().version_text(rt.alloc())?);
     }
-    list_under(rt, options)
-}
-
-fn program(rt: &HostRuntime) -> Result<Status, Failure> {
-    // Messages to a closed standard error must not end up in the output file.
-    let _placeholders = Placeholders::take(rt)?;
-    let options = options(rt)?;
-    run_options(rt, &options)
+    list_under(rt, &options)
 }
 
 fn main(rt: HostRuntime) -> ExitCode {
     match program(&rt) {
         Ok(Status::Done) => ExitCode::SUCCESS,
-        Ok(Status::Refused) | Err(Failure::Run(RunFault::Messages)) => ExitCode::FAILURE,
+        Ok(Status::Refused) | Err(Failure::Own(RunFault::Messages)) => ExitCode::FAILURE,
         Err(failure) => {
             let _ = say(&rt, "da65", format!(in rt.alloc(); "{failure}"), &[]);
             ExitCode::FAILURE

@@ -1,7 +1,8 @@
 //! Messages that wait for the end of the listing.
 
-ghost use Rattle.std.specs.Prelude.{◌≡◌, ◌+◌, ◌<◌, ◌≤◌, [], ◌++◌, length};
+ghost use Rattle.std.specs.Prelude.{◌≡◌, ◌+◌, ◌<◌, ◌≤◌, [], ◌++◌, Some, length};
 ghost use Rattle.arrayvec.specs.ArrayVec.{array_vec_len};
+ghost use Rattle.da65_cli.specs.Code.MessageBuffer.{MessageBufferView};
 
 use arrayvec::ArrayVec;
 use da65::{DeviceFault, Sink};
@@ -18,9 +19,6 @@ pub struct MessageBuffer {
 }
 
 impl Model for MessageBuffer {
-    ghost use Rattle.std.specs.Prelude.{◌≡◌, ◌<◌, length};
-    ghost use Rattle.da65_cli.specs.Code.MessageBuffer.{MessageBufferView};
-
     ghost Value = { MessageBufferView };
 
     ghost view = { λ h. record { bytes = h.messages.items; faults = h.faults } };
@@ -58,8 +56,6 @@ fn put(messages: &mut Messages, bytes: &[u8])
 
 /// A write fails if there is no room left.
 impl Sink for MessageBuffer {
-    ghost use Rattle.std.specs.Prelude.{Some};
-
     ghost taken = { λ h. Some h.bytes };
 
     ghost faults = { λ h. h.faults };

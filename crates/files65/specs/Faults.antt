@@ -2,6 +2,11 @@
 use Rattle.std.specs.Prelude.{◌≡◌, ℕ, List, MatchOption, Option}
 use Rattle.std.specs.String.{string_bytes}
 use Rattle.map65.specs.Device.{one_more}
+use Rattle.info65.specs.declared.fault.InfoFault.{InfoFault}
+use Rattle.info65.specs.declared.fault.InfoFaultKind.{InfoFaultKind}
+use Rattle.info65.specs.declared.fault.InfoFaultKind.TheVariants as kind
+use Rattle.files65.specs.declared.failure.Failure.{Failure}
+use Rattle.files65.specs.declared.failure.Failure.TheVariants as failure
 use Rattle.files65.specs.declared.fault.FileFault.{FileFault}
 use Rattle.files65.specs.declared.fault.FileFault.TheVariants.{Memory, Reading, Empty}
 
@@ -20,3 +25,11 @@ IsEmpty name _ = ⊥
 -- the count of failed reads rises by one exactly if there are no contents
 abbrev pub CountsMissing : {A : Type 0} → ℕ → ℕ → Option A → Type 0
 CountsMissing old new found = MatchOption found (new ≡ one_more old) (λ _. new ≡ old)
+
+-- the failure for a fault of an information file
+abbrev pub failure_for : {R : Type 0} → InfoFault → Failure R
+failure_for {R} fault = of_kind fault.kind
+  where
+    of_kind : InfoFaultKind → Failure R
+    of_kind kind.Memory = failure.Memory
+    of_kind _ = failure.Info fault

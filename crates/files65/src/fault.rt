@@ -1,5 +1,10 @@
 //! Why a file can't be used.
 
+ghost use Rattle.std.specs.Prelude.{◌≡◌, ◌≢◌};
+ghost use Rattle.std.specs.IoError.{error_kind};
+ghost use Rattle.files65.specs.Faults.{IsUnread};
+ghost use Rattle.files65.specs.declared.fault.FileFault.TheVariants.{Memory};
+
 use std::alloc::{AllocError, Global};
 use std::io::{Error as IoError, ErrorKind};
 use thiserror::Error;
@@ -40,10 +45,6 @@ pub enum FileFault {
 }
 
 impl FileFault {
-    ghost use Rattle.std.specs.Prelude.{◌≡◌, ◌≢◌};
-    ghost use Rattle.std.specs.IoError.{error_kind};
-    ghost use Rattle.files65.specs.Faults.{IsUnread};
-
     /// The fault of a file that can't be opened or created: this one, which has its name, unless memory ran out.
     pub fn of_error(error: &IoError, named: FileFault) -> FileFault
         ensures memory { error_kind error.now ≡ ErrorKind.OutOfMemory → result ≡ FileFault.Memory }
@@ -81,9 +82,6 @@ impl FileFault {
 }
 
 impl From<AllocError> for FileFault {
-    ghost use Rattle.std.specs.Prelude.{◌≡◌};
-    ghost use Rattle.files65.specs.declared.fault.FileFault.TheVariants.{Memory};
-
     ghost from_gives = { λ _ f. f ≡ Memory };
 
     fn from(_: AllocError) -> FileFault {

@@ -21,7 +21,8 @@ pub fn read_from<R: Source>(
     input: &mut R,
     limit: usize,
 ) -> Result<Option<Vec<u8>>, AllocError>
-    ensures bytes { IfOk result (λ found. IfSome found (λ bytes. IfSome (R.left input.old) (λ xs. bytes.items ≡ take limit xs))) }
+    ensures bytes { IfOk result (λ found. IfSome found (λ bytes.
+        IfSome (R.left input.old) (λ xs. bytes.items ≡ take limit xs))) }
     ensures count { IfOk result (CountsMissing (R.faults input.old) (R.faults input.new)) }
 {
     match take_up_to(alloc, input, limit) {
@@ -64,7 +65,8 @@ pub fn needed_contents(rt: &HostRuntime, name: &str, limit: usize) -> Result<Vec
 /// The bytes of the information file, of which at most 1,048,577 are read; without a name none. Fails with `Reading` if it can't be
 /// opened or read.
 pub fn read_information(rt: &HostRuntime, name: Option<&str>) -> Result<Vec<u8>, FileFault>
-    ensures { MatchOption (option_map (λ s. s.now) name.entry) (IsOkAnd result (λ bytes. bytes.items ≡ [])) (λ n. IfErr result (IsUnread n)) }
+    ensures { MatchOption (option_map (λ s. s.now) name.entry)
+        (IsOkAnd result (λ bytes. bytes.items ≡ [])) (λ n. IfErr result (IsUnread n)) }
 {
     match name {
         Some(name) => needed_contents(rt, name, INFORMATION_LIMIT),

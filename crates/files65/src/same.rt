@@ -7,32 +7,31 @@ use std::os::unix::fs::MetadataExt;
 /// What standard output is called.
 pub const STANDARD_OUTPUT: &str = "/dev/stdout";
 
-/// Whether both are the same for the system.
-fn are_one(one: &Metadata, other: &Metadata) -> bool {
-    one.dev() == other.dev() && one.ino() == other.ino()
+/// What both names are of, if they are of one file, pipe, terminal or the like, through links too.
+fn in_common(rt: &HostRuntime, one: &str, other: &str) -> Option<Metadata> {
+    match (metadata(rt, one), metadata(rt, other)) {
+        (Ok(one), Ok(other)) if one.dev() == other.dev() && one.ino() == other.ino() => Some(one),
+        _ => None,
+    }
 }
 
-/// Whether two names are of one file, through links too. A terminal or a pipe can be both an input and an output.
-fn are_one_file(rt: &HostRuntime, one: &str, other: &str) -> bool {
-    match (metadata(rt, one), metadata(rt, other)) {
-        (Ok(one), Ok(other)) => one.is_file() && are_one(&one, &other),
-        _ => false,
+/// Whether the output is this input, by its name or through a link. Without a name it is standard output. A terminal or a pipe can be both
+/// an input and an output.
+fn is_input(rt: &HostRuntime, output: Option<&str>, input: &str) -> bool {
+    if output == Some(input) {
+        return true;
+    }
+    match in_common(rt, output.unwrap_or(STANDARD_OUTPUT), input) {
+        Some(file) => file.is_file(),
+        None => false,
     }
 }
 
 /// Whether two names are of one pipe, terminal or the like, whose bytes are read only once.
 fn are_one_stream(rt: &HostRuntime, one: &str, other: &str) -> bool {
-    match (metadata(rt, one), metadata(rt, other)) {
-        (Ok(one), Ok(other)) => !one.is_file() && !one.is_dir() && are_one(&one, &other),
-        _ => false,
-    }
-}
-
-/// Whether the output is this input, by its name or through a link. Without a name it is standard output.
-fn is_input(rt: &HostRuntime, output: Option<&str>, input: &str) -> bool {
-    match output {
-        Some(output) => output == input || are_one_file(rt, output, input),
-        None => are_one_file(rt, STANDARD_OUTPUT, input),
+    match in_common(rt, one, other) {
+        Some(found) => !found.is_file() && !found.is_dir(),
+        None => false,
     }
 }
 

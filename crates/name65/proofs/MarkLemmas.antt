@@ -3,7 +3,7 @@ use Rattle.std.proofs.Common.{◌≡◌, ◌∙◌, ◌<◌, ◌||◌, ℕ, Bool
 use Rattle.std.proofs.lemmas.List.{get_or-replicate, get_or_past, length-replicate}
 use Rattle.std.proofs.lemmas.Bool.{cases_lt}
 use Rattle.info65.specs.declared.tags.tag.Tag.{Tag}
-use Rattle.name65.specs.Marks.{AreNamed, is_marked, is_named}
+use Rattle.name65.specs.Marks.{AreNamed, MarksAlso, is_marked, is_named}
 
 pub blank-false : (marks : List Bool) (a : ℕ) → marks ≡ replicate 65536 false → is_marked marks a ≡ false
 blank-false marks a is =
@@ -14,6 +14,6 @@ blank-false marks a is =
     ap (λ l. is_marked l a) is ∙ none
 
 pub named_all : (tags : List Tag) (blank marks : List Bool) → blank ≡ replicate 65536 false → length marks ≡ 65536
-    → ((a : ℕ) → a < 65536 → is_marked marks a ≡ (is_marked blank a || is_named tags a))
+    → MarksAlso (is_named tags) blank marks
     → AreNamed tags marks
 named_all tags blank marks empty count each = grind (arith, blank-false)

@@ -33,6 +33,10 @@ is_named tags a = list_any (is_named_by a) tags
 abbrev pub is_marked : List Bool → ℕ → Bool
 is_marked marks a = get_or marks a false
 
+-- those that were marked, and those of which a test holds
+abbrev pub MarksAlso : (ℕ → Bool) → List Bool → List Bool → Type 0
+MarksAlso holds old new = (a : ℕ) → a < 65536 → is_marked new a ≡ (is_marked old a || holds a)
+
 -- there is a mark for each address, set for those that a group names
 pub record AreNamed (tags : List Tag) (marks : List Bool) : Type 0 where
   pub count : length marks ≡ 65536

@@ -8,14 +8,16 @@ use Rattle.stmt65.specs.Code.Held.{held}
 use Rattle.stmt65.specs.Lexing.{parts}
 use Rattle.stmt65.specs.Meaning.{meaning_in}
 use Rattle.stmt65.specs.Reading.{reading_of}
-use Rattle.stmt65.specs.SourceLine.{SourceLine, Assignment, PlaceAssignment, Statement}
+use Rattle.stmt65.specs.SourceLine.{SourceLine, Assignment}
 use Rattle.stmt65.specs.Sources.{source_addresses, source_meaning, source_readings}
 use Rattle.stmt65.specs.declared.assembling.assembler.Source.{Source}
 use Rattle.name65.specs.Marks.{AreNamed, is_marked}
-use Rattle.name65.specs.declared.failure.Failure.{Failure}
 use Rattle.name65.specs.declared.complaint.Refusal.{Refusal}
 use Rattle.name65.specs.declared.complaint.Refusal.TheVariants as refusal
-use Rattle.name65.specs.declared.failure.Failure.TheVariants.{Group, Line, Memory}
+use Rattle.name65.specs.declared.failure.Refused.{Refused}
+use Rattle.name65.specs.declared.failure.Refused.TheVariants.{Group, Line}
+use Rattle.files65.specs.declared.failure.Failure.{Failure}
+use Rattle.files65.specs.declared.failure.Failure.TheVariants.{Memory, Own}
 use Rattle.name65.specs.declared.plan.Plan.{Plan}
 use Rattle.name65.specs.declared.plan.PlacedLine.{PlacedLine}
 
@@ -24,9 +26,7 @@ use Rattle.name65.specs.declared.plan.PlacedLine.{PlacedLine}
 -- a constant line of a name whose value a group names; or any, if unused names are left out
 abbrev pub is_touched_constant : List Bool → Bool → Option SourceLine → Bool
 is_touched_constant marks used (Some (Assignment name n)) = used || is_marked marks (held n)
-is_touched_constant marks used (Some (PlaceAssignment name n)) = false
-is_touched_constant marks used (Some (Statement label operation)) = false
-is_touched_constant marks used None = false
+is_touched_constant marks used _ = false
 
 -- A line that gives the bytes from `at` to before `end` is touched if a group names one of them, and one that gives none if it is
 -- such a constant line.
@@ -81,11 +81,11 @@ pub record MeansTheSame {L : Type 0} (s : Source L) (text : List ℕ) : Type 0 w
   pub after : meaning_in s.language s.layout.now s.start text ≡ Ok bytes
 
 -- a failure that names a line of the listing of this name is its first fault
-abbrev pub Reports : {L : Type 0} → List ℕ → Source L → Failure → Type 0
-Reports name s (Line listing fault) = (string_bytes listing ≡ name) × (source_meaning s ≡ Err fault)
+abbrev pub Reports : {L : Type 0} → List ℕ → Source L → Failure Refused → Type 0
+Reports name s (Own (Line listing fault)) = (string_bytes listing ≡ name) × (source_meaning s ≡ Err fault)
 Reports name s _ = Unit {0}
 
 -- the failure for a refusal
-abbrev pub failure_of : Refusal → Failure
+abbrev pub failure_of : Refusal → Failure Refused
 failure_of refusal.Memory = Memory
-failure_of (refusal.Group line complaint) = Group line complaint
+failure_of (refusal.Group line complaint) = Own (Group line complaint)

@@ -20,15 +20,7 @@ enum Form {
     Other,
 }
 
-/// Whether a line says this directive, in any letter case, at a place.
-fn has_word(line: &[u8], from: usize, word: &[u8]) -> bool {
-    match line.get(from..from.saturating_add(word.len())) {
-        Some(found) => found.eq_ignore_ascii_case(word),
-        None => false,
-    }
-}
-
-/// A `#` or a directive stands before all else that has such a byte.
+/// A `#` or a directive, in any letter case, stands before all else that has such a byte.
 fn form_of(line: &[u8]) -> Form {
     let Some(at) = line
         .iter()
@@ -36,14 +28,12 @@ fn form_of(line: &[u8]) -> Form {
     else {
         return Form::Other;
     };
-    if line[at] == b'#' {
-        Form::Immediate(at + 1)
-    } else if has_word(line, at, b".byte") {
-        Form::List(1, at, at.saturating_add(5))
-    } else if has_word(line, at, b".word") {
-        Form::List(2, at, at.saturating_add(5))
-    } else {
-        Form::Other
+    let end = at.saturating_add(5);
+    match line.get(at..end) {
+        _ if line[at] == b'#' => Form::Immediate(at + 1),
+        Some(word) if word.eq_ignore_ascii_case(b".byte") => Form::List(1, at, end),
+        Some(word) if word.eq_ignore_ascii_case(b".word") => Form::List(2, at, end),
+        _ => Form::Other,
     }
 }
 

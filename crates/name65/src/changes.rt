@@ -52,23 +52,6 @@ fn is_touched(plan: &Plan<'_, '_>, placed: &PlacedLine<'_>) -> Result<bool, Allo
     }
 }
 
-/// Appends what stands in the place of a line, if a group touches it, and returns whether one does. A constant line that moves is
-/// appended to the tail.
-fn put_change(
-    out: &mut Vec<u8>,
-    tail: &mut Vec<u8>,
-    plan: &Plan<'_, '_>,
-    placed: &PlacedLine<'_>,
-) -> Result<bool, Refusal>
-    ensures { IfOk result (λ touched. touched ≡ touches plan.now placed.now) }
-{
-    if is_touched(plan, placed)? {
-        put_changed(out, tail, plan, placed)?;
-        return Ok(true);
-    }
-    Ok(false)
-}
-
 /// Appends a line, or what stands in its place if it is touched.
 fn put_line(
     out: &mut Vec<u8>,
@@ -76,7 +59,8 @@ fn put_line(
     is_touched: bool,
     change: &[u8],
 ) -> Result<(), AllocError>
-    ensures { OnOk result (out.new.items ≡ out.old.items ++ line_text line.now (if is_touched then Some change.now else None)) }
+    ensures { OnOk result (out.new.items
+        ≡ out.old.items ++ line_text line.now (if is_touched then Some change.now else None)) }
 {
     if is_touched {
         return out.extend_from_slice(change);
@@ -112,7 +96,10 @@ fn put_lines(
             end: *end,
         };
         change.clear();
-        let is_touched = put_change(&mut change, tail, plan, &placed)?;
+        let is_touched = is_touched(plan, &placed)?;
+        if is_touched {
+            put_changed(&mut change, tail, plan, &placed)?;
+        }
         put_line(out, line, is_touched, &change)?;
         at = *end;
         rest = after;

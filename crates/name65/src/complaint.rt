@@ -1,8 +1,9 @@
 //! Why a listing can't be written as the groups of the lines `#: ..` ask.
 
 ghost use Rattle.std.specs.Prelude.{◌≡◌};
+ghost use Rattle.name65.specs.declared.complaint.Refusal.TheVariants.{Memory};
 
-use std::alloc::{AllocError, AllocFailed};
+use std::alloc::AllocError;
 use thiserror::Error;
 
 /// Why a group can't be followed, with the address that it is about.
@@ -41,22 +42,9 @@ pub enum Refusal {
 }
 
 impl From<AllocError> for Refusal {
-    ghost use Rattle.name65.specs.declared.complaint.Refusal.TheVariants.{Memory};
-
     ghost from_gives = { λ _ f. f ≡ Memory };
 
     fn from(_: AllocError) -> Refusal {
-        Refusal::Memory
-    }
-}
-
-impl<T: Drop> From<AllocFailed<T>> for Refusal {
-    ghost use Rattle.name65.specs.declared.complaint.Refusal.TheVariants.{Memory};
-
-    ghost from_gives = { λ _ f. f ≡ Memory };
-
-    fn from(failed: AllocFailed<T>) -> Refusal {
-        let _ = failed;
         Refusal::Memory
     }
 }

@@ -2,7 +2,7 @@
 
 use crate::rewriting::put_rest;
 use crate::spans::Spans;
-use itoa::Buffer;
+use files65::put_decimal;
 use std::alloc::{AllocError, Global};
 
 /// Appends a line as it was.
@@ -29,9 +29,7 @@ pub fn moved(alloc: Global, line: &[u8], distance: u64) -> Result<Vec<u8>, Alloc
     let (operator, equals) = operator_of(line);
     let mut out = Vec::new(alloc);
     out.extend_from_slice(line.get(..operator).unwrap_or(&[]))?;
-    out.extend_from_slice(b":= * + ")?;
-    let mut buffer = Buffer::new();
-    out.extend_from_slice(buffer.format(distance).as_bytes())?;
+    put_decimal(&mut out, b":= * + ", distance as usize)?;
     if let Some(span) = Spans::new(line, equals.saturating_add(1)).next() {
         put_rest(&mut out, line, span.to)?;
     }

@@ -1,18 +1,11 @@
 //! What the information file says: the groups of its lines `#: ..`, and where the image begins.
 
 use crate::failure::Failure;
-use info65::{InfoFault, InfoFaultKind, Options, Tag, read_info, read_tags};
+use info65::{Options, Tag, read_info, read_tags};
 use std::alloc::Global;
 
 /// The most that an information file may have: 1 MiB.
 const LIMIT: usize = 1_048_576;
-
-fn failure_of(fault: InfoFault) -> Failure {
-    match fault.kind {
-        InfoFaultKind::Memory => Failure::Memory,
-        _ => Failure::Info(fault),
-    }
-}
 
 /// The start that the file of these bytes says, or that of the command line. Refuses a file that da65 refuses.
 pub fn start_given(
@@ -22,10 +15,7 @@ pub fn start_given(
 ) -> Result<Option<u16>, Failure> {
     let mut options: Options = Options::none();
     options.start = start;
-    match read_info(alloc, &options, bytes) {
-        Ok(info) => Ok(info.settings().start),
-        Err(fault) => Err(failure_of(fault)),
-    }
+    Ok(read_info(alloc, &options, bytes)?.settings().start)
 }
 
 /// The groups of the lines `#: ..`.
@@ -33,8 +23,5 @@ pub fn tags(alloc: Global, bytes: &[u8]) -> Result<Vec<Tag>, Failure> {
     if LIMIT < bytes.len() {
         return Ok(Vec::new(alloc));
     }
-    match read_tags(alloc, bytes) {
-        Ok(tags) => Ok(tags),
-        Err(fault) => Err(failure_of(fault)),
-    }
+    Ok(read_tags(alloc, bytes)?)
 }

@@ -35,7 +35,7 @@ use named_text::named_text;
 use request::{Naming, Request, request_of};
 use std::process::ExitCode;
 use stmt65::{Language, Layout, Source, line_addresses};
-use usage65::{Names, RequestFault, words_of};
+use usage65::{RequestFault, words_of};
 
 /// A text as people edit it, from a start on.
 fn repair<'t, 'l, 'n>(layout: &'l Layout<'n>, start: u16, text: &'t [u8]) -> Source<'t, 'l, 'n> {
@@ -59,22 +59,18 @@ fn start_at_end(rt: &HostRuntime, layout: &Layout<'_>, text: &[u8]) -> Result<u1
 
 /// The listing of these files by names.
 fn named_listing(rt: &HostRuntime, naming: &Naming) -> Result<Vec<u8>, Failure> {
-    let Names {
-        listing: name,
-        info,
-        ..
-    } = &naming.names;
-    let bytes = read_information(rt, info.as_deref())?;
+    let name = naming.names.listing.as_str();
+    let bytes = read_information(rt, naming.names.info.as_deref())?;
     let given = start_given(rt.alloc(), naming.start, &bytes)?;
     let tags = tags(rt.alloc(), &bytes)?;
-    let text = read_listing(rt, name.as_str())?;
+    let text = read_listing(rt, name)?;
     let layout = Layout::new(rt.alloc(), 0)?;
     let start = match given {
         Some(start) => start,
         None => start_at_end(rt, &layout, &text)?,
     };
     let source = repair(&layout, start, &text);
-    named_text(rt.alloc(), name.as_str(), &source, &tags, naming.used)
+    named_text(rt.alloc(), name, &source, &tags, naming.used)
 }
 
 /// Reads the listing and the groups, and writes the listing by names. The output is created once that is there.

@@ -1,7 +1,7 @@
 //! The addresses that groups of the lines `#: ..` name.
 
 ghost use Rattle.std.specs.Prelude.{◌≡◌, ◌<◌, ◌≤◌, ◌||◌, ◌&&◌, ℕ, IfOk, false, length, nat_le, nat_lt, replicate};
-ghost use Rattle.name65.specs.Marks.{AreNamed, count_to, is_among, is_marked, is_named, is_named_by};
+ghost use Rattle.name65.specs.Marks.{AreNamed, MarksAlso, count_to, is_among, is_marked, is_named, is_named_by};
 
 use info65::{Tag, TagKind};
 use std::alloc::{AllocError, Global};
@@ -27,7 +27,7 @@ fn mark_among(marks: &mut [bool], first: Option<u16>, count: usize)
     requires count { length marks.old ≡ 65536 }
     requires few { count ≤ 65536 }
     ensures count { length marks.new ≡ 65536 }
-    ensures each { (a : ℕ) → a < 65536 → is_marked marks.new a ≡ (is_marked marks.old a || is_among first count a) }
+    ensures each { MarksAlso (is_among first count) marks.old marks.new }
 {
     if let Some(first) = first {
         let from = usize::from(first);
@@ -51,7 +51,7 @@ fn count_to(first: Option<u16>, last: Option<u16>) -> usize
 fn mark_tag(marks: &mut [bool], tag: Tag)
     requires count { length marks.old ≡ 65536 }
     ensures count { length marks.new ≡ 65536 }
-    ensures each { (a : ℕ) → a < 65536 → is_marked marks.new a ≡ (is_marked marks.old a || is_named_by a tag) }
+    ensures each { MarksAlso (λ a. is_named_by a tag) marks.old marks.new }
 {
     match tag.kind {
         TagKind::Halves => {
@@ -69,7 +69,7 @@ fn mark_tag(marks: &mut [bool], tag: Tag)
 fn mark_tags(marks: &mut [bool], tags: &[Tag])
     requires count { length marks.old ≡ 65536 }
     ensures count { length marks.new ≡ 65536 }
-    ensures each { (a : ℕ) → a < 65536 → is_marked marks.new a ≡ (is_marked marks.old a || is_named tags.now a) }
+    ensures each { MarksAlso (is_named tags.now) marks.old marks.new }
 {
     'tags: for &tag in tags {
         mark_tag(marks, tag);

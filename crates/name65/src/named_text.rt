@@ -6,7 +6,7 @@ ghost use Rattle.stmt65.specs.Sources.{source_addresses, source_meaning};
 ghost use Rattle.name65.specs.NamedText.{IsNamed, MeansTheSame, Reports};
 
 use crate::changes::changed_text;
-use crate::failure::Failure;
+use crate::failure::{Failure, Refused};
 use info65::Tag;
 use std::alloc::{AllocError, Global};
 use stmt65::{AsmFaultKind, Assembly, Source, Symbols, assemble_known, assemble_lines};
@@ -24,7 +24,7 @@ fn assembled<'t, 'b>(
     match assemble_lines(alloc, source) {
         Ok(assembly) => Ok(assembly),
         Err(fault) if fault.kind == AsmFaultKind::Memory => Err(Failure::Memory),
-        Err(fault) => Err(Failure::Line(String::from_str(*alloc, name)?, fault)),
+        Err(fault) => Err(Failure::Own(Refused::Line(String::from_str(*alloc, name)?, fault))),
     }
 }
 
@@ -67,7 +67,7 @@ pub fn named_text(
     let changed = changed_text(&alloc, source, &assembly, tags, used)?;
     let names = changed.names.as_ref().unwrap_or(&assembly.names);
     if !means(alloc, source, &assembly.bytes, names, &changed.text)? {
-        return Err(Failure::Changed);
+        return Err(Failure::Own(Refused::Changed));
     }
     Ok(changed.text)
 }

@@ -2,9 +2,10 @@
 
 use crate::complaint::Refusal;
 use crate::operands::{Operand, Operands};
-use crate::spans::{Span, is_blank};
+use crate::spans::Span;
 use std::alloc::AllocError;
 use stmt65::Half;
+use text65::is_blank;
 
 /// Appends the bytes of a line between two places.
 fn put_part(out: &mut Vec<u8>, line: &[u8], from: usize, to: usize) -> Result<(), AllocError> {
@@ -72,8 +73,7 @@ pub fn put_operands(out: &mut Vec<u8>, mut operands: Operands<'_, '_, '_>) -> Re
         copied = span.to;
     }
     put_rest(out, line, copied)?;
-    out.push(b'\n')?;
-    Ok(())
+    Ok(out.extend_from_slice(b"\n")?)
 }
 
 /// Which half stands in the places of all operands, if halves of one kind do.
@@ -110,14 +110,13 @@ fn put_halves(
         };
         match copied {
             None => put_gap(out, span.from)?,
-            Some(_) => out.push(b',')?,
+            Some(_) => out.extend_from_slice(b",")?,
         }
         out.extend_from_slice(name)?;
         copied = Some(span.to);
     }
     put_rest(out, line, copied.unwrap_or(line.len()))?;
-    out.push(b'\n')?;
-    Ok(())
+    Ok(out.extend_from_slice(b"\n")?)
 }
 
 /// Appends the line of a directive, which stands at a place. A `.byte` that gets halves of one kind alone becomes `.lobytes` or `.hibytes`.

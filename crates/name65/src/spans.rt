@@ -1,5 +1,7 @@
 //! Where the operands of a line stand.
 
+use text65::is_blank;
+
 /// From which byte of a line to before which one an operand stands.
 #[derive(Clone, Copy)]
 pub struct Span {
@@ -44,10 +46,6 @@ fn trimmed(line: &[u8], from: usize, to: usize) -> Span {
         from,
         to: from.max(to.saturating_sub(after)),
     }
-}
-
-pub fn is_blank(byte: u8) -> bool {
-    byte == b' ' || byte == b'\t'
 }
 
 /// Goes over the operands of a line up to its comment, with commas between them.

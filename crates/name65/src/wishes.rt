@@ -33,64 +33,56 @@ pub struct Wishes<'t> {
     end: u64,
 }
 
-/// The bytes of an image, and the address of the first.
+/// A group, and the bytes of the image that it is about, with the address of the first.
 #[derive(Clone, Copy)]
-struct Bytes<'b> {
+struct Group<'b> {
+    tag: Tag,
     start: u16,
     bytes: &'b [u8],
 }
 
-fn refused<T>(tag: Tag, complaint: Complaint) -> Result<T, Refusal> {
-    Err(Refusal::Group(tag.line, complaint))
-}
+impl<'b> Group<'b> {
+    fn refused<T>(self, complaint: Complaint) -> Result<T, Refusal> {
+        Err(Refusal::Group(self.tag.line, complaint))
+    }
 
-impl<'b> Bytes<'b> {
     /// The byte at an address.
-    fn byte(self, tag: Tag, address: u16) -> Result<u8, Refusal> {
+    fn byte(self, address: u16) -> Result<u8, Refusal> {
         if self.start <= address {
             if let Some(byte) = self.bytes.get(usize::from(address - self.start)) {
                 return Ok(*byte);
             }
         }
-        refused(tag, Complaint::NoLine(address))
+        self.refused(Complaint::NoLine(address))
     }
 
     /// The word at an address, low byte first.
-    fn word(self, tag: Tag, address: u16) -> Result<u16, Refusal> {
-        let low = self.byte(tag, address)?;
-        let high = self.byte(tag, later(tag, address, 1)?)?;
+    fn word(self, address: u16) -> Result<u16, Refusal> {
+        let low = self.byte(address)?;
+        let high = self.byte(self.later(address, 1)?)?;
         Ok(u16::from_le_bytes([low, high]))
     }
-}
 
-/// The address this many bytes after one.
-fn later(tag: Tag, address: u16, count: u16) -> Result<u16, Refusal> {
-    match address.checked_add(count) {
-        Some(later) => Ok(later),
-        None => refused(tag, Complaint::NoLine(address)),
+    /// The address this many bytes after one.
+    fn later(self, address: u16, count: u16) -> Result<u16, Refusal> {
+        match address.checked_add(count) {
+            Some(later) => Ok(later),
+            None => self.refused(Complaint::NoLine(address)),
+        }
     }
-}
 
-/// The same, if there is one.
-fn place(tag: Tag, address: Option<u16>, count: u16) -> Result<Option<u16>, Refusal> {
-    match address {
-        Some(address) => Ok(Some(later(tag, address, count)?)),
-        None => Ok(None),
+    /// The same, if there is one.
+    fn place(self, address: Option<u16>, count: u16) -> Result<Option<u16>, Refusal> {
+        match address {
+            Some(address) => Ok(Some(self.later(address, count)?)),
+            None => Ok(None),
+        }
     }
 }
 
 /// Whether a group is followed by the names of the listing.
 fn needs_names(tag: Tag) -> bool {
     matches!(tag.kind, TagKind::Halves | TagKind::Difference)
-}
-
-/// Half of an address.
-fn half_of(half: Half, address: u16) -> u8 {
-    let [low, high] = address.to_le_bytes();
-    match half {
-        Half::Low => low,
-        Half::High => high,
-    }
 }
 
 impl<'t> Wishes<'t> {
@@ -116,102 +108,87 @@ impl<'t> Wishes<'t> {
             names,
             end,
         };
-        let image = Bytes {
-            start: source.start,
-            bytes,
-        };
         for &tag in tags {
-            wishes.take(image, tag)?;
+            wishes.take(Group {
+                tag,
+                start: source.start,
+                bytes,
+            })?;
         }
         Ok(wishes)
     }
 
-    fn take(&mut self, image: Bytes<'_>, tag: Tag) -> Result<(), Refusal> {
-        match tag.kind {
+    fn take(&mut self, group: Group<'_>) -> Result<(), Refusal> {
+        match group.tag.kind {
             TagKind::Halves => {
-                for k in 0..tag.size.unwrap_or(1) {
-                    self.take_pair(image, tag, k)?;
+                for k in 0..group.tag.size.unwrap_or(1) {
+                    self.take_pair(group, k)?;
                 }
                 Ok(())
             }
-            TagKind::Difference => self.take_difference(image, tag),
-            TagKind::After => self.check_after(tag),
+            TagKind::Difference => self.take_difference(group),
+            TagKind::After => self.check_after(group),
             TagKind::Entry | TagKind::Inline => Ok(()),
         }
     }
 
     /// The k-th pair of a group of halves. One half is enough if the group has the address.
-    fn take_pair(&mut self, image: Bytes<'_>, tag: Tag, k: u16) -> Result<(), Refusal> {
-        let low = place(tag, tag.low, k)?;
-        let high = place(tag, tag.high, k)?;
-        let address = match (tag.address, low, high) {
+    fn take_pair(&mut self, group: Group<'_>, k: u16) -> Result<(), Refusal> {
+        let low = group.place(group.tag.low, k)?;
+        let high = group.place(group.tag.high, k)?;
+        let address = match (group.tag.address, low, high) {
             (Some(address), _, _) => address,
             (None, Some(low), Some(high)) => {
-                u16::from_le_bytes([image.byte(tag, low)?, image.byte(tag, high)?])
+                u16::from_le_bytes([group.byte(low)?, group.byte(high)?])
             }
             _ => return Ok(()),
         };
-        let name = self.name_at(tag, address)?;
-        if let Some(low) = low {
-            self.take_half(image, tag, low, Half::Low, address, name)?;
-        }
-        if let Some(high) = high {
-            self.take_half(image, tag, high, Half::High, address, name)?;
+        let name = self.name_at(group, address)?;
+        let [low_byte, high_byte] = address.to_le_bytes();
+        for (half, at, byte) in [(Half::Low, low, low_byte), (Half::High, high, high_byte)] {
+            let Some(at) = at else { continue };
+            if group.byte(at)? != byte {
+                return group.refused(Complaint::NotHalf(at, address));
+            }
+            self.wish(group, at, Wish::Half(half, name))?;
         }
         Ok(())
     }
 
-    fn take_half(
-        &mut self,
-        image: Bytes<'_>,
-        tag: Tag,
-        at: u16,
-        half: Half,
-        address: u16,
-        name: &'t [u8],
-    ) -> Result<(), Refusal> {
-        if image.byte(tag, at)? != half_of(half, address) {
-            return refused(tag, Complaint::NotHalf(at, address));
-        }
-        self.wish(tag, at, Wish::Half(half, name))
-    }
-
-    fn take_difference(&mut self, image: Bytes<'_>, tag: Tag) -> Result<(), Refusal> {
+    fn take_difference(&mut self, group: Group<'_>) -> Result<(), Refusal> {
+        let tag = group.tag;
         let (Some(at), Some(from), Some(to)) = (tag.address, tag.first, tag.last) else {
             return Ok(());
         };
-        if to < from || image.word(tag, at)? != to - from {
-            return refused(tag, Complaint::NotDifference(at));
+        if to < from || group.word(at)? != to - from {
+            return group.refused(Complaint::NotDifference(at));
         }
-        let to = self.name_at(tag, to)?;
-        let from = self.name_at(tag, from)?;
-        self.wish(tag, at, Wish::Difference(to, from))?;
-        self.wish(tag, later(tag, at, 1)?, Wish::Second)
+        let to = self.name_at(group, to)?;
+        let from = self.name_at(group, from)?;
+        self.wish(group, at, Wish::Difference(to, from))?;
+        self.wish(group, group.later(at, 1)?, Wish::Second)
     }
 
-    fn check_after(&self, tag: Tag) -> Result<(), Refusal> {
-        match tag.first {
-            Some(first) if u64::from(first) < self.end => { refused(tag, Complaint::Inside(first)) }
+    fn check_after(&self, group: Group<'_>) -> Result<(), Refusal> {
+        match group.tag.first {
+            Some(first) if u64::from(first) < self.end => group.refused(Complaint::Inside(first)),
             _ => Ok(()),
         }
     }
 
-    fn name_at(&mut self, tag: Tag, address: u16) -> Result<&'t [u8], Refusal> {
+    fn name_at(&mut self, group: Group<'_>, address: u16) -> Result<&'t [u8], Refusal> {
         match self.names.name_at(address)? {
             Some(name) => Ok(name),
-            None => refused(tag, Complaint::NoName(address)),
+            None => group.refused(Complaint::NoName(address)),
         }
     }
 
-    fn wish(&mut self, tag: Tag, at: u16, wish: Wish<'t>) -> Result<(), Refusal> {
-        let wished = Wished {
-            line: tag.line,
-            wish,
-        };
+    fn wish(&mut self, group: Group<'_>, at: u16, wish: Wish<'t>) -> Result<(), Refusal> {
         if self.by_address.get(u64::from(at)).is_some() {
-            return refused(tag, Complaint::Twice(at));
+            return group.refused(Complaint::Twice(at));
         }
-        Ok(self.by_address.put(at, wished)?)
+        let line = group.tag.line;
+        Ok(self.by_address.put(at, Wished { line, wish })?)
     }
 
     /// What is wished to stand at an address.

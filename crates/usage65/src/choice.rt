@@ -62,7 +62,8 @@ impl<'a> Choice<'a> {
 
 /// An argument of these names.
 fn named<'a>(alloc: Global, id: &'a str, short: Option<u8>, long: Option<&'a str>) -> Arg<'a>
-    ensures { HasRule result (record (new_rule id.entry.now) { short = short; long = option_map (λ s. s.now) long.entry }) }
+    ensures { HasRule result (record (new_rule id.entry.now)
+        { short = short; long = option_map (λ s. s.now) long.entry }) }
 {
     let arg = Arg::new(alloc, id);
     match (short, long) {

@@ -1,6 +1,8 @@
 //! Why a command line is refused.
 
-ghost use Rattle.std.specs.Prelude.{◌≡◌};
+ghost use Rattle.std.specs.IoError.{error_kind};
+ghost use Rattle.std.specs.Prelude.{◌≡◌, ◌≢◌};
+ghost use Rattle.usage65.specs.declared.fault.UsageFault.TheVariants.{Memory};
 
 use std::alloc::{AllocError, AllocFailed};
 use std::io::{Error as IoError, ErrorKind};
@@ -24,9 +26,6 @@ pub enum UsageFault {
 }
 
 impl UsageFault {
-    ghost use Rattle.std.specs.Prelude.{◌≢◌};
-    ghost use Rattle.std.specs.IoError.{error_kind};
-
     /// The fault of words that can't be had: they are not valid UTF-8, or there is no memory for them.
     pub fn of_words(error: &IoError) -> UsageFault
         ensures memory { error_kind error.now ≡ ErrorKind.OutOfMemory → result ≡ UsageFault.Memory }
@@ -40,8 +39,6 @@ impl UsageFault {
 }
 
 impl From<AllocError> for UsageFault {
-    ghost use Rattle.usage65.specs.declared.fault.UsageFault.TheVariants.{Memory};
-
     ghost from_gives = { λ _ e. e ≡ Memory };
 
     fn from(_: AllocError) -> Self {
@@ -50,8 +47,6 @@ impl From<AllocError> for UsageFault {
 }
 
 impl<T: Drop> From<AllocFailed<T>> for UsageFault {
-    ghost use Rattle.usage65.specs.declared.fault.UsageFault.TheVariants.{Memory};
-
     ghost from_gives = { λ _ e. e ≡ Memory };
 
     fn from(failed: AllocFailed<T>) -> Self {

@@ -27,7 +27,8 @@ pub fn names_apart(
     info: Option<&str>,
     output: Option<&str>,
 ) -> Result<Names, RequestFault>
-    ensures { Gives names_seen result (names_apart listing.now (option_map (λ s. s.now) info.entry) (option_map (λ s. s.now) output.entry)) }
+    ensures { Gives names_seen result (names_apart listing.now
+        (option_map (λ s. s.now) info.entry) (option_map (λ s. s.now) output.entry)) }
 {
     if is_taken(info, listing) {
         return Err(RequestFault::StandardTwice);

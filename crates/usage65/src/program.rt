@@ -32,7 +32,8 @@ impl<'a> Program<'a> {
     /// twice, or a value is missing. `Memory` is returned only if memory ran out.
     pub fn matches(&self, alloc: Global, words: &'a [String]) -> Result<ArgMatches<'a>, UsageFault>
         requires { IsPlain (command_of (program_of self.now)) }
-        ensures { Gives (λ m. rows_of (found_of m)) result (accepted (command_of (program_of self.now)) (map string_bytes words.entry.now)) }
+        ensures { Gives (λ m. rows_of (found_of m)) result
+            (accepted (command_of (program_of self.now)) (map string_bytes words.entry.now)) }
     {
         accepted(self.command(alloc)?, words)
     }
@@ -83,7 +84,8 @@ fn with_choices<'a>(
     command: Command<'a>,
     choices: &[Choice<'a>],
 ) -> Result<Command<'a>, AllocError>
-    ensures { IfOk result (λ c. app_of c ≡ with_choices (app_of command.entry) (map choice_of choices.now)) }
+    ensures { IfOk result (λ c.
+        app_of c ≡ with_choices (app_of command.entry) (map choice_of choices.now)) }
 {
     let mut command = command;
     'choices: for choice in choices {
@@ -107,7 +109,8 @@ fn put_help_lines(
 
 fn matches_in<'a>(command: Command<'a>, words: &'a [String]) -> Result<ArgMatches<'a>, Error>
     requires { IsPlain (app_of command) }
-    ensures matches { IfOk result (λ m. rows_of (found_of m) ≡ matches_of (app_of command.entry) (map string_bytes words.entry.now)) }
+    ensures matches { IfOk result (λ m.
+        rows_of (found_of m) ≡ matches_of (app_of command.entry) (map string_bytes words.entry.now)) }
     ensures faults { FailsBy (fault_of (app_of command.entry) (map string_bytes words.entry.now)) result }
 {
     command.try_get_matches_from(words)
@@ -116,7 +119,8 @@ fn matches_in<'a>(command: Command<'a>, words: &'a [String]) -> Result<ArgMatche
 #[tactic(auto, unfolding(crate::specs::Values::accepted))]
 fn accepted<'a>(command: Command<'a>, words: &'a [String]) -> Result<ArgMatches<'a>, UsageFault>
     requires { IsPlain (app_of command) }
-    ensures { Gives (λ m. rows_of (found_of m)) result (accepted (app_of command.entry) (map string_bytes words.entry.now)) }
+    ensures { Gives (λ m. rows_of (found_of m)) result
+        (accepted (app_of command.entry) (map string_bytes words.entry.now)) }
 {
     match matches_in(command, words) {
         Ok(matches) => Ok(matches),

@@ -1,6 +1,8 @@
 //! Why a command line that names files is refused.
 
 ghost use Rattle.std.specs.Prelude.{◌≡◌};
+ghost use Rattle.usage65.specs.Requests.{fault_for};
+ghost use Rattle.usage65.specs.declared.request_fault.RequestFault.TheVariants.{Memory};
 
 use crate::fault::UsageFault;
 use std::alloc::AllocError;
@@ -27,8 +29,6 @@ pub enum RequestFault {
 }
 
 impl From<AllocError> for RequestFault {
-    ghost use Rattle.usage65.specs.declared.request_fault.RequestFault.TheVariants.{Memory};
-
     ghost from_gives = { λ _ f. f ≡ Memory };
 
     fn from(_: AllocError) -> RequestFault {
@@ -37,8 +37,6 @@ impl From<AllocError> for RequestFault {
 }
 
 impl From<UsageFault> for RequestFault {
-    ghost use Rattle.usage65.specs.Requests.{fault_for};
-
     ghost from_gives = { λ e f. f ≡ fault_for e };
 
     fn from(fault: UsageFault) -> RequestFault {

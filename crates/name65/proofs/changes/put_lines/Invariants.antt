@@ -1,13 +1,13 @@
-use Rattle.std.proofs.Common.{length}
-use Rattle.stmt65.specs.Sources.{source_readings}
-use Rattle.name65.specs.NamedText.{touched_from}
-use Rattle.name65.proofs.ChangeLemmas.{AreAbove}
+use Rattle.std.proofs.Common.{◌++◌, ℕ, List, length}
+use Rattle.name65.specs.NamedText.{AreLines}
+use Rattle.name65.proofs.ChangeLemmas.{AreFrom}
 use Rattle.name65.proofs.changes.put_lines.Given as goal
 
+-- with what is to stand in the places of the lines that are left it is the whole text
 abbrev pub invariant-lines : goal.invariant-lines
 invariant-lines l =
-    AreAbove l.fn.source.language l.fn.plan.marks.now l.fn.plan.used (touched_from l.fn.plan.marks.now l.fn.plan.used l.fn.source.start (source_readings l.fn.source) l.fn.ends)
-    l.fn.source.text.now l.out.items l.at l.rest l.left
+    (text : List ℕ) → AreFrom l.fn.source.language l.fn.plan.marks.now l.fn.plan.used l.at l.rest l.left text
+    → AreLines l.fn.source l.fn.plan.marks.now l.fn.plan.used l.fn.ends (l.out.items ++ text)
 
 abbrev pub decreases-lines : goal.decreases-lines
 decreases-lines l = length l.rest

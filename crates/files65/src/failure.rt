@@ -1,0 +1,68 @@
+//! Why a program gives up.
+
+ghost use Rattle.std.specs.Prelude.{◌≡◌};
+ghost use Rattle.files65.specs.Faults.{failure_for};
+ghost use Rattle.files65.specs.declared.failure.Failure.TheVariants.{File, Memory, Request};
+
+use crate::fault::FileFault;
+use info65::{InfoFault, InfoFaultKind};
+use std::alloc::AllocError;
+use std::fmt::Display;
+use thiserror::Error;
+use usage65::RequestFault;
+
+/// What ends a program early. The texts are those of its messages, and `R` has what ends this program alone.
+#[derive(Debug, Drop, Error)]
+#[error_bound(R: Display)]
+pub enum Failure<R> {
+    /// The command line is refused.
+    #[error("{0}")]
+    Request(RequestFault),
+    /// The information file is refused.
+    #[error("info:{0}")]
+    Info(InfoFault),
+    /// Memory ran out.
+    #[error("out of memory")]
+    Memory,
+    /// A file can't be used.
+    #[error("{0}")]
+    File(FileFault),
+    /// What the program alone refuses.
+    #[error("{0}")]
+    Own(R),
+}
+
+impl<R> From<AllocError> for Failure<R> {
+    ghost from_gives = { λ _ f. f ≡ Memory };
+
+    fn from(_: AllocError) -> Failure<R> {
+        Failure::Memory
+    }
+}
+
+impl<R> From<RequestFault> for Failure<R> {
+    ghost from_gives = { λ e f. f ≡ Request e };
+
+    fn from(fault: RequestFault) -> Failure<R> {
+        Failure::Request(fault)
+    }
+}
+
+impl<R> From<FileFault> for Failure<R> {
+    ghost from_gives = { λ e f. f ≡ File e };
+
+    fn from(fault: FileFault) -> Failure<R> {
+        Failure::File(fault)
+    }
+}
+
+impl<R> From<InfoFault> for Failure<R> {
+    ghost from_gives = { λ e f. f ≡ failure_for e };
+
+    fn from(fault: InfoFault) -> Failure<R> {
+        match fault.kind {
+            InfoFaultKind::Memory => Failure::Memory,
+            _ => Failure::Info(fault),
+        }
+    }
+}
