@@ -35,7 +35,7 @@ all: kit bin/da65 bin/as65 bin/trace65 bin/name65
 	bin/da65 examples/three.bin
 
 # The kits of the prover that this version was proved with.
-kits := rattle-kit-13b
+kits := rattle-kit-13f
 
 kit:
 	@kit=$$(rt version); kit=$${kit%% *}; case ' $(kits) ' in *" $$kit "*) ;; *) echo "proved with $(kits), not yet with $$kit" ;; esac

@@ -12,7 +12,7 @@ mkdir -p path checkout/crates
 cat >path/rt <<'END'
 #!/usr/bin/env bash
 set -eu
-[ "$1" != version ] || { echo "${KIT-rattle-kit-13b} logic 0"; exit; }
+[ "$1" != version ] || { echo "${KIT-rattle-kit-13f} logic 0"; exit; }
 crate=$(basename "$PWD")
 echo "$crate" >>"$NOTES"
 [ "$1" != try ] || { echo "$*"; exit; }
@@ -71,7 +71,7 @@ done
 makes 'nothing changed' 0 da65_cli '' -j3
 grep -q '^proved with' ../printed && fails 'a kit that it was proved with' "$(cat ../printed)"
 KIT=rattle-kit-1 makes 'another kit' 0 da65_cli '' -j3
-grep -qx 'proved with rattle-kit-13b, not yet with rattle-kit-1' ../printed || fails 'another kit' "$(cat ../printed)"
+grep -qx 'proved with rattle-kit-13f, not yet with rattle-kit-1' ../printed || fails 'another kit' "$(cat ../printed)"
 makes 'before any proof' 0 'try --data three.bin=../../examples/three.bin -- three.bin' da65_cli try
 echo '// two' >crates/map65/src/lib.rt
 makes 'map65 changed' 0 da65_cli 'as65 da65 da65_cli files65 map65 name65 reach65 trace65' -j3
