@@ -4,7 +4,7 @@ ghost use Rattle.std.specs.Prelude.{◌≡◌, List, [], ◌∷◌};
 ghost use Rattle.std.specs.Option.{option_map};
 ghost use Rattle.stmt65.specs.Code.SourceLineViews.{value_of, form_of, operation_of};
 ghost use Rattle.stmt65.specs.SourceLine.{One};
-ghost use Rattle.stmt65.specs.Coding.{zero_page, kind_fragment, modes_in, gap, coding};
+ghost use Rattle.stmt65.specs.Coding.{zero_page, kind_fragment, modes_in, ways, gap, coding};
 ghost use Rattle.stmt65.specs.Layout.{start_of};
 ghost use Rattle.stmt65.specs.Symbols.{Definition};
 ghost use Rattle.stmt65.specs.Code.CodingViews.{fragment_of, operand_of, IsFirstWay, IsFirstOf, coded_of};
@@ -148,16 +148,16 @@ fn in_mode<'s, 'a, A: Allocator + Clone>(
     Some(Instruction { opcode, operand })
 }
 
-/// An instruction with one expression, in the first mode of its notation that the mnemonic has.
+/// An instruction with one expression of this size, in the first mode of its notation that the mnemonic has.
 #[tactic(auto, unfolding(crate::specs::Coding::ways))]
-fn in_notation<'s, 'a, A: Allocator + Clone>(
+fn in_modes<'s, 'a, A: Allocator + Clone>(
     coder: &Coder<'_, '_, '_, A>,
+    is_short: bool,
     notation: Notation,
     value: &'s Value<'a>,
 ) -> Option<Instruction<'s, 'a>>
-    ensures { IsFirstOf result coder.now (One notation (value_of value.now)) }
+    ensures { IsFirstWay result coder.now (ways is_short (One notation (value_of value.now))) }
 {
-    let is_short = has_zero_page_size(coder.above, value);
     let modes = modes_in(is_short, notation);
     'modes: for mode in modes {
         if let Some(opcode) = coder.opcodes.encode(coder.mnemonic, mode.0) {
@@ -166,6 +166,26 @@ fn in_notation<'s, 'a, A: Allocator + Clone>(
         }
     }
     None
+}
+
+/// An instruction with one expression. After `#` nothing depends on its size, so no name is looked up for it.
+#[tactic(auto, unfolding(crate::specs::Coding::ways))]
+fn in_notation<'s, 'a, A: Allocator + Clone>(
+    coder: &Coder<'_, '_, '_, A>,
+    notation: Notation,
+    value: &'s Value<'a>,
+) -> Option<Instruction<'s, 'a>>
+    ensures { IsFirstOf result coder.now (One notation (value_of value.now)) }
+{
+    match notation {
+        Plain(Immediate) | Notation::Half(_) => in_modes(coder, false, notation, value),
+        _ => in_modes(
+            coder,
+            has_zero_page_size(coder.above, value),
+            notation,
+            value,
+        ),
+    }
 }
 
 /// The coding of an instruction, or `None` if the mnemonic has no mode of the written form.

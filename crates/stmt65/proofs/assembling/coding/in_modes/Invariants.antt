@@ -1,7 +1,7 @@
 use Rattle.std.proofs.Common.{◌≡◌, map, drop}
 use Rattle.stmt65.specs.Code.SourceLineViews.{value_of}
 use Rattle.stmt65.specs.Coding.{first_way, way_in}
-use Rattle.stmt65.proofs.assembling.coding.in_notation.Given as goal
+use Rattle.stmt65.proofs.assembling.coding.in_modes.Given as goal
 
 abbrev pub invariant-modes : goal.invariant-modes
 invariant-modes g l =
