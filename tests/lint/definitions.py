@@ -21,11 +21,11 @@ class Definition(NamedTuple):
 
 
 class Definitions:
-    """A file of definitions: its blocks, each with the names that it defines."""
+    """A file of definitions: its blocks, each with the names that it defines, and the names of other files that it hands on."""
 
     def __init__(self, path):
         self.path = path
-        self.names, self.blocks, self.imports = {}, {}, []
+        self.names, self.blocks, self.imports, self.handed_on = {}, {}, [], {}
         name = None
         for number, line in enumerate(path.read_text().splitlines(), 1):
             bare = re.sub(r'^((?:[^"]|"(?:\\.|[^"\\])*")*?)\s*--(?: .*|$)', r"\1", line).rstrip()
@@ -34,8 +34,12 @@ class Definitions:
             if bare.startswith("use "):
                 self.imports += imports(bare[4:]) or self.refuse(number, f"an import {bare}")
                 continue
+            handed_on = re.match(r"(?:unfoldable )?pub use (.*)", bare)
+            if handed_on:
+                self.handed_on.update(imports(handed_on[1]) or self.refuse(number, f"an import {bare}"))
+                continue
             head = HEAD.match(bare)
-            if bare.startswith("pub use ") or "Rattle." in bare:
+            if "Rattle." in bare:
                 self.refuse(number, "names of other files outside `use` lines")
             if head:
                 name = head[1] or head[2] or head[3] or f"module {number}"
@@ -86,8 +90,11 @@ def resolved(path):
         if whole.exists():
             return ("module", whole)
         file = (folder / "specs").joinpath(*steps[:-1]).with_suffix(".antt")
-        if file.exists() and steps[-1] in definitions(file).names:
-            return ("definition", file, definitions(file).names[steps[-1]])
+        here = definitions(file) if file.exists() else None
+        if here and steps[-1] in here.names:
+            return ("definition", file, here.names[steps[-1]])
+        if here and steps[-1] in here.handed_on:
+            return resolved(here.handed_on[steps[-1]])
     raise Refused(f"nothing in the tree is {path}")
 
 

@@ -31,13 +31,21 @@ def file_of(module):
 
 
 def taken(module):
-    """The definitions that a module imports, each as its module and its name, or `*` for a whole module."""
+    """The definitions that a module imports, each as its module and its name, or `*` for a whole module. A name that a module only hands
+    on is taken from where it stands."""
     for _, path in definitions(file_of(module)).imports:
-        crate, _, rest = path.removeprefix("Rattle.").partition(".specs.")
-        if not path.startswith("Rattle.") or not rest or crate in OUTSIDE or rest.startswith(("declared.", "contracts.")):
-            continue
-        whole = f"{crate}.{rest}"
-        yield (whole, "*") if file_of(whole).exists() else tuple(whole.rsplit(".", 1))
+        while path:
+            crate, _, rest = path.removeprefix("Rattle.").partition(".specs.")
+            if not path.startswith("Rattle.") or not rest or crate in OUTSIDE or rest.startswith(("declared.", "contracts.")):
+                break
+            whole = f"{crate}.{rest}"
+            if file_of(whole).exists():
+                yield whole, "*"
+                break
+            other, name = whole.rsplit(".", 1)
+            path = definitions(file_of(other)).handed_on.get(name)
+            if not path:
+                yield other, name
 
 
 def reached(modules):

@@ -3,11 +3,7 @@ use Rattle.std.proofs.Common.{◌≡◌, ◌∙◌, ◌+◌, ◌-◌, ◌<◌, �
 use Rattle.std.proofs.lemmas.Bool.Decides.{nat_tests}
 use Rattle.std.proofs.lemmas.List.{drop-drop, get_or-drop}
 use Rattle.std.specs.List.{prefix_len}
-use Rattle.as65.specs.Code.Passing.{IsInBoth, IsReady, line_left, passed_at}
-use Rattle.as65.specs.Differences.{Compared, line_of, stretch_bytes, stretch_line}
-use Rattle.as65.specs.Origins.{Moves, OriginsView}
-use Rattle.as65.specs.Stretches.{AreRuns, differs}
-use Rattle.as65.specs.declared.stretches.Stretch.{Stretch}
+use Rattle.as65.specs.Words.{AreRuns, Compared, IsInBoth, IsReady, Moves, OriginsView, Stretch, differs, line_left, line_of, passed_at, stretch_bytes, stretch_line}
 
 -- the first elements that pass the test, after some of them
 pub prefix_left : (p : ℕ → Bool) (k : ℕ) (xs : List ℕ) → k ≤ prefix_len p xs → prefix_len p xs ≡ k + prefix_len p (drop k xs)

@@ -1,8 +1,7 @@
 -- One stretch after the other.
 use Rattle.std.proofs.Common.{◌≡◌, ◌≤◌, ℕ, Bool, false, List, [], ◌++◌}
 use Rattle.std.proofs.lemmas.List.{append-nil}
-use Rattle.as65.specs.Stretches.{AreRuns}
-use Rattle.as65.specs.declared.stretches.Stretch.{Stretch}
+use Rattle.as65.specs.Words.{AreRuns, Stretch}
 
 -- those that were found, if nothing differs after them
 pub runs_end : (d : ℕ → Bool) (from : ℕ) (found : List Stretch)

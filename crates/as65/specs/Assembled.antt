@@ -1,8 +1,7 @@
 -- A listing that assembles.
 use Rattle.std.specs.Prelude.{ℕ, List, Result}
-use Rattle.stmt65.specs.Sources.{source_addresses, source_meaning}
-use Rattle.stmt65.specs.declared.assembling.assembler.Source.{Source}
-use Rattle.stmt65.specs.declared.assembling.fault.AsmFault.{AsmFault}
+use Rattle.stmt65.specs.Words.{source_addresses, source_meaning}
+use Rattle.as65.specs.Types.{AsmFault, Source}
 
 -- a text, the address of its first byte, what it means, the address after each of its lines, and its bytes
 pub record AssembledView : Type 0 where

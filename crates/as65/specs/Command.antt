@@ -1,9 +1,7 @@
 -- The program's command line.
 use Rattle.std.specs.Prelude.{[], ◌∷◌, ◌++◌, None, Some, codes}
 use Rattle.clap.specs.Words.{App}
-use Rattle.usage65.specs.Choices.{ChoiceView, ProgramView, help_choice, info_choice, output_choice, start_choice, version_choice}
-use Rattle.usage65.specs.Command.{command_of}
-use Rattle.usage65.specs.Help.{with_line_feed}
+use Rattle.usage65.specs.Words.{ChoiceView, ProgramView, command_of, help_choice, info_choice, output_choice, start_choice, version_choice, with_line_feed}
 
 abbrev pub place_choice : ChoiceView
 place_choice = record info_choice { purpose = codes "information file of da65, for the start and the part" }

@@ -1,14 +1,9 @@
 -- What a comparison writes, and how it ends.
 use Rattle.std.specs.Prelude.{◌≡◌, ◌≢◌, ℕ, List, Option, Result, Ok, Err}
 use Rattle.std.specs.Io.KnownBytes.{Appends}
-use Rattle.map65.specs.Device.{AppendsFront, one_more}
+use Rattle.map65.specs.Words.{AppendsFront, one_more}
 use Rattle.as65.specs.Differences.{Compared, IsDifferences}
-use Rattle.files65.specs.declared.failure.Failure.{Failure}
-use Rattle.files65.specs.declared.failure.Failure.TheVariants.{Memory, File}
-use Rattle.files65.specs.declared.fault.FileFault.TheVariants.{Writing}
-use Rattle.as65.specs.declared.failure.Refused.{Refused}
-use Rattle.as65.specs.declared.status.Ended.{Ended}
-use Rattle.as65.specs.declared.status.Ended.TheVariants.{Done, Differs}
+use Rattle.as65.specs.Types.{Differs, Done, Ended, Failure, File, Memory, Refused, Writing}
 
 -- of the differences this much was written
 pub record Writes (c : Compared) (IsWritten : List ℕ → Type 0) : Type 0 where

@@ -4,12 +4,11 @@ use Rattle.std.specs.Char.{is_ascii_control, is_ascii_whitespace}
 use Rattle.std.specs.List.{prefix_len, suffix_len}
 use Rattle.text65.specs.Digits.{digits4}
 use Rattle.text65.specs.Lines.{text_lines}
-use Rattle.map65.specs.ImageView.{ImageView}
-use Rattle.stmt65.specs.Digits.{digits2}
-use Rattle.stmt65.specs.LineAddresses.{line_past}
+use Rattle.map65.specs.Words.{ImageView}
+use Rattle.stmt65.specs.Words.{digits2, line_past}
 use Rattle.as65.specs.Assembled.{AssembledView}
 use Rattle.as65.specs.Stretches.{AreRuns, differs}
-use Rattle.as65.specs.declared.stretches.Stretch.{Stretch}
+use Rattle.as65.specs.Types.{Stretch}
 
 -- what is compared: the address of both first bytes, the bytes of the image and of the listing, the lines of the listing, and
 -- the address after each of them

@@ -1,16 +1,10 @@
 -- What is reported of a listing that does not assemble.
 use Rattle.std.specs.Prelude.{◌≡◌, ◌==◌, ◌⊎◌, ℕ, List, [], ◌++◌, Err, codes, length, if◌then◌else◌}
 use Rattle.std.specs.String.{string_bytes}
-use Rattle.stmt65.specs.Answer.{out_of_memory}
-use Rattle.stmt65.specs.Sources.{source_meaning}
-use Rattle.stmt65.specs.declared.assembling.assembler.Source.{Source}
-use Rattle.stmt65.specs.declared.assembling.fault.AsmFault.{AsmFault}
+use Rattle.stmt65.specs.Words.{out_of_memory, source_meaning}
+use Rattle.as65.specs.Types.{AsmFault, Failure, Line, Memory, Own, Refused, Source}
 use Rattle.as65.specs.Differences.{shown_line}
 use Rattle.as65.specs.Hint.{hint, line_at}
-use Rattle.as65.specs.declared.failure.Refused.{Refused}
-use Rattle.as65.specs.declared.failure.Refused.TheVariants.{Line}
-use Rattle.files65.specs.declared.failure.Failure.{Failure}
-use Rattle.files65.specs.declared.failure.Failure.TheVariants.{Memory, Own}
 
 -- `: hint`
 abbrev pub hint_text : List ℕ → List ℕ

@@ -1,29 +1,13 @@
 -- What the fault of a line is about: the name that is undefined, how far a branch would go, or a guess from the text of the line.
 use Rattle.std.specs.Prelude.{◌==◌, ◌&&◌, ◌||◌, ◌+◌, ◌-◌, ℕ, Bool, false, true, not, nat_eq, nat_lt, List, [], ◌∷◌, ◌++◌, Option, Some, None, codes, decimal, drop, get_or, is_some, length, map, option_and_then, take, unwrap_or, if◌then◌else◌}
 use Rattle.std.specs.List.{list_any, prefix_len, slice_get, starts_with}
-use Rattle.isa65.specs.Cpu.{table_of}
-use Rattle.isa65.specs.Opcodes.{encoded}
-use Rattle.isa65.specs.declared.cpu.Cpu.TheVariants.{M65C02}
-use Rattle.isa65.specs.declared.mode.Mode.TheVariants.{Rel}
-use Rattle.stmt65.specs.Code.Held.{held}
-use Rattle.stmt65.specs.FaultLaws.{operation_values}
-use Rattle.stmt65.specs.Lexing.{parts}
-use Rattle.stmt65.specs.Layout.{Layout, start_of}
-use Rattle.stmt65.specs.Sources.{source_addresses, source_definitions}
-use Rattle.stmt65.specs.Reading.{reading_of}
-use Rattle.isa65.specs.declared.row.Pattern.TheVariants.{Direct}
-use Rattle.stmt65.specs.declared.source_line.Notation.TheVariants.{Plain, Absolute}
-use Rattle.stmt65.specs.SourceLine.{Value, NumberValue, NameValue, DifferenceValue, One, Two, Operation, Instr, Reserve, Segment, SourceLine, Statement}
-use Rattle.stmt65.specs.Symbols.{Definition, is_known, word_in}
-use Rattle.stmt65.specs.declared.assembling.assembler.Source.{Source}
-use Rattle.stmt65.specs.declared.assembling.fault.AsmFault.{AsmFault}
-use Rattle.stmt65.specs.declared.assembling.fault.AsmFaultKind.{AsmFaultKind}
+use Rattle.isa65.specs.Words.{encoded, table_of}
+use Rattle.as65.specs.Types.{Absolute, AsmFault, AsmFaultKind, Direct, M65C02, Plain, Rel, Repair, Source, Zero}
+use Rattle.stmt65.specs.Words.{Definition, DifferenceValue, Instr, Layout, NameValue, NumberValue, One, Operation, Reserve, Segment, SourceLine, Statement, Two, Value, held, is_known, operation_values, parts, reading_of, source_addresses, source_definitions, start_of, word_in}
 use Rattle.stmt65.specs.declared.assembling.fault.AsmFaultKind.TheVariants as kind
 use Rattle.text65.specs.Digits.{digits4}
 use Rattle.text65.specs.Lines.{text_lines}
 use Rattle.text65.specs.Names.{has_name_form, is_blank, is_reserved_word, is_word_byte}
-use Rattle.stmt65.specs.declared.source_line.Minus.TheVariants.{Zero}
-use Rattle.stmt65.specs.declared.language.Language.TheVariants.{Repair}
 
 -- ---- a line that is none
 

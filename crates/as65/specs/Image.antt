@@ -1,12 +1,8 @@
 -- Why bytes are no image to compare with.
 use Rattle.std.specs.Prelude.{◌≡◌, Result, Err}
-use Rattle.map65.specs.ImageView.{ImageView}
-use Rattle.map65.specs.declared.image.ImageFault.{ImageFault}
+use Rattle.map65.specs.Words.{ImageView}
+use Rattle.as65.specs.Types.{EmptyImage, Failure, File, ImageFault, LargeImage, Memory, Own, Refused, ShortImage}
 use Rattle.map65.specs.declared.image.ImageFault.TheVariants as fault
-use Rattle.files65.specs.declared.failure.Failure.{Failure}
-use Rattle.files65.specs.declared.failure.Failure.TheVariants.{File, Memory, Own}
-use Rattle.as65.specs.declared.failure.Refused.{Refused}
-use Rattle.as65.specs.declared.failure.Refused.TheVariants.{EmptyImage, LargeImage, ShortImage}
 
 -- the failure says why there is none, unless memory ran out
 abbrev pub IsNoImage : Result ImageView ImageFault → Failure Refused → Type 0

@@ -1,10 +1,7 @@
 -- Where an image is, as an information file says it.
 use Rattle.std.specs.Prelude.{◌≡◌, ◌&&◌, ◌-◌, ℕ, Option, Some, None, Result, Err, nat_le, nat_lt, if◌then◌else◌}
-use Rattle.info65.specs.Views.{InfoView, OptionsView, no_options}
-use Rattle.info65.specs.declared.fault.InfoFault.{InfoFault}
-use Rattle.files65.specs.declared.failure.Failure.{Failure}
-use Rattle.files65.specs.declared.failure.Failure.TheVariants.{Memory, Info}
-use Rattle.as65.specs.declared.failure.Refused.{Refused}
+use Rattle.info65.specs.Words.{InfoView, OptionsView, no_options}
+use Rattle.as65.specs.Types.{Failure, Info, InfoFault, Memory, Refused}
 
 -- no option but the start
 abbrev pub options_at : Option ℕ → OptionsView

@@ -13,3 +13,5 @@ pub mod Request
 pub mod SegmentStarts
 pub mod Status
 pub mod Stretches
+pub mod Types
+pub mod Words

@@ -1,8 +1,7 @@
 -- The start that the names of labels speak for.
 use Rattle.std.specs.Prelude.{◌==◌, ◌&&◌, ◌||◌, ℕ, Bool, false, ◌+◌, ◌-◌, ◌*◌, List, [], ◌∷◌, ◌++◌, Option, Some, None, count_by, length, nat_le, nat_lt, option_to_list, slice_index, if◌then◌else◌}
-use Rattle.stmt65.specs.Sources.{source_addresses, source_readings}
-use Rattle.stmt65.specs.declared.assembling.assembler.Source.{Source}
-use Rattle.stmt65.specs.SourceLine.{SourceLine, Statement}
+use Rattle.stmt65.specs.Words.{SourceLine, Statement, source_addresses, source_readings}
+use Rattle.as65.specs.Types.{Source}
 
 -- a hex digit as da65 writes it
 abbrev pub digit : ℕ → Option ℕ

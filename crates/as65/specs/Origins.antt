@@ -1,6 +1,6 @@
 -- Which line of a listing gave a byte.
 use Rattle.std.specs.Prelude.{◌≡◌, ℕ, ◌+◌, ◌-◌, List, drop}
-use Rattle.stmt65.specs.LineAddresses.{line_past}
+use Rattle.stmt65.specs.Words.{line_past}
 
 -- the lines that were not passed over, the address after each of them, and how many were
 pub record OriginsView : Type 0 where

@@ -4,16 +4,9 @@ use Rattle.std.specs.List.{list_any, starts_with, take_while}
 use Rattle.std.specs.Str.{bytes_eq}
 use Rattle.std.specs.String.{string_bytes}
 use Rattle.clap.specs.Words.{Row, Text, first_of}
-use Rattle.usage65.specs.Code.Names.{names_seen}
-use Rattle.usage65.specs.FileNames.{info_named, input_named, is_taken, output_named}
-use Rattle.usage65.specs.Number.{address_in, byte_in}
-use Rattle.usage65.specs.Requests.{NamesView, Refusal, BadUsage, LacksStart, TwoOfStandardInput, names_apart, or_refused}
-use Rattle.usage65.specs.Values.{◌>>=◌, accepted, given, is_set}
-use Rattle.usage65.specs.declared.fault.UsageFault.TheVariants.{Words}
+use Rattle.usage65.specs.Words.{BadUsage, LacksStart, NamesView, Refusal, TwoOfStandardInput, accepted, address_in, byte_in, given, info_named, input_named, is_set, is_taken, names_apart, names_seen, or_refused, output_named, ◌>>=◌}
+use Rattle.as65.specs.Types.{Compare, Help, Place, Request, Version, Words, Write}
 use Rattle.as65.specs.Command.{app}
-use Rattle.as65.specs.declared.request.Place.{Place}
-use Rattle.as65.specs.declared.request.Request.{Request}
-use Rattle.as65.specs.declared.request.Request.TheVariants.{Help, Version, Write, Compare}
 
 -- a listing, the information file, the output, and where the bytes belong
 pub record Given : Type 0 where

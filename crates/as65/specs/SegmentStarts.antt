@@ -1,8 +1,7 @@
 -- Where the segments of a listing begin.
 use Rattle.std.specs.Prelude.{ℕ, true, List, map, Option, Some, None}
-use Rattle.info65.specs.Views.{SegmentView}
-use Rattle.stmt65.specs.Layout.{Layout, free}
-use Rattle.stmt65.specs.Symbols.{Definition}
+use Rattle.info65.specs.Words.{SegmentView}
+use Rattle.stmt65.specs.Words.{Definition, Layout, free}
 
 -- a segment begins at its START
 abbrev pub start_of : SegmentView → Definition

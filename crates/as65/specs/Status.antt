@@ -1,7 +1,6 @@
 -- The status with which the program ends.
 use Rattle.std.specs.Prelude.{ℕ, Bool, Option, Some, None, if◌then◌else◌}
-use Rattle.as65.specs.declared.status.Ended.{Ended}
-use Rattle.as65.specs.declared.status.Ended.TheVariants.{Done, Differs}
+use Rattle.as65.specs.Types.{Differs, Done, Ended}
 
 -- 0 for what was done, 1 for bytes that differ; for trouble, which has no end, 2 if a comparison was asked for and else 1
 abbrev pub status_of : Bool → Option Ended → ℕ

@@ -1,6 +1,6 @@
 -- Where two rows of bytes differ.
 use Rattle.std.specs.Prelude.{◌≡◌, ◌==◌, ◌<◌, ◌≤◌, ◌&&◌, ℕ, Bool, true, false, not, nat_lt, List, [], ◌∷◌, length, slice_index_or}
-use Rattle.as65.specs.declared.stretches.Stretch.{Stretch}
+use Rattle.as65.specs.Types.{Stretch}
 
 -- whether both have a byte at this offset, and not the same one
 abbrev pub differs : List ℕ → List ℕ → ℕ → Bool

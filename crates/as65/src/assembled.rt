@@ -2,10 +2,9 @@
 
 ghost use Rattle.std.specs.Prelude.{◌≡◌, Ok, IfErr, IfOk, OnErr, OnOk};
 ghost use Rattle.std.specs.Io.KnownBytes.{Appends};
-ghost use Rattle.map65.specs.Device.{AppendsFront, Counts};
-ghost use Rattle.stmt65.specs.Sources.{source_meaning};
-ghost use Rattle.as65.specs.Assembled.{AssembledView, seen};
-ghost use Rattle.as65.specs.FaultyLine.{Reports};
+ghost use Rattle.map65.specs.Words.{AppendsFront, Counts};
+ghost use Rattle.stmt65.specs.Words.{source_meaning};
+ghost use Rattle.as65.specs.Words.{AssembledView, Reports, seen};
 
 use crate::failure::Failure;
 use crate::faulty_line::failure_of;

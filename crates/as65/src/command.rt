@@ -1,8 +1,8 @@
 //! The program's command line.
 
 ghost use Rattle.std.specs.Prelude.{◌≡◌};
-ghost use Rattle.usage65.specs.Code.Rows.{program_of};
-ghost use Rattle.as65.specs.Command.{this_program};
+ghost use Rattle.usage65.specs.Words.{program_of};
+ghost use Rattle.as65.specs.Words.{this_program};
 
 use usage65::{Choice, HELP, INFO, OUTPUT, Program, START, VERSION};
 

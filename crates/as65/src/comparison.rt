@@ -1,8 +1,7 @@
 //! A comparison of an image with a listing.
 
 ghost use Rattle.std.specs.Prelude.{◌≡◌, Ok};
-ghost use Rattle.as65.specs.Comparison.{Compares, CountsWrites};
-ghost use Rattle.as65.specs.Differences.{compared};
+ghost use Rattle.as65.specs.Words.{Compares, CountsWrites, compared};
 
 use crate::assembled::Assembled;
 use crate::differences::differences;

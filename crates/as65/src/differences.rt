@@ -1,9 +1,7 @@
 //! The lines that say where a listing and an image differ.
 
 ghost use Rattle.std.specs.Prelude.{◌≡◌, ◌+◌, ◌++◌, IfOk, OnOk, flat_map, map, take};
-ghost use Rattle.as65.specs.Differences.{IsDifferences, change_text, compared, dots_above, is_control, lengths_line, line_of, origin_text, shown, shown_byte, shown_bytes, shown_line, spaced, trimmed};
-ghost use Rattle.as65.specs.Origins.{Moves};
-ghost use Rattle.as65.specs.Code.Passing.{IsInBoth, IsReady, beside, line_left};
+ghost use Rattle.as65.specs.Words.{IsDifferences, IsInBoth, IsReady, Moves, beside, change_text, compared, dots_above, is_control, lengths_line, line_left, line_of, origin_text, shown, shown_byte, shown_bytes, shown_line, spaced, trimmed};
 
 use crate::assembled::Assembled;
 use crate::origins::{Origin, Origins};

@@ -1,7 +1,7 @@
 //! Why the program gives up.
 
 ghost use Rattle.std.specs.Prelude.{◌≡◌};
-ghost use Rattle.as65.specs.FaultyLine.{said_after};
+ghost use Rattle.as65.specs.Words.{said_after};
 
 use stmt65::AsmFault;
 use thiserror::Error;

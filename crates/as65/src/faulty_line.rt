@@ -1,7 +1,7 @@
 //! The line of a listing that has a fault.
 
 ghost use Rattle.std.specs.Prelude.{◌≡◌, ◌++◌, IfOk, OnOk};
-ghost use Rattle.as65.specs.FaultyLine.{FailsWith, Reports, about, hint_text};
+ghost use Rattle.as65.specs.Words.{FailsWith, Reports, about, hint_text};
 
 use crate::differences::put_line;
 use crate::failure::{Failure, Refused};

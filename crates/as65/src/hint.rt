@@ -4,10 +4,9 @@
 ghost use Rattle.std.specs.Prelude.{◌≡◌, ◌==◌, ◌||◌, ◌-◌, ◌≤◌, IfOk, OnOk, Some, [], ◌++◌, false, length, map, option_map};
 ghost use Rattle.std.specs.List.{flat_map, prefix_len};
 ghost use Rattle.text65.specs.Names.{is_blank, is_word_byte};
-ghost use Rattle.stmt65.specs.Code.SourceLineViews.{datum_of, form_of, operation_of, value_of};
-ghost use Rattle.stmt65.specs.FaultLaws.{datum_values, operation_values};
-ghost use Rattle.stmt65.specs.Forms.{form_values};
-ghost use Rattle.as65.specs.Hint.{address_after, after_blanks, after_label, alone, branch_hint, branch_target, code_of, difference_hint, distance_hint, ends_string, first_difference, first_unknown, first_word, has, has_0x, has_inner_quote, has_unknown_operation, hint, hint_for, hint_in, is_code, lacks_colon, name_in, operation_by, past_start, range_by, segment_by, too_far};
+ghost use Rattle.stmt65.specs.Words.{datum_of, datum_values, form_values, operation_values, value_of};
+ghost use Rattle.stmt65.specs.Code.SourceLineViews.{form_of, operation_of};
+ghost use Rattle.as65.specs.Words.{address_after, after_blanks, after_label, alone, branch_hint, branch_target, code_of, difference_hint, distance_hint, ends_string, first_difference, first_unknown, first_word, has, has_0x, has_inner_quote, has_unknown_operation, hint, hint_for, hint_in, is_code, lacks_colon, name_in, operation_by, past_start, range_by, segment_by, too_far};
 
 use crate::origins::line_at;
 use files65::{put_address, put_decimal};

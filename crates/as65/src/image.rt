@@ -1,9 +1,8 @@
 //! The image that a listing is compared with.
 
 ghost use Rattle.std.specs.Prelude.{◌≡◌, ◌<◌, ◌-◌, ◌^◌, IfErr, IfOk, IfSome, Ok};
-ghost use Rattle.map65.specs.Device.{has_failed};
-ghost use Rattle.map65.specs.Image.{image_of};
-ghost use Rattle.as65.specs.Image.{IsFailureOf, IsNoImage};
+ghost use Rattle.map65.specs.Words.{has_failed, image_of};
+ghost use Rattle.as65.specs.Words.{IsFailureOf, IsNoImage};
 
 use crate::failure::{Failure, Refused};
 use files65::{FileFault, Input};

@@ -1,8 +1,8 @@
 //! Where an image is, as an information file of da65 says it.
 
 ghost use Rattle.std.specs.Prelude.{◌≡◌, IfErr, IfOk, Ok};
-ghost use Rattle.info65.specs.Reader.{information};
-ghost use Rattle.as65.specs.Information.{IsRefused, options_at, placed_at};
+ghost use Rattle.info65.specs.Words.{information};
+ghost use Rattle.as65.specs.Words.{IsRefused, options_at, placed_at};
 
 use crate::failure::Failure;
 use files65::read_information;

@@ -1,11 +1,8 @@
 //! The start that the names of a listing speak for: da65 calls an address `LXXXX` that has no name.
 
 ghost use Rattle.std.specs.Prelude.{◌≡◌, ◌<◌, ◌≤◌, ◌++◌, IfOk, IfSome, count_by, option_map};
-ghost use Rattle.stmt65.specs.Lexing.{parts};
-ghost use Rattle.stmt65.specs.Sources.{source_meaning, source_readings};
-ghost use Rattle.stmt65.specs.Reading.{reading_of};
-ghost use Rattle.as65.specs.NamedStart.{address_in_name, digit, first_of, is_start, moved, named_start, start_for, start_in_line, starts_in};
-ghost use Rattle.as65.specs.Code.NamedStarts.{named_start_of};
+ghost use Rattle.stmt65.specs.Words.{parts, reading_of, source_meaning, source_readings};
+ghost use Rattle.as65.specs.Words.{address_in_name, digit, first_of, is_start, moved, named_start, named_start_of, start_for, start_in_line, starts_in};
 
 use std::alloc::{AllocError, Global};
 use stmt65::{Source, SourceLine, line_addresses, read_line};

@@ -3,10 +3,7 @@
 ghost use Rattle.std.specs.Prelude.{◌≡◌, ◌+◌, ◌≤◌, [], drop, get_or, length, nat_le};
 ghost use Rattle.std.specs.List.{prefix_len};
 ghost use Rattle.text65.specs.Lines.{text_lines};
-ghost use Rattle.as65.specs.Differences.{trimmed};
-ghost use Rattle.as65.specs.Origins.{Moves, OriginsView};
-ghost use Rattle.as65.specs.Code.Passing.{IsAtLine};
-ghost use Rattle.as65.specs.Hint.{line_at};
+ghost use Rattle.as65.specs.Words.{IsAtLine, Moves, OriginsView, line_at, trimmed};
 
 use crate::differences::trimmed;
 use std::marker::Model;

@@ -4,8 +4,7 @@ ghost use Rattle.std.specs.Prelude.{◌≡◌, map};
 ghost use Rattle.std.specs.String.{string_bytes};
 ghost use Rattle.clap.specs.Words.{found_of, rows_of};
 ghost use Rattle.usage65.specs.Requests.{Gives};
-ghost use Rattle.as65.specs.Code.Requests.{given_of};
-ghost use Rattle.as65.specs.Request.{asked, asked_in, asked_of, is_compare_word, is_comparing, to_compare, to_write};
+ghost use Rattle.as65.specs.Words.{asked, asked_in, asked_of, given_of, is_compare_word, is_comparing, to_compare, to_write};
 
 use crate::command::this_program;
 use clap::ArgMatches;

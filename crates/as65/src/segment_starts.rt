@@ -1,8 +1,8 @@
 //! Where the segments of a listing begin.
 
 ghost use Rattle.std.specs.Prelude.{◌≡◌, IfOk, Some, map};
-ghost use Rattle.info65.specs.Code.Segments.{segment_seen};
-ghost use Rattle.as65.specs.SegmentStarts.{layout_of};
+ghost use Rattle.info65.specs.Words.{segment_seen};
+ghost use Rattle.as65.specs.Words.{layout_of};
 
 use info65::SegmentSpec;
 use std::alloc::{AllocError, Global};

@@ -1,7 +1,7 @@
 //! The status with which the program ends.
 
 ghost use Rattle.std.specs.Prelude.{◌≡◌};
-ghost use Rattle.as65.specs.Status.{status_of};
+ghost use Rattle.as65.specs.Words.{status_of};
 
 /// How a run ended that did what it was asked for.
 #[derive(Clone, Copy)]

@@ -1,7 +1,7 @@
 //! Where two rows of bytes differ.
 
 ghost use Rattle.std.specs.Prelude.{◌≡◌, ◌<◌, ◌≤◌, ℕ, IfNone, IfOk, IfSome, false, length, not, true};
-ghost use Rattle.as65.specs.Stretches.{AreRuns, differs};
+ghost use Rattle.as65.specs.Words.{AreRuns, differs};
 
 use std::alloc::{AllocError, Global};
 

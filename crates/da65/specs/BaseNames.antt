@@ -2,10 +2,8 @@
 --
 -- An address is defined by name if a base stands for it. `AreSound` is what names must be for a listing to assemble back.
 use Rattle.std.specs.Prelude.{◌≡◌, ℕ, ◌<◌, ◌≤◌, ◌==◌, not, Bool, true, false, List, Option, Some, None}
-use Rattle.map65.specs.ImageView.{ImageView, is_inside}
-use Rattle.map65.specs.MapView.{MapView}
-use Rattle.map65.specs.Names.{Base, base_at, place_of, text_by}
-use Rattle.map65.specs.declared.name.Place.{Place}
+use Rattle.map65.specs.Words.{Base, ImageView, MapView, base_at, is_inside, place_of, text_by}
+use Rattle.da65.specs.Types.{Place}
 use Rattle.map65.specs.declared.name.Place.TheVariants as place
 
 -- what a map says of names

@@ -1,8 +1,7 @@
 -- The program's command line.
 use Rattle.std.specs.Prelude.{[], ◌∷◌, None, Some, codes}
 use Rattle.clap.specs.Words.{App, Text}
-use Rattle.usage65.specs.Choices.{ChoiceView, ProgramView, cpu_choice, help_choice, info_choice, output_choice, start_choice, version_choice}
-use Rattle.usage65.specs.Command.{command_of}
+use Rattle.usage65.specs.Words.{ChoiceView, ProgramView, command_of, cpu_choice, help_choice, info_choice, output_choice, start_choice, version_choice}
 
 -- an option that takes a number
 abbrev number_choice : Text → Text → ChoiceView

@@ -1,8 +1,7 @@
 -- The comments of given names.
 use Rattle.std.specs.Prelude.{ℕ, ◌==◌, List, Option, Some, None, if◌then◌else◌}
-use Rattle.info65.specs.Names.{covering}
-use Rattle.info65.specs.Views.{NameView}
-use Rattle.map65.specs.MapView.{MapView}
+use Rattle.info65.specs.Words.{NameView, covering}
+use Rattle.map65.specs.Words.{MapView}
 
 abbrev pub comment_by : ℕ → Option NameView → Option (List ℕ)
 comment_by a None = None

@@ -1,7 +1,7 @@
 -- The files that a caller hands in.
 use Rattle.std.specs.Prelude.{ℕ, List, [], ◌∷◌, map, Option, Some, None, if◌then◌else◌}
 use Rattle.std.specs.Str.{bytes_eq}
-use Rattle.da65.specs.declared.runs.files.File.{File}
+use Rattle.da65.specs.Types.{File}
 
 -- a file: the name by which the information file includes it, and its bytes
 pub record FileView : Type 0 where

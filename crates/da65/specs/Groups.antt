@@ -5,16 +5,10 @@
 -- leftover byte of a table stand alone.
 use Rattle.std.specs.Prelude.{◌≡◌, ◌↔◌, ◌⊎◌, ℕ, zero, suc, ◌+◌, ◌-◌, ◌*◌, ◌%◌, ◌<◌, ◌≤◌, ◌==◌, ◌&&◌, not, Bool, true, false, List, length, take, if◌then◌else◌}
 use Rattle.std.specs.List.{filter, list_any}
-use Rattle.info65.specs.Layouts.{layout_of}
-use Rattle.info65.specs.declared.information.range.RangeSpec.{RangeSpec}
-use Rattle.info65.specs.declared.information.range.RangeType.{RangeType}
+use Rattle.info65.specs.Words.{layout_of}
+use Rattle.da65.specs.Types.{RangeSpec, RangeType}
 use Rattle.info65.specs.declared.information.range.RangeType.TheVariants as role
-use Rattle.map65.specs.ImageView.{bytes_from, is_inside}
-use Rattle.map65.specs.Items.{item_len, item_start}
-use Rattle.map65.specs.MapView.{MapView}
-use Rattle.map65.specs.Pieces.{AreOnePiece, IsFirst, is_joined}
-use Rattle.map65.specs.Roles.{is_skip, role_of, unit_of}
-use Rattle.map65.specs.Spans.{addresses, left_at}
+use Rattle.map65.specs.Words.{AreOnePiece, IsFirst, MapView, addresses, bytes_from, is_inside, is_joined, is_skip, item_len, item_start, left_at, role_of, unit_of}
 use Rattle.da65.specs.BaseNames.{is_base, names_of}
 
 -- how many items a line takes at most

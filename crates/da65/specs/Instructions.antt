@@ -2,9 +2,8 @@
 --
 -- The opcode is defined on the CPU, and the bytes have all of its operand.
 use Rattle.std.specs.Prelude.{ℕ, nat_le, List, [], ◌∷◌, length, Option, Some, None, if◌then◌else◌}
-use Rattle.isa65.specs.Mode.{len_of}
-use Rattle.isa65.specs.Opcodes.{Table, decoded}
-use Rattle.isa65.specs.declared.op.Op.{Op}
+use Rattle.isa65.specs.Words.{Table, decoded, len_of}
+use Rattle.da65.specs.Types.{Op}
 
 -- an instruction that has all of its bytes among so many
 abbrev pub whole_in : ℕ → Option Op → Option Op

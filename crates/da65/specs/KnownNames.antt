@@ -2,7 +2,7 @@
 use Rattle.std.specs.Prelude.{◌≡◌, ℕ, Bool, true, List, [], ◌∷◌, if◌then◌else◌}
 use Rattle.std.specs.List.{filter}
 use Rattle.std.specs.Str.{bytes_eq}
-use Rattle.stmt65.specs.Symbols.{Definition}
+use Rattle.stmt65.specs.Words.{Definition}
 use Rattle.da65.specs.BaseNames.{Names, base_name, is_base}
 
 -- the definitions of a name, among others

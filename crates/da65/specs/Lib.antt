@@ -22,3 +22,5 @@ pub mod Statements
 pub mod Style
 pub mod Usage
 pub mod ListingRows
+pub mod Types
+pub mod Words

@@ -1,26 +1,19 @@
 -- The lines of a listing that are left from a place on.
 use Rattle.std.specs.Prelude.{◌≡◌, ℕ, zero, suc, ◌+◌, ◌-◌, ◌*◌, ◌<◌, ◌≤◌, nat_lt, Bool, true, false, if◌then◌else◌, List, [], ◌∷◌, ◌++◌, drop, length, map, not, MatchOption, Option, None}
 use Rattle.std.specs.List.{flat_map, list_any}
-use Rattle.isa65.specs.declared.cpu.Cpu.{Cpu}
-use Rattle.map65.specs.MapView.{IsSoundMap, MapView}
-use Rattle.map65.specs.Names.{has_name}
-use Rattle.map65.specs.Roles.{is_skip, role_of}
-use Rattle.map65.specs.Spans.{addresses}
+use Rattle.da65.specs.Types.{Constant, Cpu, Ending, Header, Heading, ListingPlace, Style}
+use Rattle.map65.specs.Words.{IsSoundMap, MapView, addresses, has_name, is_skip, role_of, segment_at}
 use Rattle.da65.specs.BaseNames.{names_of}
 use Rattle.da65.specs.Comments.{comment_at}
 use Rattle.da65.specs.Groups.{IsGroupPlace, group_bytes, group_len, groups_from, is_skip_range}
 use Rattle.da65.specs.Listing.{ListingLine, assignment_line, comment_lines, constants, ending_lines, forward_lines, group_line, group_lines, has_constant_line, has_separator, header_lines, line_text, plain, segment_lines, separator_lines, statement_lines, with_empty_line}
 use Rattle.da65.specs.Marks.{has_marks}
 use Rattle.da65.specs.Segments.{segment_statement}
-use Rattle.map65.specs.Segments.{segment_at}
 use Rattle.da65.specs.Statements.{statement_at}
 use Rattle.da65.specs.Style.{style_of}
-use Rattle.da65.specs.declared.listing.place.ListingPlace.{ListingPlace}
-use Rattle.da65.specs.declared.listing.place.ListingPlace.TheVariants.{Header, Constant, Assignment, Group, Heading, Statement, Ending}
-use Rattle.da65.specs.declared.listing.style.Style.{Style}
-use Rattle.stmt65.specs.Printable.{MayBeLabelled}
+use Rattle.da65.specs.declared.listing.place.ListingPlace.TheVariants.{Assignment, Group, Statement}
+use Rattle.stmt65.specs.Words.{MayBeLabelled, StatementView}
 use Rattle.stmt65.specs.Views as view
-use Rattle.stmt65.specs.Views.{StatementView}
 
 -- the lines of the groups from the k-th byte on
 unfoldable pub groups_left : MapView → ℕ → List ListingLine

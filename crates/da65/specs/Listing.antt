@@ -10,24 +10,16 @@ use Rattle.std.specs.Prelude.{ℕ, ◌+◌, ◌-◌, ◌&&◌, ◌||◌, not, na
 use Rattle.std.specs.List.{flat_map}
 use denote.Enum.Bare.{sameb}
 use Rattle.isa65.specs.contracts.mnemonic.Mnemonic as mnemonic
-use Rattle.isa65.specs.declared.cpu.Cpu.{Cpu}
-use Rattle.isa65.specs.declared.mnemonic.Mnemonic.TheVariants.{Jmp, Rts}
+use Rattle.da65.specs.Types.{Columns, Cpu, Jmp, Rts, Style}
 use Rattle.stmt65.specs.Views as view
-use Rattle.stmt65.specs.Views.{RemarksView, StatementView}
-use Rattle.stmt65.specs.Columns.{fits_label}
-use Rattle.stmt65.specs.declared.printing.columns.Columns.{Columns}
-use Rattle.stmt65.specs.Line.{line_of}
-use Rattle.map65.specs.MapView.{MapView}
-use Rattle.map65.specs.Pieces.{is_in_run}
-use Rattle.map65.specs.Spans.{addresses}
+use Rattle.stmt65.specs.Words.{RemarksView, StatementView, fits_label, line_of}
+use Rattle.map65.specs.Words.{MapView, addresses, is_in_run, segment_at}
 use Rattle.da65.specs.BaseNames.{Names, base_name, is_base, names_of}
 use Rattle.da65.specs.Comments.{comment_at}
 use Rattle.da65.specs.Groups.{group_addresses, group_bytes, group_len}
 use Rattle.da65.specs.Segments.{is_same_segment, segment_before, segment_statement}
-use Rattle.map65.specs.Segments.{segment_at}
 use Rattle.da65.specs.Statements.{statement_at}
 use Rattle.da65.specs.Style.{style_of}
-use Rattle.da65.specs.declared.listing.style.Style.{Style}
 
 -- a line: the label before its statement, if there is one, and the statement, with its address and its bytes if it is that of a group
 pub record ListingLine : Type 0 where

@@ -1,10 +1,9 @@
 -- Worked examples: the listings of small images, as text below the header.
 use Rattle.std.specs.Prelude.{◌≡◌, ℕ, true, List, [], ◌∷◌, drop, map, codes, None, Some}
-use Rattle.info65.specs.Views.{NameView, SegmentView, SettingsView, default_settings}
-use Rattle.info65.specs.declared.information.range.RangeSpec.{RangeSpec}
-use Rattle.info65.specs.declared.information.range.RangeType.{RangeType}
+use Rattle.info65.specs.Words.{NameView, SegmentView, SettingsView, default_settings}
+use Rattle.da65.specs.Types.{RangeSpec, RangeType}
 use Rattle.info65.specs.declared.information.range.RangeType.TheVariants as role
-use Rattle.map65.specs.MapView.{MapView}
+use Rattle.map65.specs.Words.{MapView}
 use Rattle.da65.specs.Listing.{line_text, listing_below, text_of}
 use Rattle.da65.specs.Style.{style_of}
 

@@ -1,8 +1,8 @@
 -- Whether a listing can have separators, segments or comments.
 use Rattle.std.specs.Prelude.{◌==◌, ◌||◌, not, Bool, length, is_some}
 use Rattle.std.specs.List.{list_any}
-use Rattle.info65.specs.Views.{InfoView, NameView}
-use Rattle.da65.specs.declared.listing.style.Style.{Style}
+use Rattle.info65.specs.Words.{InfoView, NameView}
+use Rattle.da65.specs.Types.{Style}
 
 abbrev pub has_comment : NameView → Bool
 has_comment n = is_some n.comment

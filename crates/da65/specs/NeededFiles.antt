@@ -1,7 +1,7 @@
 -- The names of the files that a run needs.
 use Rattle.std.specs.Prelude.{[], map, None, Result, Ok, Err}
-use Rattle.info65.specs.Views.{InfoView}
-use Rattle.info65.specs.declared.fault.InfoFault.{InfoFault}
+use Rattle.info65.specs.Words.{InfoView}
+use Rattle.da65.specs.Types.{InfoFault}
 use Rattle.da65.specs.NeedsView.{NeedsView}
 
 abbrev pub nothing : NeedsView

@@ -3,22 +3,15 @@
 -- The refusals in order, each with its one message: the information file, no input name, the include files in the order of their
 -- groups, the image. Otherwise the listing, and the warnings that apply: bytes are skipped, a segment is entered again.
 use Rattle.std.specs.Prelude.{ℕ, ◌+◌, Bool, if◌then◌else◌, List, [], ◌∷◌, ◌++◌, codes, decimal, is_some, Option, Some, None, Result, Ok, Err}
-use Rattle.info65.specs.Faults.{fault_text}
-use Rattle.info65.specs.Includes.{included}
-use Rattle.info65.specs.Reader.{information}
-use Rattle.info65.specs.Views.{IncludeView, InfoView, OptionsView}
-use Rattle.info65.specs.declared.fault.InfoFault.{InfoFault}
-use Rattle.map65.specs.Image.{image_of}
-use Rattle.map65.specs.ImageView.{ImageView}
-use Rattle.map65.specs.MapView.{MapView}
-use Rattle.map65.specs.declared.image.ImageFault.{ImageFault}
-use Rattle.map65.specs.declared.image.ImageFault.TheVariants.{Empty, TooLarge, Short, Read, Memory}
+use Rattle.info65.specs.Words.{IncludeView, InfoView, OptionsView, fault_text, included, information}
+use Rattle.da65.specs.Types.{Done, Empty, ImageFault, InfoFault, Read, Short, Status, TooLarge}
+use Rattle.map65.specs.Words.{ImageView, MapView, image_of}
+use Rattle.map65.specs.declared.image.ImageFault.TheVariants.{Memory}
 use Rattle.da65.specs.SegmentReentry.{is_entered_again}
 use Rattle.da65.specs.Files.{FileView, file_named}
 use Rattle.da65.specs.Groups.{skips}
 use Rattle.da65.specs.Listing.{lines_of, text_of}
-use Rattle.da65.specs.declared.runs.outcome.Status.{Status}
-use Rattle.da65.specs.declared.runs.outcome.Status.TheVariants.{Done, Refused}
+use Rattle.da65.specs.declared.runs.outcome.Status.TheVariants.{Refused}
 
 pub record Outcome : Type 0 where
   pub listing : List ℕ

@@ -3,32 +3,16 @@
 -- From the statement of a group to its bytes, from the lines of the listing to the image, and from its text to the image, for images
 -- without skipped bytes.
 use Rattle.std.specs.Prelude.{◌≡◌, ◌↔◌, ℕ, ◌+◌, ◌-◌, ◌<◌, ◌≤◌, Bool, true, false, List, [], ◌∷◌, length, map, take, Option, Some, None, Ok}
-use Rattle.isa65.specs.Cpu.{table_of}
-use Rattle.isa65.specs.Mode.{row_of}
-use Rattle.isa65.specs.Opcodes.{Table, encoded}
-use Rattle.isa65.specs.declared.mode.Mode.{Mode}
-use Rattle.isa65.specs.declared.op.Op.{Op}
-use Rattle.isa65.specs.declared.row.OperandKind.{OperandKind}
+use Rattle.isa65.specs.Words.{Table, encoded, row_of, table_of}
+use Rattle.da65.specs.Types.{Mode, Op, OperandKind, RangeType, Row}
 use Rattle.isa65.specs.declared.row.OperandKind.TheVariants as kind
-use Rattle.isa65.specs.declared.row.Row.{Row}
 use Rattle.isa65.specs.declared.row.Row.TheVariants as row
 use Rattle.stmt65.specs.Views as view
-use Rattle.stmt65.specs.Views.{ExprView, OperandsView}
-use Rattle.stmt65.specs.SourceLine.{Instr, NameValue, SourceLine}
+use Rattle.stmt65.specs.Words.{Definition, Distance, ExprView, Fixed, Fragment, Instr, NameValue, OperandsView, Single, SourceLine, State, ZeroPage, after, bytes_of, coding, distance, fault_of, final, free, initial, is_near, meaning, meaning_of, source_form, source_line, source_value, value_in, with_label, word_operand}
 use Rattle.stmt65.specs.declared.source_line.Minus.TheVariants.{One}
-use Rattle.stmt65.specs.Printed.{source_value, source_form, source_line, with_label}
-use Rattle.stmt65.specs.Symbols.{Definition, value_in}
-use Rattle.stmt65.specs.Layout.{free}
-use Rattle.stmt65.specs.Coding.{State, Fragment, Fixed, Single, ZeroPage, word_operand, Distance, coding, distance, is_near}
-use Rattle.stmt65.specs.Meaning.{fault_of, bytes_of, after, final, initial, meaning, meaning_of}
 use Rattle.info65.specs.Names as given
-use Rattle.info65.specs.Segments.{AreSegments}
-use Rattle.info65.specs.declared.information.range.RangeType.{RangeType}
-use Rattle.map65.specs.ImageView.{AreBytes, ImageView, IsPlaced, end_of}
-use Rattle.map65.specs.MapView.{MapView, opcodes}
-use Rattle.map65.specs.Names.{Base}
-use Rattle.map65.specs.Roles.{role_of}
-use Rattle.map65.specs.Targets.{target_of, word_of}
+use Rattle.info65.specs.Words.{AreSegments}
+use Rattle.map65.specs.Words.{AreBytes, Base, ImageView, IsPlaced, MapView, code_size, end_of, opcodes, role_of, target_of, word_of}
 use Rattle.da65.specs.BaseNames.{AreSound, Names, base_name, is_base, names_of}
 use Rattle.da65.specs.Groups.{begins, group_bytes, group_len, skips}
 use Rattle.da65.specs.Instructions.{instruction_in}
@@ -36,7 +20,6 @@ use Rattle.da65.specs.KnownNames.{KnowsAll, KnowsConstants, definition_of, defin
 use Rattle.da65.specs.Listing.{ListingLine, lines_of, listing, text_of}
 use Rattle.da65.specs.Shapes.{IsGroupOf}
 use Rattle.da65.specs.Statements.{address_expr, is_forced, operands_of, statement_for, statement_in, zero_page_expr}
-use Rattle.map65.specs.Items.{code_size}
 
 -- ---- what a listing says
 

@@ -1,15 +1,12 @@
 -- What a run that is done wrote, assembled, gives back the image.
 use Rattle.std.specs.Prelude.{◌≡◌, ℕ, Bool, false, List, Option, Result, Ok, Err}
 use Rattle.std.specs.Io.KnownBytes.{Appends}
-use Rattle.stmt65.specs.Meaning.{meaning}
-use Rattle.info65.specs.Views.{InfoView}
-use Rattle.map65.specs.Image.{image_of}
-use Rattle.map65.specs.ImageView.{ImageView}
-use Rattle.map65.specs.declared.image.ImageFault.{ImageFault}
+use Rattle.stmt65.specs.Words.{meaning}
+use Rattle.info65.specs.Words.{InfoView}
+use Rattle.map65.specs.Words.{ImageView, image_of}
+use Rattle.da65.specs.Types.{Done, ImageFault, RunFault, Status}
 use Rattle.da65.specs.Groups.{skips}
-use Rattle.da65.specs.declared.runs.outcome.RunFault.{RunFault}
-use Rattle.da65.specs.declared.runs.outcome.Status.{Status}
-use Rattle.da65.specs.declared.runs.outcome.Status.TheVariants.{Done, Refused}
+use Rattle.da65.specs.declared.runs.outcome.Status.TheVariants.{Refused}
 
 -- a text was written that means the image's bytes, from its start
 pub record Took (image : ImageView) (old new : Option (List ℕ)) : Type 0 where

@@ -1,15 +1,11 @@
 -- What a run has written and read, for each of its results.
 use Rattle.std.specs.Prelude.{◌≡◌, ◌⊎◌, ℕ, ◌+◌, ◌-◌, ◌^◌, ◌<◌, ◌≤◌, List, length, IfOk, IfSome, Option, Result, Ok, Err}
 use Rattle.std.specs.Io.KnownBytes.{Keeps, Appends}
-use Rattle.info65.specs.Code.Results.{Gives}
-use Rattle.info65.specs.Views.{InfoView}
-use Rattle.info65.specs.declared.fault.InfoFault.{InfoFault}
-use Rattle.map65.specs.Device.{AppendsFront, TakesUpTo, one_more}
-use Rattle.map65.specs.Image.{read_limit}
-use Rattle.da65.specs.declared.runs.outcome.Status.{Status}
+use Rattle.info65.specs.Words.{Gives, InfoView}
+use Rattle.da65.specs.Types.{InfoFault, Messages, RunFault, Status, Write}
+use Rattle.map65.specs.Words.{AppendsFront, TakesUpTo, one_more, read_limit}
 use Rattle.da65.specs.declared.runs.outcome.Status.TheVariants.{Refused}
-use Rattle.da65.specs.declared.runs.outcome.RunFault.{RunFault}
-use Rattle.da65.specs.declared.runs.outcome.RunFault.TheVariants.{Memory, Write, Messages}
+use Rattle.da65.specs.declared.runs.outcome.RunFault.TheVariants.{Memory}
 use Rattle.da65.specs.Outcome.{Outcome}
 
 -- Ok: listing and messages were written whole. A failed write has written a prefix of its part, and nothing was written after it.

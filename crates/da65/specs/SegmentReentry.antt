@@ -5,10 +5,9 @@
 use Rattle.std.specs.Prelude.{ℕ, ◌&&◌, ◌||◌, not, Bool, false, List, [], ◌∷◌, map, codes, Option, Some, None}
 use Rattle.std.specs.List.{list_any}
 use Rattle.std.specs.Str.{bytes_eq}
-use Rattle.map65.specs.MapView.{MapView}
+use Rattle.map65.specs.Words.{MapView, segment_at}
 use Rattle.da65.specs.Groups.{group_addresses}
 use Rattle.da65.specs.Segments.{is_same_segment}
-use Rattle.map65.specs.Segments.{segment_at}
 
 -- the name of a segment
 abbrev pub segment_name : Option (List ℕ) → List ℕ

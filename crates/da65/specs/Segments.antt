@@ -2,9 +2,8 @@
 use Rattle.std.specs.Prelude.{ℕ, zero, suc, ◌+◌, Bool, true, false, List, Option, Some, None, if◌then◌else◌}
 use Rattle.std.specs.Str.{bytes_eq}
 use Rattle.stmt65.specs.Views as view
-use Rattle.stmt65.specs.Views.{StatementView}
-use Rattle.map65.specs.MapView.{MapView}
-use Rattle.map65.specs.Segments.{segment_at}
+use Rattle.stmt65.specs.Words.{StatementView}
+use Rattle.map65.specs.Words.{MapView, segment_at}
 use Rattle.da65.specs.Groups.{begins}
 
 -- both are the default, or both have this name; so a segment that is named CODE is not the default

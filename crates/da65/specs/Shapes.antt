@@ -1,12 +1,11 @@
 -- What the bytes of a group can be.
 use Rattle.std.specs.Prelude.{◌≡◌, ◌⊎◌, ℕ, ◌*◌, ◌%◌, ◌≤◌, List, length}
-use Rattle.isa65.specs.Opcodes.{Table}
-use Rattle.info65.specs.Layouts.{layout_of}
+use Rattle.isa65.specs.Words.{Table}
+use Rattle.info65.specs.Words.{layout_of}
 use Rattle.info65.specs.declared.information.range.Entry.{Entry}
-use Rattle.info65.specs.declared.information.range.Entry.TheVariants.{Instruction, Number, Address, Return, Character, Skipped}
-use Rattle.info65.specs.declared.information.range.RangeType.{RangeType}
+use Rattle.da65.specs.Types.{Address, Character, Instruction, Number, RangeType, Return, Skipped}
 use Rattle.da65.specs.Instructions.{instruction_in}
-use Rattle.map65.specs.Items.{code_size}
+use Rattle.map65.specs.Words.{code_size}
 
 -- a leftover byte, or whole entries, as many as a line takes
 abbrev pub AreEntries : ℕ → ℕ → List ℕ → Type 0

@@ -6,28 +6,17 @@
 -- cut opcode, an instruction whose target lies outside the address space, and a leftover byte are written as bytes.
 use Rattle.std.specs.Prelude.{ℕ, ◌+◌, ◌-◌, ◌*◌, ◌==◌, ◌&&◌, nat_lt, Bool, if◌then◌else◌, List, length, slice_index, take, Option, Some, None, is_some}
 use Rattle.std.specs.Option.{option_map}
-use Rattle.isa65.specs.Mode.{len_of, row_of, size_of}
-use Rattle.isa65.specs.Opcodes.{Table, sibling_in}
-use Rattle.isa65.specs.declared.mode.Mode.{Mode}
-use Rattle.isa65.specs.declared.op.Op.{Op}
-use Rattle.isa65.specs.declared.row.OperandKind.{OperandKind}
+use Rattle.isa65.specs.Words.{Table, len_of, row_of, sibling_in, size_of}
+use Rattle.da65.specs.Types.{BigEndian, ByteOrder, Dbyt, Directive, Dword, LittleEndian, Mode, Op, OperandKind, RangeType, Row}
 use Rattle.isa65.specs.declared.row.OperandKind.TheVariants as kind
-use Rattle.isa65.specs.declared.row.Row.{Row}
 use Rattle.isa65.specs.declared.row.Row.TheVariants as row
-use Rattle.stmt65.specs.declared.directive.Directive.{Directive}
-use Rattle.stmt65.specs.declared.directive.Directive.TheVariants.{Word, Dbyt, Dword}
+use Rattle.stmt65.specs.declared.directive.Directive.TheVariants.{Word}
 use Rattle.stmt65.specs.Views as view
-use Rattle.stmt65.specs.Views.{ExprView, OperandsView, StatementView, TargetView}
-use Rattle.isa65.specs.declared.byte_order.ByteOrder.{ByteOrder}
-use Rattle.isa65.specs.declared.byte_order.ByteOrder.TheVariants.{LittleEndian, BigEndian}
-use Rattle.info65.specs.Layouts.{layout_of}
+use Rattle.stmt65.specs.Words.{ExprView, OperandsView, StatementView, TargetView}
+use Rattle.info65.specs.Words.{layout_of}
 use Rattle.info65.specs.declared.information.range.Entry.{Entry}
 use Rattle.info65.specs.declared.information.range.Entry.TheVariants as entry
-use Rattle.info65.specs.declared.information.range.RangeType.{RangeType}
-use Rattle.map65.specs.MapView.{MapView, opcodes}
-use Rattle.map65.specs.Names.{Base}
-use Rattle.map65.specs.Roles.{role_of, unit_of}
-use Rattle.map65.specs.Targets.{entry_of, return_target, target_of, word_of}
+use Rattle.map65.specs.Words.{Base, MapView, entry_of, opcodes, return_target, role_of, target_of, unit_of, word_of}
 use Rattle.da65.specs.BaseNames.{Names, names_of}
 use Rattle.da65.specs.Groups.{group_bytes}
 use Rattle.da65.specs.Instructions.{instruction_in}

@@ -1,7 +1,6 @@
 -- What the settings say of the lines of a listing.
-use Rattle.info65.specs.Views.{SettingsView}
-use Rattle.stmt65.specs.declared.printing.columns.Columns.{Columns}
-use Rattle.da65.specs.declared.listing.style.Style.{Style}
+use Rattle.info65.specs.Words.{SettingsView}
+use Rattle.da65.specs.Types.{Columns, Style}
 
 -- where the fields of lines stand
 abbrev pub columns_of : SettingsView → Columns

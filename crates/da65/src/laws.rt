@@ -1,9 +1,7 @@
 //! The laws of the listing and of its reassembly.
 
-ghost use Rattle.map65.specs.MapView.{MapView};
-ghost use Rattle.da65.specs.Groups.{GroupLaw};
-ghost use Rattle.da65.specs.ListingRows.{WorkedListings};
-ghost use Rattle.da65.specs.ReassemblyLaw.{NamesAreSound, NamesAreDefinedOnce, ExpressionsHaveTheirValues, WrittenIsInstruction, UnwrittenIsBytes, ModeIsChosenBack, ForcedWhereNeeded, TargetIsInRange, ItemGivesItsBytes, GroupsAreGroups, GroupGivesItsBytes, ListingGivesImage, TextGivesImage};
+ghost use Rattle.map65.specs.Words.{MapView};
+ghost use Rattle.da65.specs.Words.{ExpressionsHaveTheirValues, ForcedWhereNeeded, GroupGivesItsBytes, GroupLaw, GroupsAreGroups, ItemGivesItsBytes, ListingGivesImage, ModeIsChosenBack, NamesAreDefinedOnce, NamesAreSound, TargetIsInRange, TextGivesImage, UnwrittenIsBytes, WorkedListings, WrittenIsInstruction};
 
 /// The worked examples have these listings.
 #[tactic(auto, using(crate::proofs::Worked::ListingRows::worked_listings))]

@@ -3,12 +3,11 @@ use Rattle.std.proofs.Common.{◌≡◌, ◌<◌, ℕ, List, [], ◌∷◌, ◌+
 use Rattle.std.proofs.lemmas.List.{append-nil}
 use Rattle.std.specs.Io.KnownBytes.{Appends, Keeps, append_known}
 use Rattle.std.proofs.KnownBytes.{Keeps-refl}
-use Rattle.da65.specs.Outcome.{Outcome}
-use Rattle.da65.specs.Running.{MessagesCount, WritesFew, Writes}
+use Rattle.da65.specs.Words.{MessagesCount, Outcome, Writes, WritesFew}
 use Rattle.da65.specs.declared.runs.outcome.RunFault.{RunFault}
 use Rattle.da65.specs.declared.runs.outcome.RunFault.TheVariants.{Memory, Write, Messages}
 use Rattle.da65.specs.declared.runs.outcome.Status.{Status}
-use Rattle.map65.specs.Device.{AppendsFront}
+use Rattle.map65.specs.Words.{AppendsFront}
 use Rattle.da65_cli.specs.Delivery.{Delivers, HasPrefix}
 use Rattle.da65_cli.specs.Code.Reporting.{HasRoom, IsListed, IsShortOf, FlushesThenReports}
 

@@ -1,11 +1,10 @@
 -- What a run over a buffer assembles to, the output assembles to.
 use Rattle.std.proofs.Common.{◌≡◌, ◌∙◌, ℕ, Bool, List, [], IfSome, Option, None, Some, Result, Ok, Err}
 use Rattle.std.specs.Io.KnownBytes.{Keeps}
-use Rattle.info65.specs.Views.{InfoView}
-use Rattle.map65.specs.Image.{image_of}
-use Rattle.map65.specs.ImageView.{ImageView}
+use Rattle.info65.specs.Words.{InfoView}
+use Rattle.map65.specs.Words.{ImageView, image_of}
 use Rattle.map65.specs.declared.image.ImageFault.{ImageFault}
-use Rattle.da65.specs.RunLaw.{Reassembles, Took, TookImage, TookImageOf}
+use Rattle.da65.specs.Words.{Reassembles, Took, TookImage, TookImageOf}
 use Rattle.da65.specs.declared.runs.outcome.RunFault.{RunFault}
 use Rattle.da65.specs.declared.runs.outcome.Status.{Status}
 use Rattle.da65.specs.declared.runs.outcome.Status.TheVariants.{Done, Refused}

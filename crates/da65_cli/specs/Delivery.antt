@@ -1,13 +1,12 @@
 -- What the output and standard error have at the end of a run, for each of its results.
 use Rattle.std.specs.Prelude.{◌≡◌, ℕ, List, [], ◌++◌, Option, Some, Result, Ok, Err}
 use Rattle.std.specs.Io.KnownBytes.{Appends, Keeps}
-use Rattle.da65.specs.Outcome.{Outcome}
-use Rattle.da65.specs.Running.{FailsAtMostOnce}
+use Rattle.da65.specs.Words.{FailsAtMostOnce, Outcome}
 use Rattle.da65.specs.declared.runs.outcome.RunFault.{RunFault}
 use Rattle.da65.specs.declared.runs.outcome.RunFault.TheVariants.{Memory, Write, Messages}
 use Rattle.da65.specs.declared.runs.outcome.Status.{Status}
 use Rattle.da65.specs.declared.runs.outcome.Status.TheVariants.{Done}
-use Rattle.map65.specs.Device.{AppendsFront}
+use Rattle.map65.specs.Words.{AppendsFront}
 
 -- these bytes are a prefix of a text
 pub record HasPrefix (bytes : Option (List ℕ)) (text : List ℕ) : Type 0 where

@@ -2,7 +2,7 @@
 
 ghost use Rattle.std.specs.Prelude.{◌≡◌, [], OnOk};
 ghost use Rattle.std.specs.Io.KnownBytes.{Keeps};
-ghost use Rattle.map65.specs.Device.{Counts};
+ghost use Rattle.map65.specs.Words.{Counts};
 ghost use Rattle.da65_cli.specs.Code.Buffered.{buffered_bytes, buffered_out, buffered_taken};
 
 use crate::block::Block;

@@ -2,7 +2,7 @@
 
 ghost use Rattle.std.specs.Prelude.{◌≡◌, [], ◌∷◌, ◌++◌, IfNone, IfOk, IfSome, OnOk, map};
 ghost use Rattle.std.specs.List.{list_any};
-ghost use Rattle.da65.specs.Files.{files_seen};
+ghost use Rattle.da65.specs.Words.{files_seen};
 ghost use Rattle.da65_cli.specs.Code.IncludeFiles.{content_seen, has_name};
 
 use da65::File;

@@ -3,11 +3,8 @@
 ghost use Rattle.std.specs.Prelude.{◌≡◌, ◌-◌, ◌<◌, [], Some, IfErr, IsErrOf, Result};
 ghost use Rattle.std.specs.Io.KnownBytes.{Keeps};
 ghost use Rattle.info65.specs.declared.fault.InfoFault.{InfoFault};
-ghost use Rattle.map65.specs.Device.{has_failed};
-ghost use Rattle.da65.specs.Files.{files_seen};
-ghost use Rattle.da65.specs.Outcome.{outcome_by, prepared_by};
-ghost use Rattle.da65.specs.RunLaw.{Reassembles};
-ghost use Rattle.da65.specs.Running.{MessagesCount, OfBytes, OfRead, OutCount, ReadsFor};
+ghost use Rattle.map65.specs.Words.{has_failed};
+ghost use Rattle.da65.specs.Words.{MessagesCount, OfBytes, OfRead, OutCount, ReadsFor, Reassembles, files_seen, outcome_by, prepared_by};
 ghost use Rattle.da65_cli.specs.Code.Buffered.{buffered_out, buffered_taken};
 ghost use Rattle.da65_cli.specs.Delivery.{Delivers, InputCount};
 ghost use Rattle.da65_cli.specs.Code.Reporting.{HasRoom, FlushesThenReports, ReportsOutCount};

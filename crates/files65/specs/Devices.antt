@@ -1,6 +1,6 @@
 -- What contracts know of what is read and written. Standard streams and files do not report their bytes.
 use Rattle.std.specs.Prelude.{ℕ, Bool, false, List, [], Option, Some, None}
-use Rattle.map65.specs.Told.{told_failed, told_faults}
+use Rattle.map65.specs.Words.{told_failed, told_faults}
 use Rattle.files65.specs.declared.input.Input.{Input}
 use Rattle.files65.specs.declared.input.Input.TheVariants.{Standard, File, Nothing}
 use Rattle.files65.specs.declared.output.Output.{Output}

@@ -1,7 +1,7 @@
 -- What the faults of files are.
 use Rattle.std.specs.Prelude.{◌≡◌, ℕ, List, MatchOption, Option}
 use Rattle.std.specs.String.{string_bytes}
-use Rattle.map65.specs.Device.{one_more}
+use Rattle.map65.specs.Words.{one_more}
 use Rattle.info65.specs.declared.fault.InfoFault.{InfoFault}
 use Rattle.info65.specs.declared.fault.InfoFaultKind.{InfoFaultKind}
 use Rattle.info65.specs.declared.fault.InfoFaultKind.TheVariants as kind

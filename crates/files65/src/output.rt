@@ -2,7 +2,7 @@
 
 ghost use Rattle.std.specs.Prelude.{◌≡◌, IfErr, OnErr, OnOk};
 ghost use Rattle.std.specs.Io.KnownBytes.{Appends};
-ghost use Rattle.map65.specs.Device.{AppendsFront, Counts};
+ghost use Rattle.map65.specs.Words.{AppendsFront, Counts};
 ghost use Rattle.files65.specs.Devices.{output_faults, output_taken};
 
 use crate::fault::FileFault;

@@ -3,21 +3,9 @@ use Rattle.std.proofs.Common.{arith, ◌≡◌, ◌∙◌, ℕ, Bool, List, [], 
 use Rattle.std.specs.Prelude.{Result, Ok, Err, IfOk, IsOk, Option, Some, None, ◌⊎◌}
 use Rattle.std.specs.List.{flat_map}
 use Rattle.std.proofs.lemmas.List.{append-nil}
-use Rattle.info65.specs.Attributes.{attribute_named, group_named}
-use Rattle.info65.specs.Closing.{closing_fault}
-use Rattle.info65.specs.Faults.{◌>>=◌}
-use Rattle.info65.specs.Grammar.{Accepts, AreGroups, AreNew, IsToken, Item, Spells, end_items, given_items, group_items, mark, value, without_marks}
-use Rattle.info65.specs.Groups.{AssignmentView, GroupView, is_given}
-use Rattle.info65.specs.IncludeGroups.{has_room}
-use Rattle.info65.specs.Lexemes.{KindView, word, opening_brace, closing_brace, semicolon}
-use Rattle.info65.specs.Reader.{Place, State, after_group, at_attribute, at_brace, at_group, at_semicolon, attribute_at, assigned, closed, closed_by, finish, group, inside, named, one, opened, opening, outside, read_from, step, value_at, valued}
-use Rattle.info65.specs.Tokens.{TokenView}
-use Rattle.info65.specs.Values.{ValueView, value_of}
-use Rattle.info65.specs.Views.{OptionsView}
-use Rattle.info65.specs.declared.syntax.attribute.Attribute.{Attribute}
-use Rattle.info65.specs.declared.syntax.attribute.GroupKind.{GroupKind}
-use Rattle.info65.specs.declared.fault.InfoFault.{InfoFault}
-use Rattle.info65.specs.declared.fault.InfoFaultKind.{InfoFaultKind}
+use Rattle.info65.specs.Words.{Accepts, AreGroups, AreNew, AssignmentView, Attribute, GroupKind, GroupView, InfoFault, InfoFaultKind, IsToken, Item, KindView, OptionsView, Place, Spells, State, TokenView, ValueView, after_group, assigned, at_attribute, at_brace, at_group, at_semicolon, attribute_at, attribute_named, closed, closed_by, closing_brace, closing_fault, end_items, finish, given_items, group, group_items, group_named, has_room, inside, is_given, one, opened, opening, opening_brace, outside, read_from, semicolon, step, value, value_of, valued, without_marks, word, ◌>>=◌}
+use Rattle.info65.specs.Grammar.{mark}
+use Rattle.info65.specs.Reader.{named, value_at}
 use Rattle.info65.proofs.Cases.{by_result, by_test}
 
 at : {A : Type 0} (P : A → Type 0) (r : Result A InfoFault) (x : A) → r ≡ Ok x → IfOk r P → P x

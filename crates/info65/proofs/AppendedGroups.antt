@@ -7,23 +7,9 @@ use Rattle.std.proofs.lemmas.List.{append-nil}
 use Rattle.std.proofs.lemmas.List.Elements.{All-push}
 use Rattle.std.proofs.lemmas.List.Folds.{Any-from_list_any, list_any_at}
 use Rattle.std.proofs.lemmas.Grind.{flat_map-append}
-use Rattle.info65.specs.Closing.{closing_fault}
-use Rattle.info65.specs.Comments.{comment_in, lacks_name}
-use Rattle.info65.specs.Grammar.{Accepts, AreGroups, AreNew, Item, Spells, group_items, without_marks}
-use Rattle.info65.specs.Groups.{AssignmentView, GroupView, global_given, global_part, has, has_instead, is_given, value_in}
-use Rattle.info65.specs.IncludeGroups.{has_room, include_part, includes_of}
-use Rattle.info65.specs.Labels.{name_part, names_said, range_name}
-use Rattle.info65.specs.Ranges.{has_address, overlaps, range_in, range_of_parts, range_part, ranges_of}
-use Rattle.info65.specs.Reader.{one}
-use Rattle.info65.specs.Segments.{segment_part, segments_of}
-use Rattle.info65.specs.Settings.{info_of}
-use Rattle.info65.specs.Tokens.{TokenView}
-use Rattle.info65.specs.Values.{a_type, an_address}
-use Rattle.info65.specs.Views.{InfoView, OptionsView}
+use Rattle.info65.specs.Words.{Accepts, AreGroups, AreNew, AssignmentView, GroupView, InfoFault, InfoView, Item, OptionsView, RangeSpec, Spells, TokenView, a_type, an_address, closing_fault, comment_in, global_given, global_part, group_items, has, has_address, has_instead, has_room, include_part, includes_of, info_of, is_given, lacks_name, name_part, names_said, one, overlaps, range_in, range_name, range_of_parts, range_part, ranges_of, segment_part, segments_of, value_in, without_marks}
 use Rattle.info65.specs.declared.syntax.attribute.Attribute.TheVariants as attribute
 use Rattle.info65.specs.declared.syntax.attribute.GroupKind.TheVariants as group
-use Rattle.info65.specs.declared.fault.InfoFault.{InfoFault}
-use Rattle.info65.specs.declared.information.range.RangeSpec.{RangeSpec}
 use Rattle.info65.proofs.Cases.{by_result, by_test}
 use Rattle.info65.proofs.RangeLemmas.{overlap_shared, ranges_ordered}
 

@@ -11,23 +11,9 @@ use Rattle.std.proofs.lemmas.Slice.Eq.{bytes_eq-Decides}
 use Rattle.text65.proofs.Public.{long_word}
 use Rattle.text65.specs.Digits.{hex_digit}
 use Rattle.text65.specs.Names.{has_name_form, is_word_byte}
-use Rattle.info65.specs.Closing.{closing_fault}
-use Rattle.info65.specs.Comments.{comment_in}
-use Rattle.info65.specs.Grammar.{Accepts, AreGroups, AreNew, IsInformation, Item, Spells, group_items, without_marks}
-use Rattle.info65.specs.Groups.{AssignmentView, GroupView, global_given, global_part, has, has_instead, is_given, value_in}
-use Rattle.info65.specs.IncludeGroups.{has_room, include_part, includes_of}
-use Rattle.info65.specs.Labels.{by_address, label_in, name_fault, name_part, names_said}
-use Rattle.info65.specs.Names.{AreGiven, IsName, default_label, default_name, is_like_default, is_reserved, is_upper_hex}
-use Rattle.info65.specs.Ranges.{range_part, ranges_of}
-use Rattle.info65.specs.Reader.{information, one}
-use Rattle.info65.specs.Segments.{segment_part, segments_of}
-use Rattle.info65.specs.Settings.{info_of}
-use Rattle.info65.specs.Tokens.{Stream, TokenView, tokens_after, tokens_of}
-use Rattle.info65.specs.Values.{a_name, an_address}
-use Rattle.info65.specs.Views.{InfoView, NameView, OptionsView}
+use Rattle.info65.specs.Words.{Accepts, AreGiven, AreGroups, AreNew, AssignmentView, GroupView, InfoView, IsInformation, IsName, Item, NameView, OptionsView, RangeSpec, Spells, Stream, TokenView, a_name, an_address, by_address, closing_fault, comment_in, default_label, default_name, global_given, global_part, group_items, has, has_instead, has_room, include_part, includes_of, info_of, information, is_given, is_like_default, is_reserved, is_upper_hex, label_in, name_fault, name_part, names_said, one, range_part, ranges_of, segment_part, segments_of, tokens_after, tokens_of, value_in, without_marks}
 use Rattle.info65.specs.declared.syntax.attribute.Attribute.TheVariants as attribute
 use Rattle.info65.specs.declared.syntax.attribute.GroupKind.TheVariants as group
-use Rattle.info65.specs.declared.information.range.RangeSpec.{RangeSpec}
 use Rattle.info65.proofs.AppendedGroups.{AreAdded, accepts-more, groups-append, info-more, names-more, ok-line, range_groups, range_items, spells-append, with_ranges}
 use Rattle.info65.proofs.AppendedTokens.{after_tokens, tokens-before}
 use Rattle.info65.proofs.FileLaws.{accepts_files}

@@ -9,10 +9,8 @@ use Rattle.std.proofs.lemmas.Bool.{cond-false, ne_eqb}
 use Rattle.std.proofs.lemmas.List.{get_or_append_left, get_or-append_right, get_or_past, take-append-le}
 use Rattle.std.proofs.lemmas.List.Folds.{prefix_len-append}
 use Rattle.std.proofs.lemmas.List.Sums.{prefix_len-le-length}
-use Rattle.info65.specs.Lexemes.{LexemeView, closing_brace, mark, opening_brace, semicolon, word, character_at, in_class, lexeme_at, number_at, starts_word, string_at, word_at}
-use Rattle.info65.specs.Tokens.{Stream, TokenView, found, is_blank, opens_comment, tokens_after}
-use Rattle.info65.specs.declared.fault.InfoFault.{InfoFault}
-use Rattle.info65.specs.declared.syntax.lexeme.Class.{Class}
+use Rattle.info65.specs.Words.{Class, InfoFault, LexemeView, Stream, TokenView, character_at, closing_brace, found, in_class, is_blank, lexeme_at, opening_brace, opens_comment, semicolon, starts_word, string_at, tokens_after, word, word_at}
+use Rattle.info65.specs.Lexemes.{mark, number_at}
 use Rattle.info65.specs.declared.syntax.lexeme.Class.TheVariants as class
 use Rattle.info65.proofs.Cases.{by_test}
 

@@ -3,9 +3,7 @@ use Rattle.std.proofs.Common.{◌≡◌, ◌∙◌, ◌<◌, ℕ, Bool, false, L
 use Rattle.std.specs.Prelude.{◌/◌, ◌%◌, ◌==◌}
 use Rattle.std.specs.List.{range_with_len}
 use Rattle.std.proofs.lemmas.List.FromFn.{get_or-map-range_with_len}
-use Rattle.info65.specs.Code.Classes.{bit_of, classes_of}
-use Rattle.info65.specs.Lexemes.{in_class}
-use Rattle.info65.specs.declared.syntax.lexeme.Class.{Class}
+use Rattle.info65.specs.Words.{Class, bit_of, classes_of, in_class}
 use Rattle.info65.specs.declared.syntax.lexeme.Class.TheVariants as class
 
 abbrev in_table : Class → ℕ → Bool

@@ -3,9 +3,7 @@ use Rattle.std.proofs.Common.{◌≡◌, ◌∙◌, ℕ, zero, suc, ◌+◌, ◌
 use Rattle.std.specs.Prelude.{Option, Some, None, nat_le, nat_lt}
 use Rattle.std.proofs.lemmas.Bool.{and_parts, false≢true}
 use Rattle.std.proofs.lemmas.Bool.Decides.{nat_tests}
-use Rattle.info65.specs.NameLaws.{CoversHighest, IsHighest, OwnAddressWins}
-use Rattle.info65.specs.Names.{AreNames, blank_name, covering, covering_below, covers, name_at}
-use Rattle.info65.specs.Views.{NameView}
+use Rattle.info65.specs.Words.{AreNames, CoversHighest, IsHighest, NameView, OwnAddressWins, blank_name, covering, covering_below, covers, name_at}
 use Rattle.info65.proofs.Cases.{by_test, same_some}
 
 -- the last of the first n names that cover the address

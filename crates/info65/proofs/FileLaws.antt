@@ -3,16 +3,7 @@ use Rattle.std.proofs.Common.{◌≡◌, ◌∙◌, ◌≤◌, ℕ, List, [], �
 use Rattle.std.specs.Prelude.{Result, Ok, Err, ◌⊎◌, nat_lt}
 use Rattle.std.proofs.lemmas.Bool.{ltb-false}
 use Rattle.std.proofs.lemmas.Bool.Decides.{nat_tests}
-use Rattle.info65.specs.Faults.{fault, ◌>>=◌}
-use Rattle.info65.specs.Grammar.{IsInformation}
-use Rattle.info65.specs.Groups.{GroupView}
-use Rattle.info65.specs.Laws.{AcceptsFiles, IsFaultless, IsOfEnd, IsOfToken, RefusesFirst}
-use Rattle.info65.specs.Reader.{Place, State, closed, finish, groups_of, information, outside, read, read_from, step}
-use Rattle.info65.specs.Settings.{info_of}
-use Rattle.info65.specs.Tokens.{TokenView, tokens_of}
-use Rattle.info65.specs.Views.{InfoView, OptionsView}
-use Rattle.info65.specs.declared.fault.InfoFault.{InfoFault}
-use Rattle.info65.specs.declared.fault.InfoFaultKind.TheVariants.{Expected}
+use Rattle.info65.specs.Words.{AcceptsFiles, Expected, GroupView, InfoFault, InfoView, IsFaultless, IsInformation, IsOfEnd, IsOfToken, OptionsView, Place, RefusesFirst, State, TokenView, closed, fault, finish, groups_of, info_of, information, outside, read, read_from, step, tokens_of, ◌>>=◌}
 use Rattle.info65.proofs.Accepting.{accepted_groups, groups_accepted}
 use Rattle.info65.proofs.Cases.{by_result, by_test}
 

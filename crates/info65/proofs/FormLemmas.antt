@@ -9,27 +9,11 @@ use denote.Bor.{Bor}
 use denote.Enum.Bare.{same_true}
 use Rattle.text65.specs.Names.{has_name_form}
 use Rattle.info65.specs.contracts.syntax.attribute.Attribute as attribute_type
-use Rattle.info65.specs.Code.Groups.{IsAtMost}
-use Rattle.info65.specs.Attributes.{boolean_named, form_of, type_named}
-use Rattle.isa65.specs.Cpu.{cpu_named}
-use Rattle.info65.specs.Grammar.{Accepts, AreGroups, IsGroup, Item, Spells, end_items, given_items, group_items, without_marks}
-use Rattle.info65.specs.Groups.{AreAllFormed, AreFormed, AssignmentView, GroupView, global_given, global_part, is_of, value_in}
-use Rattle.info65.specs.Lexemes.{KindView, character, number, string, word}
-use Rattle.info65.specs.Names.{has_comment_form}
-use Rattle.info65.specs.Reader.{group, groups_of, read}
-use Rattle.info65.specs.Settings.{settings_of}
-use Rattle.info65.specs.Tokens.{TokenView, tokens_of}
-use Rattle.info65.specs.Values.{HasForm, ValueView, a_number, a_name, as_name, as_number, boolean_of, boolean_value, comment_value, cpu_value, in_form, is_file_name, label_value, name_value, type_value, value_of}
-use Rattle.info65.specs.Views.{AreInLimits, AreOptions, IsColumn, OptionsView}
-use Rattle.info65.specs.declared.syntax.attribute.Attribute.{Attribute}
+use Rattle.info65.specs.Words.{Accepts, AreAllFormed, AreFormed, AreGroups, AreInLimits, AreOptions, AssignmentView, Attribute, Cpu, Form, GroupKind, GroupView, HasForm, InfoFault, IsAtMost, IsColumn, IsGroup, Item, KindView, OptionsView, RangeType, Spells, TokenView, ValueView, a_name, a_number, as_name, as_number, boolean_named, boolean_of, boolean_value, character, comment_value, cpu_value, end_items, form_of, given_items, global_given, global_part, group, group_items, groups_of, has_comment_form, in_form, is_file_name, is_of, label_value, name_value, number, read, settings_of, string, tokens_of, type_named, type_value, value_in, value_of, without_marks, word}
+use Rattle.isa65.specs.Words.{cpu_named}
 use Rattle.info65.specs.declared.syntax.attribute.Attribute.TheVariants as attribute
-use Rattle.info65.specs.declared.syntax.attribute.Form.{Form}
 use Rattle.info65.specs.declared.syntax.attribute.Form.TheVariants as form
-use Rattle.info65.specs.declared.syntax.attribute.GroupKind.{GroupKind}
 use Rattle.info65.specs.declared.syntax.attribute.GroupKind.TheVariants as group_kind
-use Rattle.isa65.specs.declared.cpu.Cpu.{Cpu}
-use Rattle.info65.specs.declared.fault.InfoFault.{InfoFault}
-use Rattle.info65.specs.declared.information.range.RangeType.{RangeType}
 use Rattle.info65.proofs.Accepting.{groups_accepted}
 use Rattle.info65.proofs.Cases.{by_test}
 

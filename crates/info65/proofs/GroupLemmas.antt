@@ -5,11 +5,7 @@ use Rattle.std.specs.List.{find}
 use Rattle.std.specs.Option.{option_or}
 use Rattle.std.proofs.lemmas.List.{at_drop_all, at_drop_more}
 use Rattle.std.proofs.lemmas.List.Folds.{find-append}
-use Rattle.info65.specs.Code.Groups.{group_seen, value_seen}
-use Rattle.info65.specs.Groups.{AssignmentView, GroupView, global_given, global_part, has, is_of, value_in}
-use Rattle.info65.specs.declared.syntax.attribute.Attribute.{Attribute}
-use Rattle.info65.specs.declared.syntax.assignment.Group.{Group}
-use Rattle.info65.specs.declared.syntax.assignment.Value.{Value}
+use Rattle.info65.specs.Words.{AssignmentView, Attribute, Group, GroupView, Value, global_given, global_part, group_seen, has, is_of, value_in, value_seen}
 use Rattle.info65.proofs.Cases.{is_some_find, some_map}
 
 -- an attribute is given where it has a value

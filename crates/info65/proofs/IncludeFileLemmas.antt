@@ -4,13 +4,7 @@ use Rattle.std.specs.Prelude.{Err, None, Ok, Option, Result, Some, nat_lt, optio
 use Rattle.std.proofs.lemmas.Bool.Decides.{nat_tests}
 use Rattle.std.proofs.lemmas.List.{append-nil}
 use Rattle.text65.specs.Names.{has_name_form}
-use Rattle.info65.specs.IncludeLaws.{WritesAddress}
-use Rattle.info65.specs.Includes.{is_identifier, line_adds, line_in, name_adds, names_with, optional_adds, unless_ignored}
-use Rattle.info65.specs.Labels.{name_fault}
-use Rattle.info65.specs.Names.{AreGiven, IsName}
-use Rattle.info65.specs.Views.{IncludeView, NameView}
-use Rattle.info65.specs.declared.fault.InfoFault.{InfoFault}
-use Rattle.info65.specs.declared.fault.InfoFaultKind.{InfoFaultKind}
+use Rattle.info65.specs.Words.{AreGiven, IncludeView, InfoFault, InfoFaultKind, IsName, NameView, WritesAddress, is_identifier, line_adds, line_in, name_adds, name_fault, names_with, optional_adds, unless_ignored}
 use Rattle.info65.proofs.Cases.{by_result, same_ok}
 use Rattle.info65.proofs.IndexLemmas.{no_fault}
 use Rattle.info65.proofs.NamesLemmas.{one_more}

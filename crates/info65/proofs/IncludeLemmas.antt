@@ -9,23 +9,11 @@ use Rattle.std.proofs.lemmas.List.{append-nil, at_drop_all, at_drop_more}
 use Rattle.std.proofs.lemmas.List.Elements.{All-append, All-cons, All-nil}
 use denote.Enum.Bare.{same_true}
 use Rattle.info65.specs.contracts.syntax.attribute.Attribute as attribute_type
-use Rattle.info65.specs.Attributes.{form_of}
-use Rattle.info65.specs.Closing.{closing_fault, include_fault}
-use Rattle.info65.specs.Code.Groups.{group_seen}
-use Rattle.info65.specs.Grammar.{AreGroups, AreNew}
-use Rattle.info65.specs.Groups.{AreAllFormed, AreFormed, AssignmentView, GroupView, is_of, value_in}
-use Rattle.info65.specs.IncludeGroups.{AreIncludes, has_room, include_from, include_in, include_part, includes_of}
-use Rattle.info65.specs.IncludeLaws.{AreSaid, IncludesSaid, IsGivenOr, SaysInclude}
-use Rattle.info65.specs.Tokens.{tokens_of}
-use Rattle.info65.specs.Values.{HasForm, ValueView, a_boolean, a_character, a_name, as_boolean, as_character, as_name, is_file_name}
-use Rattle.info65.specs.Views.{IncludeView}
-use Rattle.info65.specs.declared.syntax.assignment.Group.{Group}
-use Rattle.info65.specs.declared.syntax.attribute.Attribute.{Attribute}
+use Rattle.info65.specs.Words.{AreAllFormed, AreFormed, AreGroups, AreIncludes, AreNew, AssignmentView, Attribute, Group, GroupKind, GroupView, HasForm, IncludeView, IncludesSaid, InfoFaultKind, IsGivenOr, SaysInclude, ValueView, a_boolean, a_character, a_name, as_boolean, as_character, as_name, closing_fault, form_of, group_seen, has_room, include_fault, include_from, include_in, include_part, includes_of, is_file_name, is_of, tokens_of, value_in}
+use Rattle.info65.specs.IncludeLaws.{AreSaid}
 use Rattle.info65.specs.declared.syntax.attribute.Attribute.TheVariants as attribute
 use Rattle.info65.specs.declared.syntax.attribute.Form.TheVariants as form
-use Rattle.info65.specs.declared.syntax.attribute.GroupKind.{GroupKind}
 use Rattle.info65.specs.declared.syntax.attribute.GroupKind.TheVariants as kind
-use Rattle.info65.specs.declared.fault.InfoFaultKind.{InfoFaultKind}
 use Rattle.info65.proofs.Cases.{by_test}
 use Rattle.info65.proofs.FormLemmas.{AreRead, accepted_read, file_name_formed, found_formed, read_keeps}
 use Rattle.info65.proofs.SegmentLemmas.{text_is}

@@ -1,16 +1,10 @@
 -- The definitions of include files, held against small files.
 use Rattle.std.proofs.Common.{◌≡◌, ℕ, Bool, List, [], ◌∷◌, ◌++◌, true, false, refl}
 use Rattle.std.specs.Prelude.{Result, Ok, Err, codes, map}
-use Rattle.isa65.specs.Mnemonic.{mnemonic_named}
+use Rattle.isa65.specs.Words.{mnemonic_named}
 use Rattle.text65.specs.Lines.{text_lines}
 use Rattle.text65.specs.Names.{is_reserved_word}
-use Rattle.info65.specs.Faults.{fault}
-use Rattle.info65.specs.Includes.{address_written, assignment_in, is_identifier, line_adds, line_in, name_adds, names_with, plain_name, trimmed, without_comment}
-use Rattle.info65.specs.Lexemes.{number_in}
-use Rattle.info65.specs.Names.{default_name, is_like_default, is_reserved}
-use Rattle.info65.specs.Views.{NameView}
-use Rattle.info65.specs.declared.fault.InfoFault.{InfoFault}
-use Rattle.info65.specs.declared.fault.InfoFaultKind.TheVariants.{BadInclude, BadName, NameTwice, ReservedName}
+use Rattle.info65.specs.Words.{BadInclude, BadName, InfoFault, NameTwice, NameView, ReservedName, address_written, assignment_in, default_name, fault, is_identifier, is_like_default, is_reserved, line_adds, line_in, name_adds, names_with, number_in, plain_name, trimmed, without_comment}
 
 -- a file whose comments begin with this byte, perhaps with IGNOREUNKNOWN, and what comes of it after a label `go` at $0003
 record Row : Type 0 where

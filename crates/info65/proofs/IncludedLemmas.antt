@@ -5,17 +5,7 @@ use Rattle.std.specs.List.{list_any}
 use Rattle.std.proofs.lemmas.List.{get_or_default, get_or-take, length-take-le}
 use Rattle.std.proofs.lemmas.List.Folds.{find-append, list_any-append}
 use Rattle.text65.specs.Lines.{text_lines}
-use Rattle.info65.specs.Code.Includes.{name_result_seen, with_added}
-use Rattle.info65.specs.Code.Names.{given_seen}
-use Rattle.info65.specs.Faults.{◌>>=◌}
-use Rattle.info65.specs.Code.Results.{Fails, Sees}
-use Rattle.info65.specs.Includes.{blank_include, included, unless_ignored, line_adds, line_in, name_adds, names_included, names_with, optional_adds, with_names}
-use Rattle.info65.specs.Labels.{by_address, is_elsewhere, name_fault, named_at}
-use Rattle.info65.specs.Names.{AreGiven, AreNames, blank_name, name_at}
-use Rattle.info65.specs.Views.{IncludeView, InfoView, NameView}
-use Rattle.info65.specs.declared.fault.InfoFault.{InfoFault}
-use Rattle.info65.specs.declared.fault.InfoFaultKind.{InfoFaultKind}
-use Rattle.info65.specs.declared.information.name.Given.{Given}
+use Rattle.info65.specs.Words.{AreGiven, AreNames, Fails, Given, IncludeView, InfoFault, InfoFaultKind, InfoView, NameView, Sees, blank_include, blank_name, by_address, given_seen, included, is_elsewhere, line_adds, line_in, name_adds, name_at, name_fault, name_result_seen, named_at, names_included, names_with, optional_adds, unless_ignored, with_added, with_names, ◌>>=◌}
 use Rattle.info65.proofs.Cases.{by_result, by_test}
 use Rattle.info65.proofs.IndexLemmas.{elsewhere_by, elsewhere_is, is_fine, names_same, taken_is}
 use Rattle.info65.proofs.NamesLemmas.{named_alike, sorted_names, text_alike}

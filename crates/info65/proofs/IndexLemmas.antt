@@ -13,22 +13,9 @@ use Rattle.std.proofs.lemmas.List.Elements.{All-push}
 use Rattle.std.proofs.lemmas.List.Quantifiers.{all_pairs_push}
 use Rattle.std.proofs.lemmas.Option.{slice_get-get_or, slice_get-map}
 use Rattle.std.proofs.lemmas.Slice.Eq.{bytes_eq-Decides}
-use Rattle.info65.specs.Closing.{closing_fault, label_fault, optional_name_fault, range_fault}
-use Rattle.info65.specs.Groups.{AssignmentView, GroupView}
-use Rattle.info65.specs.declared.syntax.attribute.GroupKind.{GroupKind}
+use Rattle.info65.specs.Words.{AddsText, AreRanged, AssignmentView, Given, GroupKind, GroupView, InfoFaultKind, IsFoundAt, IsIndex, NameView, NumbersView, RangeSpec, RangesOverlap, StandsIn, TextsView, any_in, blank_name, closing_fault, given_seen, has_address, is_at, is_elsewhere, is_reserved, label_fault, label_in, name_fault, name_part, named_at, names_from, names_said, numbered, optional_name_fault, overlaps, range_fault, range_name, range_part, ranges_of, stands_by, text_at}
 use Rattle.info65.specs.declared.syntax.attribute.GroupKind.TheVariants as kind
-use Rattle.info65.specs.Code.Index.{AreRanged, IsFoundAt, IsIndex, StandsIn, any_in, numbered, stands_by, text_at}
-use Rattle.info65.specs.Code.Names.{given_seen}
-use Rattle.info65.specs.Code.Numbers.{NumbersView, number_at}
-use Rattle.info65.specs.Code.Texts.{AddsText, TextsView}
-use Rattle.info65.specs.Labels.{is_at, is_elsewhere, label_in, name_fault, name_part, named_at, names_from, names_said, range_name}
-use Rattle.info65.specs.Names.{blank_name, is_reserved}
-use Rattle.info65.specs.Ranges.{has_address, overlaps, range_part, ranges_of}
-use Rattle.info65.specs.Views.{NameView}
-use Rattle.info65.specs.declared.fault.InfoFaultKind.{InfoFaultKind}
-use Rattle.info65.specs.declared.fault.InfoFaultKind.TheVariants.{RangesOverlap}
-use Rattle.info65.specs.declared.information.name.Given.{Given}
-use Rattle.info65.specs.declared.information.range.RangeSpec.{RangeSpec}
+use Rattle.info65.specs.Code.Numbers.{number_at}
 use Rattle.info65.proofs.Cases.{by_test, is_some_find, or_last, some_map}
 use Rattle.info65.proofs.RangeLemmas.{any_shared, closes_range, part_ordered, ranges_more, shared_overlap}
 

@@ -4,13 +4,8 @@ use Rattle.std.specs.Prelude.{nat_lt}
 use Rattle.std.specs.List.{flat_map}
 use Rattle.std.proofs.lemmas.Grind.{flat_map-append}
 use Rattle.std.proofs.lemmas.List.{append-nil}
-use Rattle.info65.specs.Code.Kept.{kept_of, kept_part}
-use Rattle.info65.specs.Groups.{AreAllFormed, AreFormed, AssignmentView, GroupView, global_given, global_part, given_before, is_given}
-use Rattle.info65.specs.IncludeGroups.{has_room, include_part, includes_of}
-use Rattle.info65.specs.Segments.{segment_part, segments_of}
-use Rattle.info65.specs.declared.syntax.attribute.Attribute.{Attribute}
+use Rattle.info65.specs.Words.{AreAllFormed, AreFormed, AssignmentView, Attribute, GroupKind, GroupView, given_before, global_given, global_part, has_room, include_part, includes_of, is_given, kept_of, kept_part, segment_part, segments_of}
 use Rattle.info65.specs.declared.syntax.attribute.Attribute.TheVariants as attribute
-use Rattle.info65.specs.declared.syntax.attribute.GroupKind.{GroupKind}
 use Rattle.info65.specs.declared.syntax.attribute.GroupKind.TheVariants as kind
 
 pub kept_more : (before : List GroupView) (g : GroupView) → kept_of (before ++ g ∷ []) ≡ kept_of before ++ kept_part g

@@ -1,8 +1,6 @@
 -- What the layout of every type keeps.
 use Rattle.std.proofs.Common.{◌≤◌, inl, inr, refl, arith}
-use Rattle.info65.specs.Layouts.{IsEntry, layout_of}
-use Rattle.info65.specs.declared.information.range.RangeType.{RangeType}
-use Rattle.info65.specs.declared.information.range.RangeType.TheVariants.{ByteTable, Code, DwordTable, WordTable, DbyteTable}
+use Rattle.info65.specs.Words.{ByteTable, Code, DbyteTable, DwordTable, IsEntry, RangeType, WordTable, layout_of}
 
 pub layout_some : (r : RangeType) → 1 ≤ (layout_of r).unit
 layout_some Code = omega arith

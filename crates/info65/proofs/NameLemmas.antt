@@ -7,7 +7,7 @@ use Rattle.std.proofs.lemmas.Bool.Decides.{nat_tests}
 use Rattle.std.proofs.lemmas.Str.{IsUtf8-from_ascii}
 use Rattle.std.proofs.lemmas.Str.Ascii.{IsAscii-from_all}
 use Rattle.std.proofs.lemmas.Bool.{and_parts}
-use Rattle.info65.specs.Values.{are_printable, is_file_name}
+use Rattle.info65.specs.Words.{are_printable, is_file_name}
 
 printable-ascii : (text : List ℕ) → are_printable text ≡ true → All (λ b. b < 128) text
 printable-ascii [] h = All-nil (λ b. b < 128)

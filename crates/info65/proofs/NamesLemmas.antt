@@ -12,26 +12,14 @@ use Rattle.std.proofs.lemmas.List.Quantifiers.{all_pairs_push}
 use Rattle.std.proofs.lemmas.Bool.{eq-eqb, eqb-true, false≢true}
 use Rattle.std.proofs.lemmas.Slice.Eq.{bytes_eq-Decides}
 use Rattle.std.specs.Str.{bytes_eq}
-use Rattle.info65.specs.Code.Index.{IsFoundAt, numbered, text_at}
-use Rattle.info65.specs.Code.Names.{given_seen}
-use Rattle.info65.specs.Code.Numbers.{NumbersView, number_at}
+use Rattle.info65.specs.Words.{AreFormed, AreGiven, AreNames, AssignmentView, Given, GroupKind, GroupView, HasForm, IsComment, IsFoundAt, IsName, NameView, NamesGiven, NumbersView, RangeSpec, ValueView, a_comment, a_name, as_comment, as_name, as_number, by_address, closing_fault, comment_in, form_of, given_seen, is_at, label_from, label_in, label_sized, name_part, named_at, names_from, names_said, numbered, optional_name_fault, range_name, text_at, tokens_of, unless_empty, value_in}
+use Rattle.info65.specs.Code.Numbers.{number_at}
 use Rattle.text65.specs.Names.{has_name_form}
-use Rattle.info65.specs.Attributes.{form_of}
-use Rattle.info65.specs.Closing.{closing_fault, optional_name_fault}
-use Rattle.info65.specs.Comments.{comment_in, unless_empty}
-use Rattle.info65.specs.Groups.{AreFormed, AssignmentView, GroupView, value_in}
-use Rattle.info65.specs.Labels.{by_address, is_at, label_from, label_in, label_sized, name_part, named, named_at, names_from, names_said, range_name}
-use Rattle.info65.specs.NameLaws.{NamesGiven}
-use Rattle.info65.specs.Names.{AreGiven, AreNames, IsComment, IsName}
-use Rattle.info65.specs.Tokens.{tokens_of}
-use Rattle.info65.specs.Values.{HasForm, ValueView, a_comment, a_name, as_address, as_comment, as_name, as_number}
-use Rattle.info65.specs.Views.{NameView}
+use Rattle.info65.specs.Labels.{named}
+use Rattle.info65.specs.Values.{as_address}
 use Rattle.info65.specs.declared.syntax.attribute.Attribute.TheVariants as attribute
 use Rattle.info65.specs.declared.syntax.attribute.Form.TheVariants as form
-use Rattle.info65.specs.declared.syntax.attribute.GroupKind.{GroupKind}
 use Rattle.info65.specs.declared.syntax.attribute.GroupKind.TheVariants as kind
-use Rattle.info65.specs.declared.information.name.Given.{Given}
-use Rattle.info65.specs.declared.information.range.RangeSpec.{RangeSpec}
 use Rattle.info65.proofs.Cases.{by_test, is_some_find, same_some}
 use Rattle.info65.proofs.FormLemmas.{AreRead, accepted_read, found_formed, read_keeps, size_in}
 use Rattle.info65.proofs.IndexLemmas.{IsNew, closes_label, found_is, names_more, new_address, new_text, no_fault, taken_is}

@@ -3,8 +3,7 @@ use Rattle.std.proofs.Common.{◌≡◌, ◌∙◌, ◌==◌, ℕ, ◌+◌, ◌*
 use Rattle.std.proofs.lemmas.List.{at_drop_more}
 use Rattle.std.proofs.lemmas.Bool.Decides.{nat_tests}
 use Rattle.std.specs.Prelude.{Some, None, nat_le, if◌then◌else◌}
-use Rattle.info65.specs.Digits.{number_of_digits}
-use Rattle.info65.specs.Lexemes.{are_digits}
+use Rattle.info65.specs.Words.{are_digits, number_of_digits}
 use Rattle.std.proofs.Math.Nat.{mul-le-mul_left}
 use Rattle.std.specs.Char.{digit_value}
 use Rattle.std.specs.Str.Parse.{digits_value, digits_value_after}

@@ -7,13 +7,8 @@ use Rattle.std.proofs.lemmas.Grind.{flat_map-append}
 use Rattle.std.proofs.lemmas.Bool.{and_left, and_right, or_from, or_parts}
 use denote.Enum.Bare.{false_same, sameb, same_false}
 use Rattle.info65.specs.contracts.syntax.attribute.Attribute as attribute_type
-use Rattle.info65.specs.Grammar.{AreGroups, AreNew}
-use Rattle.info65.specs.Groups.{AssignmentView, GroupView, global_given, global_part, given_before, has, has_instead, is_given, is_of}
-use Rattle.info65.specs.Laws.{AreOnce, GivenOnce, GlobalOnce, IsOnce}
-use Rattle.info65.specs.Values.{ValueView}
-use Rattle.info65.specs.declared.syntax.attribute.Attribute.{Attribute}
+use Rattle.info65.specs.Words.{AreGroups, AreNew, AreOnce, AssignmentView, Attribute, GivenOnce, GlobalOnce, GroupKind, GroupView, IsOnce, ValueView, given_before, global_given, global_part, has, has_instead, is_given, is_of}
 use Rattle.info65.specs.declared.syntax.attribute.Attribute.TheVariants as attribute
-use Rattle.info65.specs.declared.syntax.attribute.GroupKind.{GroupKind}
 use Rattle.info65.specs.declared.syntax.attribute.GroupKind.TheVariants as group
 use Rattle.info65.proofs.FormLemmas.{accepted_read, read_keeps}
 use Rattle.info65.proofs.Cases.{or_last}

@@ -5,11 +5,8 @@ use Rattle.std.specs.List.Sorted.{IsNonDecreasingBy}
 use Rattle.std.proofs.lemmas.List.Sorted.{IsNonDecreasingBy-from_default}
 use Rattle.std.proofs.lemmas.List.{append-nil, drop-append-le, drop_at, get_or-map, get_or_append_left, get_or_at, length-map, map-append, take-append-le, take_at}
 use Rattle.std.proofs.lemmas.Bool.Decides.{eqb_tells, nat_tests}
-use Rattle.info65.specs.Code.Pool.{AreAbove, IsPool, IsWithin, ReachTo, blank_entry, block_start, bytes_of, entry_seen, optional, reach_of, span_of}
-use Rattle.info65.specs.Names.{AreNames, blank_name, covering, covering_below, covers, name_at}
-use Rattle.info65.specs.Views.{NameView}
+use Rattle.info65.specs.Words.{AreAbove, AreNames, IsPool, IsWithin, NameView, ReachTo, Span, blank_entry, blank_name, block_start, bytes_of, covering, covering_below, covers, entry_seen, name_at, optional, reach_of, span_of}
 use Rattle.info65.specs.declared.information.pool.Entry.{Entry}
-use Rattle.info65.specs.declared.information.pool.Span.{Span}
 
 pub seen_at : (pool : List ℕ) (es : List Entry) (i : ℕ) (d : Entry) → i < length es → name_at (map (entry_seen pool) es) i ≡ entry_seen pool (get_or es i d)
 seen_at pool es i d below = get_or-map (entry_seen pool) es i d blank_name below

@@ -8,23 +8,12 @@ use Rattle.std.proofs.lemmas.List.Elements.{All-append, All-cons, All-nil}
 use Rattle.std.proofs.lemmas.List.Folds.{Any-from_list_any, list_any_at, list_any-from_Any}
 use Rattle.std.proofs.lemmas.List.Quantifiers.{all_pairs_push}
 use Rattle.std.proofs.lemmas.Grind.{flat_map-append}
-use Rattle.info65.specs.Attributes.{form_of}
-use Rattle.info65.specs.Closing.{closing_fault, optional_name_fault, range_fault}
-use Rattle.info65.specs.Grammar.{AreGroups}
-use Rattle.info65.specs.Groups.{AreAllFormed, AreFormed, AssignmentView, GroupView, value_in}
-use Rattle.info65.specs.Labels.{name_fault, names_said, range_name}
-use Rattle.info65.specs.Laws.{AreSaid, OverlapsShare, RangesApart, SaysRange, Share}
-use Rattle.info65.specs.Ranges.{AreApart, AreRanges, last_from, overlaps, range_between, range_from, range_in, range_of_parts, range_part, ranges_of}
-use Rattle.info65.specs.Tokens.{tokens_of}
-use Rattle.info65.specs.Values.{ValueView, a_number, a_type, an_address, as_address, as_number, as_type}
-use Rattle.info65.specs.Views.{NameView}
+use Rattle.info65.specs.Words.{AreAllFormed, AreFormed, AreGroups, AreRanges, AssignmentView, GroupKind, GroupView, InfoFaultKind, NameView, OverlapsShare, RangeSpec, RangeType, RangesApart, RangesOverlap, SaysRange, ValueView, a_number, a_type, an_address, as_number, as_type, closing_fault, form_of, last_from, name_fault, names_said, optional_name_fault, overlaps, range_between, range_fault, range_from, range_in, range_name, range_of_parts, range_part, ranges_of, tokens_of, value_in}
+use Rattle.info65.specs.Laws.{AreSaid, Share}
+use Rattle.info65.specs.Ranges.{AreApart}
+use Rattle.info65.specs.Values.{as_address}
 use Rattle.info65.specs.declared.syntax.attribute.Attribute.TheVariants as attribute
-use Rattle.info65.specs.declared.syntax.attribute.GroupKind.{GroupKind}
 use Rattle.info65.specs.declared.syntax.attribute.GroupKind.TheVariants as kind
-use Rattle.info65.specs.declared.fault.InfoFaultKind.{InfoFaultKind}
-use Rattle.info65.specs.declared.fault.InfoFaultKind.TheVariants.{RangesOverlap}
-use Rattle.info65.specs.declared.information.range.RangeSpec.{RangeSpec}
-use Rattle.info65.specs.declared.information.range.RangeType.{RangeType}
 use Rattle.info65.proofs.FormLemmas.{AreRead, accepted_read, found_formed, read_keeps, size_in}
 
 -- ---- group by group

@@ -1,23 +1,8 @@
 -- One token more, at each place.
 use Rattle.std.proofs.Common.{◌≡◌, ◌∙◌, ℕ, Bool, ◌&&◌, List, [], ◌∷◌, ◌++◌, true, false, refl, ap, inl, inr, sym}
 use Rattle.std.specs.Prelude.{Result, Ok, Err, Some, None}
-use Rattle.info65.specs.Faults.{fault, ◌>>=◌}
-use Rattle.info65.specs.Code.Results.{Fails}
-use Rattle.info65.specs.Attributes.{group_named}
-use Rattle.info65.specs.Closing.{closing_fault}
-use Rattle.info65.specs.Groups.{AssignmentView, GroupView}
-use Rattle.info65.specs.Lexemes.{KindView, semicolon}
-use Rattle.info65.specs.Code.Reading.{Leads, is_semicolon, place_after}
-use Rattle.info65.specs.Reader.{Place, after_group, at_attribute, at_brace, at_group, at_semicolon, attribute_at, assigned, closed, closed_by, finish, group, inside, one, opened, opening, outside, read, read_from, read_token, step, value_at, valued, wanted}
-use Rattle.info65.specs.Code.Steps.{kind_seen}
-use Rattle.info65.specs.Tokens.{Stream, TokenView, ended, refused, with_token}
-use Rattle.info65.specs.Values.{ValueView}
-use Rattle.info65.specs.Views.{OptionsView}
-use Rattle.info65.specs.declared.syntax.attribute.Attribute.{Attribute}
-use Rattle.info65.specs.declared.syntax.attribute.GroupKind.{GroupKind}
-use Rattle.info65.specs.declared.fault.InfoFault.{InfoFault}
-use Rattle.info65.specs.declared.fault.InfoFaultKind.TheVariants.{Expected, UnknownGroup}
-use Rattle.info65.specs.declared.syntax.token.TokenKind.{TokenKind}
+use Rattle.info65.specs.Words.{AssignmentView, Attribute, Expected, Fails, GroupKind, GroupView, InfoFault, KindView, Leads, OptionsView, Place, Stream, TokenKind, TokenView, UnknownGroup, ValueView, after_group, assigned, at_attribute, at_brace, at_group, at_semicolon, attribute_at, closed, closed_by, closing_fault, ended, fault, finish, group, group_named, inside, is_semicolon, kind_seen, one, opened, opening, outside, place_after, read, read_from, read_token, refused, semicolon, step, valued, wanted, with_token, ◌>>=◌}
+use Rattle.info65.specs.Reader.{value_at}
 use Rattle.info65.specs.declared.syntax.token.TokenKind.TheVariants as kind
 
 -- the next token is read

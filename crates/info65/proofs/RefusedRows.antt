@@ -1,25 +1,11 @@
 -- Information files that are refused, each with its line and its fault.
 use Rattle.std.proofs.Common.{◌≡◌, ℕ, ◌+◌, List, [], ◌∷◌, ◌++◌, refl}
 use Rattle.std.specs.Prelude.{Some, Result, Ok, Err, codes, map}
-use Rattle.isa65.specs.Cpu.{cpu_named}
-use Rattle.isa65.specs.Mnemonic.{mnemonic_named}
+use Rattle.isa65.specs.Words.{cpu_named, mnemonic_named}
 use Rattle.text65.specs.Names.{has_name_form, is_reserved_word}
-use Rattle.info65.specs.Attributes.{attribute_named, boolean_named, form_of, group_named, type_named}
-use Rattle.info65.specs.Closing.{closing_fault}
-use Rattle.info65.specs.Comments.{comment_in, lacks_name}
-use Rattle.info65.specs.Faults.{fault_text}
-use Rattle.info65.specs.Groups.{GroupView, global_given, has, has_instead, is_given, value_in}
-use Rattle.info65.specs.IncludeGroups.{has_room, include_in, includes_of}
-use Rattle.info65.specs.Labels.{label_in, name_fault, names_said, range_name}
-use Rattle.info65.specs.Lexemes.{character_at, in_class, lexeme_at, number_at, number_in, string_at, word_at}
-use Rattle.info65.specs.Names.{default_name, has_comment_form, is_like_default, is_reserved}
-use Rattle.info65.specs.Ranges.{overlaps, range_in, range_of_parts, ranges_of}
-use Rattle.info65.specs.Reader.{attribute_at, finish, groups_of, read, read_from, step, value_at}
-use Rattle.info65.specs.Segments.{meets, segment_in, segments_of}
-use Rattle.info65.specs.Tokens.{tokens_after}
-use Rattle.info65.specs.Values.{is_file_name, is_on_command_line, name_value, value_of}
-use Rattle.info65.specs.Views.{OptionsView, no_options}
-use Rattle.info65.specs.declared.fault.InfoFault.{InfoFault}
+use Rattle.info65.specs.Words.{GroupView, InfoFault, OptionsView, attribute_at, attribute_named, boolean_named, character_at, closing_fault, comment_in, default_name, fault_text, finish, form_of, global_given, group_named, groups_of, has, has_comment_form, has_instead, has_room, in_class, include_in, includes_of, is_file_name, is_given, is_like_default, is_on_command_line, is_reserved, label_in, lacks_name, lexeme_at, meets, name_fault, name_value, names_said, no_options, number_in, overlaps, range_in, range_name, range_of_parts, ranges_of, read, read_from, segment_in, segments_of, step, string_at, tokens_after, type_named, value_in, value_of, word_at}
+use Rattle.info65.specs.Lexemes.{number_at}
+use Rattle.info65.specs.Reader.{value_at}
 
 -- `ok`, or the fault and its line, a digit
 abbrev told : Result (List GroupView) InfoFault → List ℕ

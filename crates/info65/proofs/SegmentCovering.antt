@@ -3,9 +3,8 @@ use Rattle.std.proofs.Common.{◌≡◌, ◌<◌, ℕ, zero, suc, List, [], ◌�
 use Rattle.std.specs.Prelude.{All, AllPairs, Option, Some, None, option_map}
 use Rattle.std.specs.List.{find}
 use Rattle.std.proofs.lemmas.List.Elements.{All-cons}
-use Rattle.info65.specs.SegmentLaws.{CoversOne}
-use Rattle.info65.specs.Segments.{AreApart, AreSegments, blank_segment, contains, segment_at, segment_covering}
-use Rattle.info65.specs.Views.{SegmentView}
+use Rattle.info65.specs.Words.{AreSegments, CoversOne, SegmentView, blank_segment, contains, segment_at, segment_covering}
+use Rattle.info65.specs.Segments.{AreApart}
 use Rattle.info65.proofs.Cases.{by_test}
 
 rest_apart : (s : SegmentView) (ss : List SegmentView) → AllPairs AreApart (s ∷ ss) → AllPairs AreApart ss

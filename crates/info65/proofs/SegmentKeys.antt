@@ -8,13 +8,7 @@ use Rattle.std.proofs.lemmas.Bool.Decides.{nat_tests}
 use Rattle.std.proofs.lemmas.List.{at_drop_more, drop_all, get_or-map, get_or_default, get_or_append_left, get_or_push, length-map}
 use Rattle.std.proofs.lemmas.Option.{slice_get-get_or, slice_get_past}
 use Rattle.std.proofs.lemmas.Slice.Eq.{bytes_eq-Decides}
-use Rattle.info65.specs.Code.Index.{numbered}
-use Rattle.info65.specs.Code.SegmentTable.{AreKeys, AreFound, IsHolder, IsRest, IsSlotted, key_by, key_found}
-use Rattle.info65.specs.Code.Texts.{AddsText, TextsView}
-use Rattle.info65.specs.Code.Segments.{segment_seen}
-use Rattle.info65.specs.Segments.{AreSegments, blank_segment, contains, first_named, segment_at, segment_covering, segment_key}
-use Rattle.info65.specs.Views.{SegmentView}
-use Rattle.info65.specs.declared.information.segment.SegmentSpec.{SegmentSpec}
+use Rattle.info65.specs.Words.{AddsText, AreFound, AreKeys, AreSegments, IsHolder, IsRest, IsSlotted, SegmentSpec, SegmentView, TextsView, blank_segment, contains, first_named, key_by, key_found, numbered, segment_at, segment_covering, segment_key, segment_seen}
 use Rattle.info65.proofs.Cases.{by_test}
 use Rattle.info65.proofs.SegmentCovering.{covers_one, one_contains}
 use Rattle.info65.proofs.IndexLemmas.{other_way, same_text}

@@ -8,26 +8,13 @@ use Rattle.std.proofs.lemmas.List.Elements.{All-append, All-cons, All-map, All-n
 use Rattle.std.proofs.lemmas.List.Folds.{Any-from_list_any, list_any-append, list_any-from_Any, list_any_at}
 use Rattle.std.proofs.lemmas.List.Quantifiers.{all_pairs_push}
 use Rattle.std.proofs.lemmas.Grind.{flat_map-append}
-use Rattle.info65.specs.Attributes.{form_of}
-use Rattle.info65.specs.Closing.{closing_fault, segment_fault}
-use Rattle.info65.specs.Code.Groups.{group_seen}
-use Rattle.info65.specs.Code.Index.{AreMarked, any_in}
-use Rattle.info65.specs.Grammar.{AreGroups}
-use Rattle.info65.specs.Groups.{AreFormed, AssignmentView, GroupView, value_in}
-use Rattle.info65.specs.Ranges.{has_address, overlaps}
-use Rattle.info65.specs.SegmentLaws.{AreSaid, SaysSegment, SegmentsApart, SegmentsShare, Share}
-use Rattle.info65.specs.Segments.{AreApart, AreSegments, IsSegment, contains, meets, segment_from, segment_in, segment_part, segments_of}
-use Rattle.info65.specs.Tokens.{tokens_of}
-use Rattle.info65.specs.Values.{HasForm, ValueView, a_name, an_address, as_address, as_name}
-use Rattle.info65.specs.Views.{SegmentView}
-use Rattle.info65.specs.declared.syntax.assignment.Group.{Group}
+use Rattle.info65.specs.Words.{AreFormed, AreGroups, AreMarked, AreSegments, AssignmentView, Group, GroupKind, GroupView, HasForm, InfoFaultKind, IsSegment, RangeSpec, SaysSegment, SegmentView, SegmentsApart, SegmentsOverlap, SegmentsShare, ValueView, a_name, an_address, any_in, as_name, closing_fault, contains, form_of, group_seen, has_address, meets, overlaps, segment_fault, segment_from, segment_in, segment_part, segments_of, tokens_of, value_in}
+use Rattle.info65.specs.SegmentLaws.{AreSaid, Share}
+use Rattle.info65.specs.Segments.{AreApart}
+use Rattle.info65.specs.Values.{as_address}
 use Rattle.info65.specs.declared.syntax.attribute.Attribute.TheVariants as attribute
 use Rattle.info65.specs.declared.syntax.attribute.Form.TheVariants as form
-use Rattle.info65.specs.declared.syntax.attribute.GroupKind.{GroupKind}
 use Rattle.info65.specs.declared.syntax.attribute.GroupKind.TheVariants as kind
-use Rattle.info65.specs.declared.fault.InfoFaultKind.{InfoFaultKind}
-use Rattle.info65.specs.declared.fault.InfoFaultKind.TheVariants.{SegmentsOverlap}
-use Rattle.info65.specs.declared.information.range.RangeSpec.{RangeSpec}
 use Rattle.info65.specs.declared.information.range.RangeType.TheVariants as role
 use Rattle.info65.proofs.Cases.{by_test, or_last}
 use Rattle.info65.proofs.FormLemmas.{AreRead, accepted_read, found_formed, read_keeps}

@@ -12,11 +12,8 @@ use Rattle.std.proofs.lemmas.List.{append-nil, drop_more, length-drop, length-re
 use Rattle.std.proofs.lemmas.List.Folds.{list_all-append, list_all_at}
 use Rattle.std.proofs.lemmas.List.Sums.{passes_at_first, prefix_len-le-length, split_at_first}
 use Rattle.text65.specs.Names.{is_blank, is_word_byte}
-use Rattle.info65.specs.Includes.{address_written, after_sign, as_address, assignment_in, before_sign, is_identifier, line_in, or_bad, plain_name, trimmed, trimmed_end, without_comment}
-use Rattle.info65.specs.IncludeLaws.{AreDigitsOf, EndsLine, IsAssignment, IsBlankLine, IsSpelling, IsText, LinesSpelled, WritesAddress}
-use Rattle.info65.specs.Lexemes.{are_digits, number_in, starts_word}
-use Rattle.info65.specs.Views.{NameView}
-use Rattle.info65.specs.declared.fault.InfoFaultKind.{InfoFaultKind}
+use Rattle.info65.specs.Words.{AreDigitsOf, EndsLine, InfoFaultKind, IsAssignment, IsBlankLine, IsSpelling, IsText, LinesSpelled, NameView, WritesAddress, address_written, after_sign, are_digits, assignment_in, before_sign, is_identifier, line_in, number_in, or_bad, plain_name, starts_word, trimmed, trimmed_end, without_comment}
+use Rattle.info65.specs.Includes.{as_address}
 use Rattle.info65.proofs.Cases.{by_test}
 
 -- ---- runs of bytes

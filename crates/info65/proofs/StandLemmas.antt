@@ -2,10 +2,7 @@
 use Rattle.std.proofs.Common.{◌≡◌, ◌∙◌, ◌==◌, ◌+◌, ℕ, zero, suc, Bool, true, false, List, [], ◌∷◌, ◌++◌, ap, arith, drop, refl, sym}
 use Rattle.std.specs.Prelude.{Result, Ok, Err}
 use Rattle.std.proofs.lemmas.List.{append-nil}
-use Rattle.info65.specs.Lexemes.{LexemeView, lexeme_at}
-use Rattle.info65.specs.Standing.{Stand, TokensStand, feeds, is_gap, is_solid}
-use Rattle.info65.specs.Tokens.{Stream, TokenView, ended, found, is_blank, opens_comment, tokens_after}
-use Rattle.info65.specs.declared.fault.InfoFault.{InfoFault}
+use Rattle.info65.specs.Words.{InfoFault, LexemeView, Stand, Stream, TokenView, TokensStand, ended, feeds, found, is_blank, is_gap, is_solid, lexeme_at, opens_comment, tokens_after}
 use Rattle.info65.proofs.Cases.{by_test}
 
 abbrev StandIn : Bool → ℕ → List ℕ → Stream → Type 0

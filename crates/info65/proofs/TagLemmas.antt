@@ -1,14 +1,8 @@
 -- The groups of the lines `#: ..`, token by token.
 use Rattle.std.proofs.Common.{◌≡◌, ℕ, Bool, arith, refl}
 use Rattle.std.specs.Prelude.{Result, Ok, Err}
-use Rattle.info65.specs.Code.Steps.{Steps, seen}
-use Rattle.info65.specs.Code.Turns.{Turns, done, stepped, turn_of}
-use Rattle.info65.specs.Tags.{tag_end, tag_step, tags_from}
-use Rattle.info65.specs.Tokens.{Stream, TokenView, ended, with_token}
-use Rattle.info65.specs.declared.fault.InfoFault.{InfoFault}
-use Rattle.info65.specs.declared.syntax.lexer.Next.{Next}
+use Rattle.info65.specs.Words.{InfoFault, Next, Outcome, Steps, Stream, TokenView, Turns, done, ended, seen, stepped, tag_end, tag_step, tags_from, turn_of, with_token}
 use Rattle.info65.specs.declared.syntax.lexer.Next.TheVariants as next
-use Rattle.info65.specs.declared.tags.place.Outcome.{Outcome}
 use Rattle.info65.specs.declared.tags.place.Place.{Place}
 
 token-turns : (p : Place) (t : TokenView) (new : Stream) (r : Result Outcome InfoFault) → tag_step p t ≡ r → Turns p (with_token t new) (stepped r) new

@@ -1,11 +1,8 @@
 -- Lines `#: ..` held against what they say.
 use Rattle.std.proofs.Common.{◌≡◌, [], ◌∷◌, refl}
 use Rattle.std.specs.Prelude.{None, Some, Ok, Err, codes}
-use Rattle.info65.specs.Faults.{fault}
-use Rattle.info65.specs.Lexemes.{in_class, lexeme_at, number_at, number_in, word_at}
-use Rattle.info65.specs.Tags.{spot_after, tag_attribute, tag_end, tag_named, tag_step, tagged_byte, tagged_from, tagged_text, tags_from, tags_of}
-use Rattle.info65.specs.Tokens.{tokens_after}
-use Rattle.info65.specs.declared.fault.InfoFaultKind.TheVariants.{Expected, GivenTwice, Missing, OutOfRange, UnknownAttribute, UnknownGroup}
+use Rattle.info65.specs.Words.{Expected, GivenTwice, Missing, OutOfRange, UnknownAttribute, UnknownGroup, fault, in_class, lexeme_at, number_in, spot_after, tag_attribute, tag_end, tag_named, tag_step, tagged_byte, tagged_from, tagged_text, tags_from, tags_of, tokens_after, word_at}
+use Rattle.info65.specs.Lexemes.{number_at}
 use Rattle.info65.specs.declared.tags.tag.TagKind.TheVariants as kind
 
 -- only lines that begin with `#:` count, each at its line

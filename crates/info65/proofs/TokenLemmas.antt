@@ -1,8 +1,7 @@
 -- The tokens of what is left.
 use Rattle.std.proofs.Common.{add-one, ◌≡◌, ◌∙◌, ◌+◌, ◌<◌, ◌≤◌, ℕ, zero, suc, Bool, true, false, List, [], ◌∷◌, length, drop, get_or, refl, sym, arith}
 use Rattle.std.proofs.lemmas.Bool.{ne_eqb, or_parts}
-use Rattle.info65.specs.Tokens.{ended, found, is_blank, opens_comment, stops, tokens_after, tokens_of}
-use Rattle.info65.specs.Lexemes.{lexeme_at}
+use Rattle.info65.specs.Words.{ended, found, is_blank, lexeme_at, opens_comment, stops, tokens_after, tokens_of}
 
 -- the rest of a token is passed over
 pub passed : (skip line : ℕ) (bs : List ℕ) → tokens_after skip false line bs ≡ tokens_of line (drop skip bs)

@@ -3,12 +3,9 @@ use Rattle.std.proofs.Common.{◌≡◌, ℕ, Bool, true, false, List, [], ◌�
 use Rattle.std.specs.Prelude.{Result, Ok, Err, codes, length}
 use Rattle.std.specs.List.{filter, range_with_len}
 use denote.Enum.Bare.{sameb}
-use Rattle.info65.specs.Lexemes.{KindView, word, opening_brace, closing_brace, semicolon, number, string, character, character_at, in_class, lexeme_at, number_at, number_in, string_at, word_at}
-use Rattle.info65.specs.Tokens.{Stream, TokenView, tokens_after, tokens_of}
+use Rattle.info65.specs.Words.{BadByte, BadNumber, InfoFault, InfoFaultKind, KindView, OpenString, Stream, TokenView, character, character_at, closing_brace, in_class, lexeme_at, number, number_in, opening_brace, semicolon, string, string_at, tokens_after, tokens_of, word, word_at}
+use Rattle.info65.specs.Lexemes.{number_at}
 use Rattle.info65.specs.contracts.fault.InfoFaultKind as fault_kind
-use Rattle.info65.specs.declared.fault.InfoFault.{InfoFault}
-use Rattle.info65.specs.declared.fault.InfoFaultKind.{InfoFaultKind}
-use Rattle.info65.specs.declared.fault.InfoFaultKind.TheVariants.{BadByte, BadNumber, OpenString}
 
 abbrev token : KindView → List ℕ → ℕ → TokenView
 token kind text line = record { kind = kind; text = text; line = line }

@@ -7,11 +7,8 @@ use Rattle.info65.specs.Labels.{label_in, name_fault, names_said, range_name}
 use Rattle.info65.specs.Ranges.{overlaps, range_in, ranges_of}
 use Rattle.info65.specs.Segments.{meets, segment_in, segments_of}
 use Rattle.info65.specs.Views.{IncludeView, NameView, SegmentView}
-use Rattle.info65.specs.declared.syntax.attribute.GroupKind.{GroupKind}
+use Rattle.info65.specs.Types.{GroupKind, InfoFaultKind, RangeSpec, RangesOverlap, SegmentsOverlap}
 use Rattle.info65.specs.declared.syntax.attribute.GroupKind.TheVariants as group
-use Rattle.info65.specs.declared.fault.InfoFaultKind.{InfoFaultKind}
-use Rattle.info65.specs.declared.fault.InfoFaultKind.TheVariants.{RangesOverlap, SegmentsOverlap}
-use Rattle.info65.specs.declared.information.range.RangeSpec.{RangeSpec}
 
 abbrev pub optional_name_fault : List NameView → Option NameView → Option InfoFaultKind
 optional_name_fault names None = None

@@ -1,7 +1,6 @@
 -- What an information file can be refused for.
 use Rattle.std.specs.Prelude.{ℕ, List, Result, Ok, Err, codes}
-use Rattle.info65.specs.declared.fault.InfoFault.{InfoFault}
-use Rattle.info65.specs.declared.fault.InfoFaultKind.{InfoFaultKind}
+use Rattle.info65.specs.Types.{InfoFault, InfoFaultKind}
 use Rattle.info65.specs.declared.fault.InfoFaultKind.TheVariants as kind
 
 -- the text of a fault in a message

@@ -10,8 +10,7 @@ use Rattle.info65.specs.Settings.{info_of}
 use Rattle.info65.specs.Tokens.{TokenView, tokens_of}
 use Rattle.info65.specs.Values.{ValueView, value_of}
 use Rattle.info65.specs.Views.{InfoView, OptionsView}
-use Rattle.info65.specs.declared.syntax.attribute.Attribute.{Attribute}
-use Rattle.info65.specs.declared.syntax.attribute.GroupKind.{GroupKind}
+use Rattle.info65.specs.Types.{Attribute, GroupKind}
 
 -- what each token has to be: the name of a group, the name of an attribute of a group, a value that the
 -- attribute can have, or a mark

@@ -5,9 +5,8 @@ use denote.Enum.Bare.{sameb}
 use Rattle.info65.specs.contracts.syntax.attribute.Attribute as attribute_type
 use Rattle.info65.specs.Attributes.{form_of}
 use Rattle.info65.specs.Values.{HasForm, ValueView}
-use Rattle.info65.specs.declared.syntax.attribute.Attribute.{Attribute}
+use Rattle.info65.specs.Types.{Attribute, GroupKind}
 use Rattle.info65.specs.declared.syntax.attribute.Attribute.TheVariants as attribute
-use Rattle.info65.specs.declared.syntax.attribute.GroupKind.{GroupKind}
 use Rattle.info65.specs.declared.syntax.attribute.GroupKind.TheVariants as group
 
 -- an attribute and its value

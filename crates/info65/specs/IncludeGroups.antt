@@ -5,12 +5,9 @@ use Rattle.std.specs.Option.{unwrap_or}
 use Rattle.info65.specs.Groups.{AssignmentView, GroupView, value_in}
 use Rattle.info65.specs.Values.{as_boolean, as_character, as_name, is_file_name}
 use Rattle.info65.specs.Views.{IncludeView}
-use Rattle.info65.specs.declared.syntax.attribute.Attribute.{Attribute}
+use Rattle.info65.specs.Types.{Attribute, GroupKind, InfoFaultKind, Missing}
 use Rattle.info65.specs.declared.syntax.attribute.Attribute.TheVariants as attribute
-use Rattle.info65.specs.declared.syntax.attribute.GroupKind.{GroupKind}
 use Rattle.info65.specs.declared.syntax.attribute.GroupKind.TheVariants as group
-use Rattle.info65.specs.declared.fault.InfoFaultKind.{InfoFaultKind}
-use Rattle.info65.specs.declared.fault.InfoFaultKind.TheVariants.{Missing}
 
 -- FILE is needed; without COMMENTSTART a comment begins with `;` (59), and IGNOREUNKNOWN is off by default
 abbrev pub include_from : Option (List ℕ) → Option ℕ → Option Bool → Result IncludeView InfoFaultKind

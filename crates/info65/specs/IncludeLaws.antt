@@ -11,7 +11,7 @@ use Rattle.info65.specs.Lexemes.{are_digits}
 use Rattle.info65.specs.Values.{ValueView, a_boolean, a_character, a_name}
 use Rattle.info65.specs.Views.{IncludeView, InfoView, NameView, OptionsView}
 use Rattle.info65.specs.declared.syntax.attribute.Attribute.TheVariants as attribute
-use Rattle.info65.specs.declared.syntax.attribute.GroupKind.{GroupKind}
+use Rattle.info65.specs.Types.{GroupKind}
 use Rattle.info65.specs.declared.syntax.attribute.GroupKind.TheVariants as group
 
 -- ---- the include files of an information file

@@ -12,9 +12,7 @@ use Rattle.info65.specs.Labels.{by_address, is_at, is_elsewhere, named}
 use Rattle.info65.specs.Lexemes.{number_in, starts_word}
 use Rattle.info65.specs.Names.{is_reserved}
 use Rattle.info65.specs.Views.{IncludeView, InfoView, NameView}
-use Rattle.info65.specs.declared.fault.InfoFault.{InfoFault}
-use Rattle.info65.specs.declared.fault.InfoFaultKind.{InfoFaultKind}
-use Rattle.info65.specs.declared.fault.InfoFaultKind.TheVariants.{BadInclude, BadName, NameTwice, ReservedName, TooLarge}
+use Rattle.info65.specs.Types.{BadInclude, BadName, InfoFault, InfoFaultKind, NameTwice, ReservedName, TooLarge}
 
 -- ---- a line
 

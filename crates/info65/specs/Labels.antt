@@ -11,11 +11,8 @@ use Rattle.info65.specs.Ranges.{range_in}
 use Rattle.info65.specs.Values.{as_address, as_name, as_number}
 use Rattle.info65.specs.Views.{NameView}
 use Rattle.info65.specs.declared.syntax.attribute.Attribute.TheVariants as attribute
-use Rattle.info65.specs.declared.syntax.attribute.GroupKind.{GroupKind}
+use Rattle.info65.specs.Types.{AddressTwice, GroupKind, InfoFaultKind, Missing, NameTwice, OutOfRange, RangeSpec, ReservedName}
 use Rattle.info65.specs.declared.syntax.attribute.GroupKind.TheVariants as group
-use Rattle.info65.specs.declared.fault.InfoFaultKind.{InfoFaultKind}
-use Rattle.info65.specs.declared.fault.InfoFaultKind.TheVariants.{AddressTwice, Missing, NameTwice, OutOfRange, ReservedName}
-use Rattle.info65.specs.declared.information.range.RangeSpec.{RangeSpec}
 
 -- ---- what a group says
 

@@ -11,11 +11,8 @@ use Rattle.info65.specs.Tokens.{TokenView, tokens_of}
 use Rattle.info65.specs.Values.{a_number, a_type, an_address}
 use Rattle.info65.specs.Views.{InfoView, OptionsView}
 use Rattle.info65.specs.declared.syntax.attribute.Attribute.TheVariants as attribute
-use Rattle.info65.specs.declared.syntax.attribute.GroupKind.{GroupKind}
+use Rattle.info65.specs.Types.{Expected, GroupKind, InfoFault, RangeSpec, RangesOverlap, TooLarge}
 use Rattle.info65.specs.declared.syntax.attribute.GroupKind.TheVariants as group
-use Rattle.info65.specs.declared.fault.InfoFault.{InfoFault}
-use Rattle.info65.specs.declared.fault.InfoFaultKind.TheVariants.{Expected, RangesOverlap, TooLarge}
-use Rattle.info65.specs.declared.information.range.RangeSpec.{RangeSpec}
 
 -- A text is accepted, and says this, exactly where it is an information file that says this.
 abbrev pub AcceptsFiles : Type 0

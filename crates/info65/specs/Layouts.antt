@@ -3,12 +3,8 @@
 -- How many bytes an entry of a type has, how many entries a line takes at most, and what an entry is: a number of 1, 2 or 4 bytes,
 -- an address, an address less one, or a character. A line of numbers has at most 8 bytes.
 use Rattle.std.specs.Prelude.{◌≡◌, ◌⊎◌, ◌*◌, ◌≤◌, ℕ}
-use Rattle.isa65.specs.declared.byte_order.ByteOrder.{ByteOrder}
-use Rattle.isa65.specs.declared.byte_order.ByteOrder.TheVariants.{LittleEndian, BigEndian}
+use Rattle.info65.specs.Types.{Address, BigEndian, ByteOrder, Character, Instruction, Layout, LittleEndian, Number, RangeType, Return, Skipped}
 use Rattle.info65.specs.declared.information.range.Entry.{Entry}
-use Rattle.info65.specs.declared.information.range.Entry.TheVariants.{Instruction, Number, Address, Return, Character, Skipped}
-use Rattle.info65.specs.declared.information.range.Layout.{Layout}
-use Rattle.info65.specs.declared.information.range.RangeType.{RangeType}
 use Rattle.info65.specs.declared.information.range.RangeType.TheVariants as range_type
 
 -- how many bytes an entry has, how many entries a line takes at most, and what an entry is

@@ -5,10 +5,8 @@ use Rattle.std.specs.Char.{is_ascii_alphabetic, is_ascii_digit, is_ascii_hexdigi
 use Rattle.std.specs.Str.Parse.{digits_value}
 use Rattle.text65.specs.Names.{is_word_byte}
 use Rattle.info65.specs.Faults.{fault}
-use Rattle.info65.specs.declared.syntax.lexeme.Class.{Class}
+use Rattle.info65.specs.Types.{BadByte, BadNumber, Class, InfoFault, OpenString}
 use Rattle.info65.specs.declared.syntax.lexeme.Class.TheVariants as class
-use Rattle.info65.specs.declared.fault.InfoFault.{InfoFault}
-use Rattle.info65.specs.declared.fault.InfoFaultKind.TheVariants.{BadByte, OpenString, BadNumber}
 
 -- what a token is, with its value
 pub data KindView : Type 0 where

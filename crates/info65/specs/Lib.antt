@@ -26,3 +26,5 @@ pub mod Tokens
 pub mod Values
 pub mod Views
 pub mod Tags
+pub mod Types
+pub mod Words

@@ -5,12 +5,8 @@ use Rattle.info65.specs.Comments.{lacks_name}
 use Rattle.info65.specs.Groups.{AssignmentView, GroupView, value_in}
 use Rattle.info65.specs.Values.{as_address, as_number, as_type}
 use Rattle.info65.specs.declared.syntax.attribute.Attribute.TheVariants as attribute
-use Rattle.info65.specs.declared.syntax.attribute.GroupKind.{GroupKind}
+use Rattle.info65.specs.Types.{GroupKind, InfoFaultKind, Missing, OutOfRange, RangeSpec, RangeType}
 use Rattle.info65.specs.declared.syntax.attribute.GroupKind.TheVariants as group
-use Rattle.info65.specs.declared.fault.InfoFaultKind.{InfoFaultKind}
-use Rattle.info65.specs.declared.fault.InfoFaultKind.TheVariants.{Missing, OutOfRange}
-use Rattle.info65.specs.declared.information.range.RangeSpec.{RangeSpec}
-use Rattle.info65.specs.declared.information.range.RangeType.{RangeType}
 
 -- the address belongs to the range: both ends do
 abbrev pub has_address : RangeSpec → ℕ → Bool

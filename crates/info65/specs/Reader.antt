@@ -13,11 +13,7 @@ use Rattle.info65.specs.Settings.{info_of}
 use Rattle.info65.specs.Tokens.{Stream, TokenView, tokens_of}
 use Rattle.info65.specs.Values.{ValueView, value_of}
 use Rattle.info65.specs.Views.{InfoView, OptionsView}
-use Rattle.info65.specs.declared.syntax.attribute.Attribute.{Attribute}
-use Rattle.info65.specs.declared.syntax.attribute.GroupKind.{GroupKind}
-use Rattle.info65.specs.declared.fault.InfoFault.{InfoFault}
-use Rattle.info65.specs.declared.fault.InfoFaultKind.{InfoFaultKind}
-use Rattle.info65.specs.declared.fault.InfoFaultKind.TheVariants.{Expected, GivenTwice, TooLarge, UnknownAttribute, UnknownGroup}
+use Rattle.info65.specs.Types.{Attribute, Expected, GivenTwice, GroupKind, InfoFault, InfoFaultKind, TooLarge, UnknownAttribute, UnknownGroup}
 
 -- Where the reader is, what is due there, and the faults of the token in their order:
 --

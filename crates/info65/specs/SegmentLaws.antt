@@ -7,9 +7,8 @@ use Rattle.info65.specs.Segments.{AreSegments, contains, segment_at, segment_cov
 use Rattle.info65.specs.Values.{a_name, an_address}
 use Rattle.info65.specs.Views.{InfoView, OptionsView, SegmentView}
 use Rattle.info65.specs.declared.syntax.attribute.Attribute.TheVariants as attribute
-use Rattle.info65.specs.declared.syntax.attribute.GroupKind.{GroupKind}
+use Rattle.info65.specs.Types.{GroupKind, SegmentsOverlap}
 use Rattle.info65.specs.declared.syntax.attribute.GroupKind.TheVariants as group
-use Rattle.info65.specs.declared.fault.InfoFaultKind.TheVariants.{SegmentsOverlap}
 
 -- What is given in a group SEGMENT says this segment: START is its first address, END its last, and NAME
 -- its name.

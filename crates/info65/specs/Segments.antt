@@ -10,10 +10,8 @@ use Rattle.info65.specs.Groups.{AssignmentView, GroupView, value_in}
 use Rattle.info65.specs.Values.{as_address, as_name}
 use Rattle.info65.specs.Views.{SegmentView}
 use Rattle.info65.specs.declared.syntax.attribute.Attribute.TheVariants as attribute
-use Rattle.info65.specs.declared.syntax.attribute.GroupKind.{GroupKind}
+use Rattle.info65.specs.Types.{GroupKind, InfoFaultKind, Missing, OutOfRange}
 use Rattle.info65.specs.declared.syntax.attribute.GroupKind.TheVariants as group
-use Rattle.info65.specs.declared.fault.InfoFaultKind.{InfoFaultKind}
-use Rattle.info65.specs.declared.fault.InfoFaultKind.TheVariants.{Missing, OutOfRange}
 
 -- the address belongs to the segment: both ends do
 abbrev pub contains : SegmentView → ℕ → Bool

@@ -1,7 +1,7 @@
 -- The settings: what the command line gives wins over the groups GLOBAL, and these over the defaults.
 use Rattle.std.specs.Prelude.{◌||◌, false, List}
 use Rattle.std.specs.Option.{option_or, unwrap_or}
-use Rattle.isa65.specs.declared.cpu.Cpu.TheVariants.{M6502}
+use Rattle.info65.specs.Types.{M6502}
 use Rattle.info65.specs.Groups.{AssignmentView, GroupView, global_given, value_in}
 use Rattle.info65.specs.IncludeGroups.{includes_of}
 use Rattle.info65.specs.Labels.{by_address, names_said}

@@ -5,7 +5,7 @@ use Rattle.info65.specs.Names.{AreNames}
 use Rattle.info65.specs.Ranges.{AreRanges}
 use Rattle.info65.specs.Segments.{AreSegments}
 use Rattle.info65.specs.Views.{AreInLimits, IncludeView, NameView, SegmentView, SettingsView}
-use Rattle.info65.specs.declared.information.range.RangeSpec.{RangeSpec}
+use Rattle.info65.specs.Types.{RangeSpec}
 
 -- the settings are in their limits, and the ranges, the segments, the names and the include files are those
 -- of one file

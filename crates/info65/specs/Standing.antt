@@ -2,7 +2,7 @@
 use Rattle.std.specs.Prelude.{◌≡◌, ◌==◌, ◌+◌, ◌||◌, ℕ, Bool, true, false, not, List, [], ◌∷◌, ◌++◌, Result, Ok, Err, take, drop, if◌then◌else◌}
 use Rattle.info65.specs.Lexemes.{lexeme_at}
 use Rattle.info65.specs.Tokens.{TokenView, is_blank, opens_comment, tokens_of}
-use Rattle.info65.specs.declared.fault.InfoFault.{InfoFault}
+use Rattle.info65.specs.Types.{InfoFault}
 
 -- how many line feeds stand in bytes
 abbrev pub feeds : List ℕ → ℕ

@@ -5,17 +5,12 @@ use Rattle.std.specs.Str.{str_eq_ignore_ascii_case}
 use Rattle.info65.specs.Faults.{fault, ◌>>=◌}
 use Rattle.info65.specs.Lexemes.{KindView, closing_brace, number, opening_brace, semicolon, word}
 use Rattle.info65.specs.Tokens.{TokenView, tokens_of}
-use Rattle.info65.specs.declared.fault.InfoFault.{InfoFault}
-use Rattle.info65.specs.declared.fault.InfoFaultKind.TheVariants.{Expected, GivenTwice, Missing, OutOfRange, UnknownAttribute, UnknownGroup}
+use Rattle.info65.specs.Types.{Expected, GivenTwice, InfoFault, Missing, OutOfRange, Spot, Tag, TagAttribute, TagKind, UnknownAttribute, UnknownGroup}
 use Rattle.info65.specs.declared.tags.place.Outcome.{Outcome}
 use Rattle.info65.specs.declared.tags.place.Place.{Place}
 use Rattle.info65.specs.declared.tags.place.Place.TheVariants as place
-use Rattle.info65.specs.declared.tags.tag.Tag.{Tag}
-use Rattle.info65.specs.declared.tags.tag.TagAttribute.{TagAttribute}
 use Rattle.info65.specs.declared.tags.tag.TagAttribute.TheVariants as attribute
-use Rattle.info65.specs.declared.tags.tag.TagKind.{TagKind}
 use Rattle.info65.specs.declared.tags.tag.TagKind.TheVariants as kind
-use Rattle.info65.specs.declared.tags.tagged_text.Spot.{Spot}
 use Rattle.info65.specs.declared.tags.tagged_text.Spot.TheVariants as spot
 
 -- ---- the text of the groups

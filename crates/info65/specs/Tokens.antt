@@ -1,7 +1,7 @@
 -- The tokens of a text with their lines, and how they end.
 use Rattle.std.specs.Prelude.{◌≡◌, ◌==◌, ◌+◌, ◌&&◌, ◌||◌, ℕ, zero, suc, Bool, true, false, List, [], ◌∷◌, Result, Ok, Err, take, slice_index, if◌then◌else◌}
 use Rattle.info65.specs.Lexemes.{KindView, LexemeView, lexeme_at}
-use Rattle.info65.specs.declared.fault.InfoFault.{InfoFault}
+use Rattle.info65.specs.Types.{InfoFault}
 
 -- a token, without where its text lies in memory
 pub record TokenView : Type 0 where

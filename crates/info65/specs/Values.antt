@@ -1,22 +1,17 @@
 -- Values of attributes, and their faults.
 use Rattle.std.specs.Prelude.{◌≡◌, ◌≤◌, ℕ, Bool, true, false, ◌&&◌, ◌==◌, not, List, Option, Some, None, Result, Ok, Err, length, is_some, nat_le, if◌then◌else◌}
 use Rattle.std.specs.List.{list_all}
-use Rattle.isa65.specs.declared.cpu.Cpu.{Cpu}
+use Rattle.info65.specs.Types.{Attribute, BadName, Cpu, Expected, Form, InfoFault, NameConflict, OutOfRange, RangeType}
 use Rattle.text65.specs.Names.{has_name_form}
 use Rattle.info65.specs.Attributes.{boolean_named, form_of, type_named}
-use Rattle.isa65.specs.Cpu.{cpu_named}
+use Rattle.isa65.specs.Words.{cpu_named}
 use Rattle.info65.specs.Faults.{fault}
 use Rattle.info65.specs.Lexemes.{KindView, character, number, string, word}
 use Rattle.info65.specs.Names.{has_comment_form}
 use Rattle.info65.specs.Tokens.{TokenView}
 use Rattle.info65.specs.Views.{OptionsView}
-use Rattle.info65.specs.declared.syntax.attribute.Attribute.{Attribute}
 use Rattle.info65.specs.declared.syntax.attribute.Attribute.TheVariants as attribute
-use Rattle.info65.specs.declared.syntax.attribute.Form.{Form}
 use Rattle.info65.specs.declared.syntax.attribute.Form.TheVariants as form
-use Rattle.info65.specs.declared.fault.InfoFault.{InfoFault}
-use Rattle.info65.specs.declared.fault.InfoFaultKind.TheVariants.{Expected, OutOfRange, BadName, NameConflict}
-use Rattle.info65.specs.declared.information.range.RangeType.{RangeType}
 
 -- the value of an attribute
 pub data ValueView : Type 0 where

@@ -1,9 +1,7 @@
 -- What contracts see of options, settings and an information file: names as lists of bytes.
 use Rattle.std.specs.Prelude.{◌≤◌, ℕ, Bool, false, IfSome, List, Option, None, option_map, String}
 use Rattle.std.specs.String.{string_bytes}
-use Rattle.isa65.specs.declared.cpu.Cpu.{Cpu}
-use Rattle.isa65.specs.declared.cpu.Cpu.TheVariants.{M6502}
-use Rattle.info65.specs.declared.information.range.RangeSpec.{RangeSpec}
+use Rattle.info65.specs.Types.{Cpu, M6502, RangeSpec}
 
 abbrev pub name_seen : {Z : Type 0} → Option (String Z) → Option (List ℕ)
 name_seen = option_map string_bytes

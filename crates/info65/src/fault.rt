@@ -1,7 +1,7 @@
 //! What an information file can be refused for.
 
 ghost use Rattle.std.specs.Prelude.{◌≡◌};
-ghost use Rattle.info65.specs.Faults.{fault, fault_text};
+ghost use Rattle.info65.specs.Words.{fault, fault_text};
 
 use std::alloc::{AllocError, AllocFailed};
 use thiserror::Error;

@@ -1,10 +1,6 @@
 //! Laws of information files.
 
-ghost use Rattle.info65.specs.IncludeLaws.{IncludesSaid, LinesSpelled};
-ghost use Rattle.info65.specs.Laws.{AcceptsFiles, GivenOnce, GlobalOnce, OverlapsShare, RangesApart, RefusesFirst};
-ghost use Rattle.info65.specs.NameLaws.{CoversHighest, NamesGiven, OwnAddressWins};
-ghost use Rattle.info65.specs.SegmentLaws.{CoversOne, SegmentsApart, SegmentsShare};
-ghost use Rattle.info65.specs.Standing.{TokensStand};
+ghost use Rattle.info65.specs.Words.{AcceptsFiles, CoversHighest, CoversOne, GivenOnce, GlobalOnce, IncludesSaid, LinesSpelled, NamesGiven, OverlapsShare, OwnAddressWins, RangesApart, RefusesFirst, SegmentsApart, SegmentsShare, TokensStand};
 
 /// A text is accepted exactly where its whole token list splits into groups that keep every condition.
 pub fn accepts_files()

@@ -4,11 +4,8 @@ use Rattle.std.specs.Bool.{then_some}
 use Rattle.std.specs.Str.{str_eq_ignore_ascii_case, str_to_ascii_lowercase}
 use Rattle.std.proofs.lemmas.Bool.{false_from_ne_true}
 use Rattle.std.proofs.lemmas.Slice.Eq.{bytes_eq-Decides}
-use Rattle.isa65.specs.declared.mnemonic.Mnemonic.{Mnemonic}
-use Rattle.isa65.specs.declared.mnemonic.Mnemonic.TheVariants.{Adc}
-use Rattle.isa65.specs.Mnemonic.{text_of, mnemonic_named}
+use Rattle.isa65.specs.Words.{Adc, Mnemonic, candidate, mnemonic_named, number_of, text_of}
 use Rattle.isa65.proofs.MnemonicLaws.{lowercase-text_of, mnemonic_named-is}
-use Rattle.isa65.specs.Candidates.{number_of, candidate}
 
 -- each mnemonic is the candidate of its own text
 candidate-text_of : (m : Mnemonic) → candidate (text_of m) ≡ m

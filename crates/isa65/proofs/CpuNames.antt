@@ -3,10 +3,8 @@ use Rattle.std.specs.Prelude.{◌≡◌, ◌↔◌, ◌≤◌, ℕ, List, length
 use Rattle.std.specs.Str.{str_eq_ignore_ascii_case, str_to_ascii_lowercase}
 use Rattle.std.proofs.Common.{sym, arith}
 use Rattle.std.proofs.lemmas.Slice.Eq.{bytes_eq-Decides}
-use Rattle.isa65.specs.declared.cpu.Cpu.{Cpu}
-use Rattle.isa65.specs.declared.cpu.Cpu.TheVariants.{M6502, M65SC02, M65C02}
+use Rattle.isa65.specs.Words.{Cpu, IsNameOf, M6502, M65C02, M65SC02, cpu_named, cpu_text}
 use Rattle.isa65.specs.declared.cpu.TheConstants.{ALL}
-use Rattle.isa65.specs.Cpu.{cpu_text, cpu_named, IsNameOf}
 use Rattle.isa65.proofs.Finding.{find-passes}
 
 -- the text of each CPU fits in quotes, and names it

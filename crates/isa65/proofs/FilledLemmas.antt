@@ -8,14 +8,7 @@ use denote.Enum.Bare.{tag_one}
 use denote.Enum.Declared.{tag_of}
 use Rattle.isa65.specs.contracts.mnemonic.Mnemonic as mnemonic
 use Rattle.isa65.specs.contracts.mode.Mode as mode
-use Rattle.isa65.specs.declared.mnemonic.Mnemonic.{Mnemonic}
-use Rattle.isa65.specs.declared.mnemonic.Mnemonic.TheVariants.{Adc}
-use Rattle.isa65.specs.declared.mode.Mode.{Mode}
-use Rattle.isa65.specs.declared.mode.Mode.TheVariants.{Imp}
-use Rattle.isa65.specs.declared.op.Op.{Op}
-use Rattle.isa65.specs.Opcodes.{Table, decoded, encoded}
-use Rattle.isa65.specs.OpcodeLaws.{IsSound, opcode-lt, encoded-decoded}
-use Rattle.isa65.specs.Places.{place_of, with_code}
+use Rattle.isa65.specs.Words.{Adc, Imp, IsSound, Mnemonic, Mode, Op, Table, decoded, encoded, encoded-decoded, opcode-lt, place_of, with_code}
 
 mnemonic-small : (m : Mnemonic) → nat_lt (tag_of mnemonic.the_type m) 96 ≡ true
 mnemonic-small Adc = refl

@@ -3,14 +3,7 @@ use Rattle.std.proofs.Common.{◌≡◌, ℕ, ◌+◌, ◌*◌, List, [], ◌∷
 use Rattle.std.specs.Prelude.{◌&&◌, Option, Some, None, codes, map, if◌then◌else◌}
 use Rattle.std.specs.List.{flat_map}
 use Rattle.std.specs.Str.{bytes_eq}
-use Rattle.isa65.specs.Cmos65Sc02.{cmos_65sc02}
-use Rattle.isa65.specs.Mnemonic.{text_of}
-use Rattle.isa65.specs.Mos6502.{mos_6502}
-use Rattle.isa65.specs.Opcodes.{decoded}
-use Rattle.isa65.specs.Rockwell65C02.{rockwell_65c02}
-use Rattle.isa65.specs.declared.mode.Mode.{Mode}
-use Rattle.isa65.specs.declared.mode.Mode.TheVariants.{Imp, Acc, Imm, Zp, Zpx, Zpy, Abs, Absx, Absy, Ind, Indx, Indy, Zpind, Absindx, Rel, Zprel}
-use Rattle.isa65.specs.declared.op.Op.{Op}
+use Rattle.isa65.specs.Words.{Abs, Absindx, Absx, Absy, Acc, Imm, Imp, Ind, Indx, Indy, Mode, Op, Rel, Zp, Zpind, Zprel, Zpx, Zpy, cmos_65sc02, decoded, mos_6502, rockwell_65c02, text_of}
 
 -- a mode as the matrix shows it
 abbrev mode_text : Mode → List ℕ

@@ -4,11 +4,9 @@ use Rattle.std.specs.List.{find}
 use Rattle.std.specs.Str.{bytes_eq, str_eq_ignore_ascii_case, str_to_ascii_lowercase}
 use Rattle.std.proofs.Common.{sym, ◌∙◌, arith}
 use Rattle.std.proofs.lemmas.Slice.Eq.{bytes_eq-Decides}
-use Rattle.isa65.specs.declared.mnemonic.Mnemonic.{Mnemonic}
-use Rattle.isa65.specs.declared.mnemonic.Mnemonic.TheVariants.{Adc}
+use Rattle.isa65.specs.Words.{Adc, Mnemonic, mnemonic_named, text_of}
 use Rattle.isa65.specs.declared.mnemonic.TheConstants.{ALL}
 use Rattle.isa65.proofs.Finding.{find-passes}
-use Rattle.isa65.specs.Mnemonic.{text_of, mnemonic_named}
 
 pub lowercase-text_of : (m : Mnemonic) → str_to_ascii_lowercase (text_of m) ≡ text_of m
 lowercase-text_of Adc = refl

@@ -1,8 +1,6 @@
 -- How many bytes an instruction has: one to three.
 use Rattle.std.proofs.Common.{ℕ, ◌≤◌, arith}
-use Rattle.isa65.specs.Mode.{len_of}
-use Rattle.isa65.specs.declared.mode.Mode.{Mode}
-use Rattle.isa65.specs.declared.mode.Mode.TheVariants.{Imp}
+use Rattle.isa65.specs.Words.{Imp, Mode, len_of}
 
 pub len-positive : (x : Mode) → 1 ≤ len_of x
 len-positive Imp = omega arith

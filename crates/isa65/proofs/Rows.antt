@@ -1,16 +1,7 @@
 -- The definitions held against small texts, and against what the data sheets say of modes.
 use Rattle.std.proofs.Common.{◌≡◌, List, [], ◌∷◌, refl}
 use Rattle.std.specs.Prelude.{Option, Some, None, codes, map}
-use Rattle.isa65.specs.Cpu.{cpu_named, cpu_text, table_of}
-use Rattle.isa65.specs.Mnemonic.{mnemonic_named}
-use Rattle.isa65.specs.Mode.{len_of, written}
-use Rattle.isa65.specs.Opcodes.{sibling_in}
-use Rattle.isa65.specs.declared.cpu.Cpu.{Cpu}
-use Rattle.isa65.specs.declared.cpu.Cpu.TheVariants.{M6502, M65SC02, M65C02}
-use Rattle.isa65.specs.declared.mnemonic.Mnemonic.{Mnemonic}
-use Rattle.isa65.specs.declared.mnemonic.Mnemonic.TheVariants.{Adc, Jmp, Lda, Ldx, Rmb7, Smb7, Stx, Stz, Tya}
-use Rattle.isa65.specs.declared.mode.Mode.{Mode}
-use Rattle.isa65.specs.declared.mode.Mode.TheVariants.{Imp, Acc, Imm, Zp, Zpx, Zpy, Abs, Absx, Absy, Ind, Indx, Indy, Zpind, Absindx, Rel, Zprel}
+use Rattle.isa65.specs.Words.{Abs, Absindx, Absx, Absy, Acc, Adc, Cpu, Imm, Imp, Ind, Indx, Indy, Jmp, Lda, Ldx, M6502, M65C02, M65SC02, Mnemonic, Mode, Rel, Rmb7, Smb7, Stx, Stz, Tya, Zp, Zpind, Zprel, Zpx, Zpy, cpu_named, cpu_text, len_of, mnemonic_named, sibling_in, table_of, written}
 
 -- the mnemonics of some texts in any letter case, and of texts that are none
 words : map mnemonic_named (codes "adc" ∷ codes "TYA" ∷ codes "Rmb7" ∷ codes "sMB7" ∷ [] ∷ codes "ad" ∷ codes "adcc" ∷ codes "rmb8" ∷ codes "wai" ∷ codes "stp" ∷ [])

@@ -1,8 +1,7 @@
 -- How a word is looked up among the mnemonics: its number leads to the only one that it can be.
 use Rattle.std.specs.Prelude.{ℕ, ◌+◌, ◌*◌, ◌%◌, List, get_or}
-use Rattle.isa65.specs.declared.mnemonic.Mnemonic.{Mnemonic}
-use Rattle.isa65.specs.declared.mnemonic.Mnemonic.TheVariants.{Adc}
-use Rattle.isa65.specs.declared.mnemonic.TheConstants.{ALL, PLACES}
+use Rattle.isa65.specs.Types.{Adc, Mnemonic, PLACES}
+use Rattle.isa65.specs.declared.mnemonic.TheConstants.{ALL}
 
 -- a number of the first four letters
 unfoldable pub number_of : List ℕ → ℕ

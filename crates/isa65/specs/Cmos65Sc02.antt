@@ -2,8 +2,7 @@
 use Rattle.std.specs.Prelude.{◌∷◌, ◌++◌, []}
 use Rattle.isa65.specs.Opcodes.{Table, none, in_columns, in_mode}
 use Rattle.isa65.specs.Mos6502.{mos_6502}
-use Rattle.isa65.specs.declared.mode.Mode.TheVariants.{Imp, Acc, Imm, Zp, Zpx, Abs, Absx, Zpind, Absindx, Rel}
-use Rattle.isa65.specs.declared.mnemonic.Mnemonic.TheVariants.{Adc, And, Bit, Bra, Cmp, Dec, Eor, Inc, Jmp, Lda, Ora, Phx, Phy, Plx, Ply, Sbc, Sta, Stz, Trb, Tsb}
+use Rattle.isa65.specs.Types.{Abs, Absindx, Absx, Acc, Adc, And, Bit, Bra, Cmp, Dec, Eor, Imm, Imp, Inc, Jmp, Lda, Ora, Phx, Phy, Plx, Ply, Rel, Sbc, Sta, Stz, Trb, Tsb, Zp, Zpind, Zpx}
 
 -- zeros and bits in memory
 abbrev pub zeros_and_bits : Table

@@ -2,8 +2,7 @@
 use Rattle.std.specs.Prelude.{◌≡◌, ℕ, ◌≤◌, Bool, true, ◌&&◌, not, nat_lt, ◌==◌, List, codes, length, Option, Some}
 use Rattle.std.specs.List.{find, list_all}
 use Rattle.std.specs.Str.{str_eq_ignore_ascii_case}
-use Rattle.isa65.specs.declared.cpu.Cpu.{Cpu}
-use Rattle.isa65.specs.declared.cpu.Cpu.TheVariants.{M6502, M65SC02, M65C02}
+use Rattle.isa65.specs.Types.{Cpu, M6502, M65C02, M65SC02}
 use Rattle.isa65.specs.declared.cpu.TheConstants.{ALL}
 use Rattle.isa65.specs.Opcodes.{Table}
 use Rattle.isa65.specs.Mos6502.{mos_6502}

@@ -1,7 +1,6 @@
 -- Each CPU's table is sound.
 use Rattle.std.specs.Prelude.{refl}
-use Rattle.isa65.specs.declared.cpu.Cpu.{Cpu}
-use Rattle.isa65.specs.declared.cpu.Cpu.TheVariants.{M6502, M65SC02, M65C02}
+use Rattle.isa65.specs.Types.{Cpu, M6502, M65C02, M65SC02}
 use Rattle.isa65.specs.Cpu.{table_of}
 use Rattle.isa65.specs.Mos6502.{mos_6502}
 use Rattle.isa65.specs.Cmos65Sc02.{cmos_65sc02}

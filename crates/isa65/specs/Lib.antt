@@ -11,3 +11,5 @@ pub mod Cpu
 -- what the laws of an opcode set cite
 pub mod OpcodeLaws
 pub mod CpuLaws
+pub mod Types
+pub mod Words

@@ -13,9 +13,7 @@ use denote.Enum.Bare.{sameb, same_true, true_same}
 use Rattle.isa65.specs.Mode.{written, zero_page_of, IsZeroPageOf}
 use Rattle.isa65.specs.contracts.mnemonic.Mnemonic as mnemonic
 use Rattle.isa65.specs.contracts.mode.Mode as mode
-use Rattle.isa65.specs.declared.mnemonic.Mnemonic.{Mnemonic}
-use Rattle.isa65.specs.declared.mode.Mode.{Mode}
-use Rattle.isa65.specs.declared.op.Op.{Op}
+use Rattle.isa65.specs.Types.{Mnemonic, Mode, Op}
 use Rattle.isa65.specs.Opcodes.{DifferInSize, Entry, Table, InTable, decoded, encoded}
 
 -- two functions that agree over a list agree at each of its elements

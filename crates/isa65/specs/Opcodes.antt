@@ -7,9 +7,7 @@ use denote.Enum.Bare.{sameb}
 use Rattle.isa65.specs.Mode.{IsZeroPageOf, written, zero_page_of}
 use Rattle.isa65.specs.contracts.mnemonic.Mnemonic as mnemonic
 use Rattle.isa65.specs.contracts.mode.Mode as mode
-use Rattle.isa65.specs.declared.mnemonic.Mnemonic.{Mnemonic}
-use Rattle.isa65.specs.declared.mode.Mode.{Mode}
-use Rattle.isa65.specs.declared.op.Op.{Op}
+use Rattle.isa65.specs.Types.{Mnemonic, Mode, Op}
 
 -- an opcode, and what it stands for
 abbrev pub Entry : Type 0

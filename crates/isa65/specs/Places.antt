@@ -3,9 +3,7 @@ use Rattle.std.specs.Prelude.{ℕ, ◌+◌, ◌*◌, List, Option, Some, None, s
 use denote.Enum.Declared.{tag_of}
 use Rattle.isa65.specs.contracts.mnemonic.Mnemonic as mnemonic
 use Rattle.isa65.specs.contracts.mode.Mode as mode
-use Rattle.isa65.specs.declared.mnemonic.Mnemonic.{Mnemonic}
-use Rattle.isa65.specs.declared.mode.Mode.{Mode}
-use Rattle.isa65.specs.declared.op.Op.{Op}
+use Rattle.isa65.specs.Types.{Mnemonic, Mode, Op}
 
 -- sixteen for each mnemonic, in the order in which mnemonics and modes are declared
 abbrev pub place_of : Mnemonic → Mode → ℕ

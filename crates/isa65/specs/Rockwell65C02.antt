@@ -2,8 +2,7 @@
 use Rattle.std.specs.Prelude.{◌∷◌, ◌++◌, []}
 use Rattle.isa65.specs.Opcodes.{Table, in_mode}
 use Rattle.isa65.specs.Cmos65Sc02.{cmos_65sc02}
-use Rattle.isa65.specs.declared.mode.Mode.TheVariants.{Zp, Zprel}
-use Rattle.isa65.specs.declared.mnemonic.Mnemonic.TheVariants.{Bbr0, Bbr1, Bbr2, Bbr3, Bbr4, Bbr5, Bbr6, Bbr7, Bbs0, Bbs1, Bbs2, Bbs3, Bbs4, Bbs5, Bbs6, Bbs7, Rmb0, Rmb1, Rmb2, Rmb3, Rmb4, Rmb5, Rmb6, Rmb7, Smb0, Smb1, Smb2, Smb3, Smb4, Smb5, Smb6, Smb7}
+use Rattle.isa65.specs.Types.{Bbr0, Bbr1, Bbr2, Bbr3, Bbr4, Bbr5, Bbr6, Bbr7, Bbs0, Bbs1, Bbs2, Bbs3, Bbs4, Bbs5, Bbs6, Bbs7, Rmb0, Rmb1, Rmb2, Rmb3, Rmb4, Rmb5, Rmb6, Rmb7, Smb0, Smb1, Smb2, Smb3, Smb4, Smb5, Smb6, Smb7, Zp, Zprel}
 
 -- a bit of the zero page reset or set
 abbrev pub bit_changes : Table

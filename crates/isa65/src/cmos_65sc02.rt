@@ -1,8 +1,6 @@
 //! The opcodes of the 65SC02.
 
-ghost use Rattle.isa65.specs.Cmos65Sc02.{cmos_65sc02};
-ghost use Rattle.isa65.specs.CpuLaws.{cmos_65sc02-sound};
-ghost use Rattle.isa65.specs.OpcodeLaws.{opcode-lt, encoded-decoded, written_alike};
+ghost use Rattle.isa65.specs.Words.{cmos_65sc02, cmos_65sc02-sound, encoded-decoded, opcode-lt, written_alike};
 
 use crate::mnemonic::Mnemonic;
 use crate::mode::Mode;

@@ -1,7 +1,7 @@
 //! The opcodes of a CPU in a table by mnemonic and mode.
 
 ghost use Rattle.std.specs.Prelude.{◌≡◌, ◌<◌, length};
-ghost use Rattle.isa65.specs.Places.{place_of, with_code};
+ghost use Rattle.isa65.specs.Words.{place_of, with_code};
 
 use crate::cpu::Cpu;
 use crate::mnemonic::Mnemonic;

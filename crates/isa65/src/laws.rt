@@ -1,9 +1,6 @@
 //! The law between the opcode sets, stated by a function that does nothing.
 
-ghost use Rattle.isa65.specs.Cmos65Sc02.{cmos_65sc02};
-ghost use Rattle.isa65.specs.Mos6502.{mos_6502};
-ghost use Rattle.isa65.specs.OpcodeLaws.{Keeps};
-ghost use Rattle.isa65.specs.Rockwell65C02.{rockwell_65c02};
+ghost use Rattle.isa65.specs.Words.{Keeps, cmos_65sc02, mos_6502, rockwell_65c02};
 
 /// A later CPU keeps what an earlier one decodes: where the 6502 decodes a byte the 65SC02 decodes it the
 /// same, and where the 65SC02 does so does the 65C02.

@@ -2,9 +2,7 @@
 
 ghost use Rattle.std.specs.Prelude.{◌≡◌, ◌↔◌, Some, get_or};
 ghost use Rattle.std.specs.Str.{str_eq_ignore_ascii_case, str_to_ascii_lowercase};
-ghost use Rattle.isa65.specs.Mnemonic.{text_of, mnemonic_named};
-ghost use Rattle.isa65.specs.Candidates.{candidate, number_of};
-ghost use Rattle.isa65.specs.declared.mnemonic.Mnemonic.TheVariants.{Adc};
+ghost use Rattle.isa65.specs.Words.{Adc, candidate, mnemonic_named, number_of, text_of};
 
 /// The name of an instruction: the 56 of the 6502, the 8 that the 65SC02 adds, and the 32 bit
 /// instructions of the 65C02, in this order.

@@ -1,7 +1,7 @@
 //! The addressing modes.
 
 ghost use Rattle.std.specs.Prelude.{◌≡◌};
-ghost use Rattle.isa65.specs.Mode.{len_of, row_of, zero_page_of};
+ghost use Rattle.isa65.specs.Words.{len_of, row_of, zero_page_of};
 
 use crate::row::{OperandKind, Pattern, Row};
 

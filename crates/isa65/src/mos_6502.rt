@@ -1,8 +1,6 @@
 //! The opcodes of the MOS 6502.
 
-ghost use Rattle.isa65.specs.Mos6502.{mos_6502};
-ghost use Rattle.isa65.specs.CpuLaws.{mos_6502-sound};
-ghost use Rattle.isa65.specs.OpcodeLaws.{opcode-lt, encoded-decoded, written_alike};
+ghost use Rattle.isa65.specs.Words.{encoded-decoded, mos_6502, mos_6502-sound, opcode-lt, written_alike};
 
 use crate::mnemonic::Mnemonic;
 use crate::mode::Mode;

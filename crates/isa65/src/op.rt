@@ -1,7 +1,7 @@
 //! Instructions without their operands.
 
 ghost use Rattle.std.specs.Prelude.{◌≡◌};
-ghost use Rattle.isa65.specs.Opcodes.{sibling_in};
+ghost use Rattle.isa65.specs.Words.{sibling_in};
 
 use crate::mnemonic::Mnemonic;
 use crate::mode::Mode;

@@ -1,8 +1,7 @@
 //! What the opcodes of a CPU stand for.
 
 ghost use Rattle.std.specs.Prelude.{◌≡◌, ◌↔◌, ◌<◌, ℕ, Some, IsTrue};
-ghost use Rattle.isa65.specs.declared.op.Op.{Op};
-ghost use Rattle.isa65.specs.Opcodes.{Table, DifferInSize, decoded, encoded, sibling_in};
+ghost use Rattle.isa65.specs.Words.{DifferInSize, Op, Table, decoded, encoded, sibling_in};
 
 use crate::mnemonic::Mnemonic;
 use crate::mode::Mode;

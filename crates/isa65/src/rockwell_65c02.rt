@@ -1,8 +1,6 @@
 //! The opcodes of the 65C02 with Rockwell's bit instructions.
 
-ghost use Rattle.isa65.specs.Rockwell65C02.{rockwell_65c02};
-ghost use Rattle.isa65.specs.CpuLaws.{rockwell_65c02-sound};
-ghost use Rattle.isa65.specs.OpcodeLaws.{opcode-lt, encoded-decoded, written_alike};
+ghost use Rattle.isa65.specs.Words.{encoded-decoded, opcode-lt, rockwell_65c02, rockwell_65c02-sound, written_alike};
 
 use crate::cmos_65sc02::Cmos65Sc02;
 use crate::mnemonic::Mnemonic;

@@ -1,7 +1,7 @@
 //! What a mode is: how its operands are written, and what each of them is.
 
 ghost use Rattle.std.specs.Prelude.{◌≡◌};
-ghost use Rattle.isa65.specs.Mode.{size_of};
+ghost use Rattle.isa65.specs.Words.{size_of};
 
 /// How an operand stands in the text, with E for its expression.
 #[derive(Clone, Copy, Debug, PartialEq, Eq)]

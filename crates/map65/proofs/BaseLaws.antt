@@ -5,23 +5,14 @@ use Rattle.std.proofs.lemmas.Bool.{and_from, both_ways, cases_eq, false_from_ne_
 use Rattle.std.proofs.lemmas.Bool.Decides.{nat_tests}
 use Rattle.text65.specs.Digits.{hex_digit}
 use Rattle.info65.proofs.Public.{last_name, layout_some, own_address_wins, like_default}
-use Rattle.info65.specs.Names.{AreNames, blank_name, covering, default_name, is_reserved, name_at}
-use Rattle.info65.specs.Views.{NameView}
-use Rattle.info65.specs.declared.information.range.RangeType.{RangeType}
-use Rattle.info65.specs.declared.information.range.RangeType.TheVariants.{Code}
+use Rattle.info65.specs.Words.{AreNames, NameView, blank_name, covering, default_name, is_reserved, name_at}
+use Rattle.map65.specs.Words.{Base, BaseLaw, Code, IsInCode, IsInner, LiesBy, MapView, PlaceLaw, RangeType, base_at, base_by, byte_at, default_base, entry_base, entry_start, full_len_at, given_base, is_inside, is_joined, is_own, is_referenced, is_skip, is_wide, item_len, item_start, place_of, role_at, role_of, size_at, size_for, unit_of}
 use Rattle.map65.proofs.ItemLaws.{begun, item_law}
 use Rattle.map65.proofs.ItemLemmas.{is_cut_at, joined-uncut, one-size}
 use Rattle.map65.proofs.NameLemmas.{base-covered, base-referenced, entry_start-default, entry_start-given, name-low, not-some}
 use Rattle.map65.proofs.NameLaws.{entry_start-entry_start, entry_start-inner, entry_start-referenced, under}
 use Rattle.map65.proofs.NamingLemmas.{entry_start_low, wide-shown}
 use Rattle.map65.proofs.PieceLaws.{own-some}
-use Rattle.map65.specs.Bases.{BaseLaw, IsInCode, LiesBy, PlaceLaw}
-use Rattle.map65.specs.ImageView.{byte_at, is_inside}
-use Rattle.map65.specs.Items.{item_len, item_start, size_at, size_for, full_len_at}
-use Rattle.map65.specs.MapView.{MapView}
-use Rattle.map65.specs.Names.{Base, IsInner, base_at, base_by, default_base, given_base, entry_start, entry_base, is_referenced, place_of}
-use Rattle.map65.specs.Pieces.{is_joined, is_own}
-use Rattle.map65.specs.Roles.{is_skip, is_wide, role_at, role_of, unit_of}
 
 -- ---- where a base comes from
 

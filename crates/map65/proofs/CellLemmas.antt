@@ -2,10 +2,7 @@
 use Rattle.std.proofs.Common.{◌≡◌, ◌≢◌, ◌∙◌, ℕ, ◌/◌, ◌%◌, ◌<◌, Bool, true, false, List, Option, Some, None, length, get_or, set, refl, ap, arith}
 use Rattle.std.proofs.lemmas.Bool.{eq-eqb, ne_eqb}
 use Rattle.std.proofs.lemmas.List.{get_or-set_other, get_or-set_same}
-use Rattle.info65.specs.declared.information.range.RangeType.{RangeType}
-use Rattle.info65.specs.declared.information.range.RangeType.TheVariants.{Code}
-use Rattle.map65.specs.Code.Cells.{CellLaw, AreNamed, cell_of, coded, is_named, has_border, is_wide_cell, is_wide_role, len_in_cell, role_in_cell, with_border, with_name, with_len}
-use Rattle.map65.specs.Cells.{bit, code_of}
+use Rattle.map65.specs.Words.{AreNamed, CellLaw, Code, RangeType, bit, cell_of, code_of, coded, has_border, is_named, is_wide_cell, is_wide_role, len_in_cell, role_in_cell, with_border, with_len, with_name}
 
 -- ---- one cell
 

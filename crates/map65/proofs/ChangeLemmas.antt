@@ -6,8 +6,7 @@ use Rattle.std.proofs.lemmas.Bool.{eq-eqb, ne_eqb}
 use Rattle.std.proofs.lemmas.Bool.Decides.{nat_tests}
 use Rattle.std.proofs.lemmas.List.Folds.{list_any_more}
 use Rattle.map65.proofs.CellLemmas.{set-cell}
-use Rattle.map65.specs.Code.Cells.{nowhere}
-use Rattle.map65.specs.Code.Marking.{Changes, changed, is_within}
+use Rattle.map65.specs.Words.{Changes, changed, is_within, nowhere}
 
 pub changes_none : (f : ℕ → ℕ) (cells : List ℕ) → length cells ≡ 65536 → Changes f nowhere cells cells
 changes_none f cells count = record { count = count; each = λ a room. refl }

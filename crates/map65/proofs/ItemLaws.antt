@@ -2,11 +2,7 @@
 use Rattle.std.proofs.Common.{◌≡◌, refl, ◌∙◌, inl, inr, ℕ, zero, suc, ◌+◌, ◌-◌, ◌<◌, ◌≤◌, ◌&&◌, ◌==◌, not, true, false, ap, sym, arith, ⊎_elim}
 use Rattle.std.proofs.lemmas.Bool.{and_from, and_parts, cases_Bool, cases_eq, cases_lt, eqb-true, not-true}
 use Rattle.map65.proofs.ItemLemmas.{belongs, inside-if, item-len-own, item_start-after, item_start-apart, item_start-further, joined-in, joined-piece, one-role, size-positive, start-apart, start-piece, within}
-use Rattle.map65.specs.ImageView.{end_of, is_inside}
-use Rattle.map65.specs.Items.{AreItems, CanBegin, EndsBefore, ItemLaw, item_len, item_start, size_at, full_len_at}
-use Rattle.map65.specs.MapView.{MapView}
-use Rattle.map65.specs.Pieces.{AreOnePiece, are_joined, is_joined}
-use Rattle.map65.specs.Roles.{is_skip, role_of}
+use Rattle.map65.specs.Words.{AreItems, AreOnePiece, CanBegin, EndsBefore, ItemLaw, MapView, are_joined, end_of, full_len_at, is_inside, is_joined, is_skip, item_len, item_start, role_of, size_at}
 
 -- ---- what is known where an item begins
 

@@ -2,17 +2,8 @@
 use Rattle.std.proofs.Common.{◌≡◌, ◌≢◌, ◌∙◌, ℕ, zero, suc, ◌+◌, ◌-◌, ◌<◌, ◌≤◌, ◌&&◌, ◌==◌, not, Bool, true, false, length, Option, Some, None, refl, ap, sym, arith, ⊎_elim}
 use Rattle.std.proofs.lemmas.Bool.{false≢true, and_parts, and_from, cases_eq, cases_lt, cond-true, cond-false, cond_both, eq-eqb, false_from_ne_true, ne_eqb, lt-ltb, le-leb, not-true}
 use Rattle.isa65.proofs.ModeLaws.{len-positive, len-small}
-use Rattle.isa65.specs.declared.op.Op.{Op}
-use Rattle.isa65.specs.Opcodes.{decoded}
-use Rattle.info65.specs.declared.information.range.RangeType.{RangeType}
-use Rattle.info65.specs.declared.information.range.RangeType.TheVariants.{Code, Skip}
-use Rattle.map65.specs.ImageView.{byte_at, end_of, is_inside}
-use Rattle.map65.specs.Items.{code_size, item_len, item_start, size_at, size_for, full_len_at}
-use Rattle.map65.specs.MapView.{MapView, opcodes}
-use Rattle.map65.specs.Pieces.{AreOnePiece, AreOneRun, are_joined, is_in_run, is_joined, is_own}
-use Rattle.map65.specs.Roles.{is_skip, is_wide, role_of}
-use Rattle.map65.specs.Segments.{is_border}
-use Rattle.map65.specs.Spans.{left_at}
+use Rattle.map65.specs.Words.{AreOnePiece, AreOneRun, Code, MapView, Op, RangeType, Skip, are_joined, byte_at, code_size, end_of, full_len_at, is_border, is_in_run, is_inside, is_joined, is_own, is_skip, is_wide, item_len, item_start, left_at, opcodes, role_of, size_at, size_for}
+use Rattle.isa65.specs.Words.{decoded}
 
 -- ---- pieces
 

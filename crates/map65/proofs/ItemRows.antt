@@ -1,17 +1,8 @@
 -- Roles and items of small images: for each address the role, and the length of the item that begins there.
 use Rattle.std.proofs.Common.{◌≡◌, ℕ, List, [], ◌∷◌, length, Option, None, Some, refl}
 use Rattle.std.specs.Prelude.{map, replicate}
-use Rattle.isa65.specs.declared.cpu.Cpu.TheVariants.{M6502}
-use Rattle.info65.specs.declared.information.range.RangeSpec.{RangeSpec}
-use Rattle.info65.specs.declared.information.range.RangeType.{RangeType}
+use Rattle.map65.specs.Words.{M6502, MapView, RangeSpec, RangeType, addresses, are_joined, code_at, full_len_at, is_border, is_in_run, is_joined, is_own, item_len, item_start, map_of, role_at, role_in, size_at}
 use Rattle.info65.specs.declared.information.range.RangeType.TheVariants as role
-use Rattle.map65.specs.Items.{full_len_at, item_len, item_start, size_at}
-use Rattle.map65.specs.MapRows.{code_at, map_of}
-use Rattle.map65.specs.MapView.{MapView}
-use Rattle.map65.specs.Pieces.{are_joined, is_in_run, is_joined, is_own}
-use Rattle.map65.specs.Roles.{role_at, role_in}
-use Rattle.map65.specs.Segments.{is_border}
-use Rattle.map65.specs.Spans.{addresses}
 
 abbrev Item : Type 0
 Item = Option RangeType × ℕ

@@ -1,17 +1,8 @@
 -- The definitions of maps and images, held against worked examples.
 use Rattle.std.proofs.Common.{◌≡◌, ◌≤◌, ℕ, List, [], ◌∷◌, ◌++◌, length, length-append, drop, Option, None, Some, refl, ap, arith}
 use Rattle.std.proofs.lemmas.Bool.{false≢true}
-use Rattle.info65.specs.Names.{covering, covering_below, default_name}
-use Rattle.map65.specs.Cells.{code_of}
-use Rattle.map65.specs.Image.{image_by, image_of}
-use Rattle.map65.specs.Items.{full_len_at, item_len, item_start, size_at}
-use Rattle.map65.specs.MapRows.{WorkedMaps}
-use Rattle.map65.specs.Names.{base_at, entry_base, entry_start, is_referenced, kind_at, place_of, refers, text_at}
-use Rattle.map65.specs.Pieces.{are_joined, is_in_run, is_joined, is_own}
-use Rattle.map65.specs.Roles.{role_at, role_in}
-use Rattle.map65.specs.Segments.{is_border}
-use Rattle.map65.specs.Spans.{addresses}
-use Rattle.map65.specs.Targets.{operand_target, target_at, target_for, target_of}
+use Rattle.info65.specs.Words.{covering, covering_below, default_name}
+use Rattle.map65.specs.Words.{WorkedMaps, addresses, are_joined, base_at, code_of, entry_base, entry_start, full_len_at, image_by, image_of, is_border, is_in_run, is_joined, is_own, is_referenced, item_len, item_start, kind_at, operand_target, place_of, refers, role_at, role_in, size_at, target_at, target_for, target_of, text_at}
 
 abbrev get_or_empty : Option (List ℕ) → List ℕ
 get_or_empty None = []

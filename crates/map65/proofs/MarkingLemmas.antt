@@ -4,20 +4,11 @@ use Rattle.std.proofs.Math.Bool.{and_comm}
 use Rattle.std.proofs.Math.ListN.{length-set}
 use Rattle.std.proofs.lemmas.Bool.{and_parts, and_from, cases_eq, cases_lt, false≢true, lt-ltb, ltb-true, not-true}
 use Rattle.std.specs.Cmp.{both_ways}
-use Rattle.info65.specs.declared.information.range.RangeType.{RangeType}
+use Rattle.map65.specs.Words.{AreMarkedBelow, AreNamed, IsLaid, MapView, RangeType, are_one_run, bit, cell_of, end_of, is_border, is_cut, is_in_run, is_joined, is_joined_in, is_own, is_skip, is_wide, is_wide_cell, is_wide_role, item_len, item_start, lay_at, role_at, role_in_cell, role_of, size_at, with_len}
 use Rattle.map65.proofs.CellLemmas.{named_test, cell-role, cell-wide, set-cell, with_len-lay, with_len-rest}
 use Rattle.map65.proofs.ItemLaws.{Begun, begun}
 use Rattle.map65.proofs.ItemLemmas.{in-run, is_cut_at, inside-if, item-len-own, item_start-after, item_start-apart, item_start-within, joined_high, joined-if, joined-run, joined-uncut, size-fits, size-is, size-positive, start-apart}
 use Rattle.map65.proofs.RunLemmas.{plain-code, role_at-inside, run_cells, some_same}
-use Rattle.map65.specs.Code.Cells.{AreNamed, IsLaid, are_one_run, cell_of, is_cut, is_wide_cell, is_wide_role, lay_at, role_in_cell, with_len}
-use Rattle.map65.specs.Cells.{bit}
-use Rattle.map65.specs.Code.Marking.{AreMarkedBelow, is_joined_in}
-use Rattle.map65.specs.ImageView.{end_of}
-use Rattle.map65.specs.Items.{item_len, item_start, size_at}
-use Rattle.map65.specs.MapView.{MapView}
-use Rattle.map65.specs.Pieces.{is_in_run, is_joined, is_own}
-use Rattle.map65.specs.Roles.{is_skip, is_wide, role_at, role_of}
-use Rattle.map65.specs.Segments.{is_border}
 
 -- ---- roles
 

@@ -2,8 +2,7 @@
 use Rattle.std.proofs.Common.{◌≡◌, ◌∙◌, ◌⊎◌, inl, inr, ℕ, ◌+◌, ◌-◌, ◌<◌, ◌&&◌, ◌==◌, Bool, true, false, List, Option, Some, None, length, get_or, refl, ap, sym, arith, ⊎_elim}
 use Rattle.std.proofs.lemmas.Bool.{and_from, and_parts, both_ways, cases_Bool, cases_eq, cases_lt, eqb-true, false≢true, or_cases}
 use Rattle.std.proofs.lemmas.List.Folds.{Any-from_list_any, list_any_at}
-use Rattle.info65.specs.Names.{AreNames, blank_name, covering, covers, name_at}
-use Rattle.info65.specs.Views.{NameView}
+use Rattle.info65.specs.Words.{AreNames, NameView, blank_name, covering, covers, name_at}
 use Rattle.info65.proofs.Public.{last_name, none_covers}
 use Rattle.map65.proofs.ItemLaws.{begun, start-len}
 use Rattle.map65.proofs.ItemLemmas.{belongs, inside-if, item_start-within, one-role, size-positive, start-piece}
@@ -11,13 +10,7 @@ use Rattle.map65.proofs.NameLemmas.{base-covered, base-unreferenced, base-refere
 use Rattle.map65.proofs.NamingLemmas.{address-at, address-count, entry_start-narrow, entry_start-wide, wide-shown}
 use Rattle.map65.proofs.MarkingLemmas.{item_fits}
 use Rattle.map65.proofs.TargetLemmas.{short_at}
-use Rattle.map65.specs.ImageView.{is_inside}
-use Rattle.map65.specs.Items.{item_len, item_start}
-use Rattle.map65.specs.MapView.{MapView}
-use Rattle.map65.specs.Names.{Base, EntryStartLaw, IsHighest, IsInner, IsUncovered, IsReferenced, NameLaw, ReferenceLaw, base_at, default_base, base_by, base_or, given_base, entry_start, entry_base, is_referenced, refers, refers_by}
-use Rattle.map65.specs.Roles.{is_skip, is_wide, role_of}
-use Rattle.map65.specs.Spans.{addresses}
-use Rattle.map65.specs.Targets.{IsTarget, target_at}
+use Rattle.map65.specs.Words.{Base, EntryStartLaw, IsHighest, IsInner, IsReferenced, IsTarget, IsUncovered, MapView, NameLaw, ReferenceLaw, addresses, base_at, base_by, base_or, default_base, entry_base, entry_start, given_base, is_inside, is_referenced, is_skip, is_wide, item_len, item_start, refers, refers_by, role_of, target_at}
 
 -- ---- the item that an address lies inside
 

@@ -3,13 +3,9 @@ use Rattle.std.proofs.Common.{◌≡◌, ◌∙◌, ℕ, ◌+◌, ◌≤◌, ◌
 use Rattle.std.specs.Option.{option_map}
 use Rattle.std.proofs.lemmas.Bool.{and_parts, false≢true, leb-true}
 use Rattle.text65.specs.Names.{has_name_form}
-use Rattle.info65.specs.Names.{AreNames, blank_name, covering, name_at}
-use Rattle.info65.specs.Views.{NameView}
+use Rattle.info65.specs.Words.{AreNames, NameView, blank_name, covering, name_at}
 use Rattle.info65.proofs.Public.{last_name}
-use Rattle.map65.specs.Code.Marking.{is_covered}
-use Rattle.map65.specs.MapView.{MapView}
-use Rattle.map65.specs.Names.{Base, base_at, base_by, base_or, default_base, given_base, has_name, entry_start, entry_base, is_referenced, kind_at, kind_by, text_at, text_by}
-use Rattle.map65.specs.declared.name.NameKind.{NameKind}
+use Rattle.map65.specs.Words.{Base, MapView, NameKind, base_at, base_by, base_or, default_base, entry_base, entry_start, given_base, has_name, is_covered, is_referenced, kind_at, kind_by, text_at, text_by}
 
 pub not-some : {A : Type 0} (b : A) → None ≡ Some b → ⊥
 not-some b is = false≢true (ap is_some is)

@@ -3,23 +3,9 @@
 use Rattle.std.proofs.Common.{◌≡◌, ℕ, List, [], ◌∷◌, ◌++◌, length, Option, None, Some, refl}
 use Rattle.std.specs.Prelude.{codes, map}
 use Rattle.std.specs.List.{filter}
-use Rattle.isa65.specs.declared.cpu.Cpu.TheVariants.{M6502}
-use Rattle.info65.specs.Names.{covering, covering_below, default_name}
-use Rattle.info65.specs.Views.{NameView}
-use Rattle.info65.specs.declared.information.range.RangeSpec.{RangeSpec}
-use Rattle.info65.specs.declared.information.range.RangeType.{RangeType}
+use Rattle.map65.specs.Words.{M6502, MapView, NameKind, Place, RangeSpec, RangeType, addresses, are_joined, base_at, code_at, entry_base, entry_start, full_len_at, has_name, is_border, is_in_run, is_joined, is_own, is_referenced, item_len, item_start, kind_at, map_of, operand_target, place_of, refers, role_at, role_in, size_at, target_at, target_for, target_of, text_at}
+use Rattle.info65.specs.Words.{NameView, covering, covering_below, default_name}
 use Rattle.info65.specs.declared.information.range.RangeType.TheVariants as role
-use Rattle.map65.specs.Items.{full_len_at, item_len, item_start, size_at}
-use Rattle.map65.specs.MapRows.{code_at, map_of}
-use Rattle.map65.specs.MapView.{MapView}
-use Rattle.map65.specs.Names.{base_at, entry_base, entry_start, has_name, is_referenced, kind_at, place_of, refers, text_at}
-use Rattle.map65.specs.Pieces.{are_joined, is_in_run, is_joined, is_own}
-use Rattle.map65.specs.Roles.{role_at, role_in}
-use Rattle.map65.specs.Segments.{is_border}
-use Rattle.map65.specs.Spans.{addresses}
-use Rattle.map65.specs.Targets.{operand_target, target_at, target_for, target_of}
-use Rattle.map65.specs.declared.name.NameKind.{NameKind}
-use Rattle.map65.specs.declared.name.Place.{Place}
 use Rattle.map65.specs.declared.name.Place.TheVariants as place
 
 record Named : Type 0 where

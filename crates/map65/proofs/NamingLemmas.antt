@@ -7,11 +7,9 @@ use Rattle.std.proofs.lemmas.List.{get_or_default, take_all}
 use Rattle.std.proofs.lemmas.List.FromFn.{get_or-range_with_len, length-range_with_len}
 use Rattle.std.proofs.lemmas.List.Folds.{Any-from_list_any, list_any_at, list_any_kept, list_any_more}
 use Rattle.std.specs.Cmp.{both_ways as equal}
-use Rattle.info65.specs.Names.{AreNames, blank_name, covering, covers, name_at}
+use Rattle.info65.specs.Words.{AreNames, NameView, blank_name, covering, covers, name_at}
 use Rattle.info65.proofs.Public.{last_name, none_covers}
-use Rattle.info65.specs.Views.{NameView}
-use Rattle.info65.specs.declared.information.range.RangeType.{RangeType}
-use Rattle.info65.specs.declared.information.range.RangeType.TheVariants.{Skip}
+use Rattle.map65.specs.Words.{AreCells, AreCellsOf, AreNamed, Changes, IsLaid, KeepsLay, MapView, RangeType, Reaches, Skip, addresses, bit, changed, code_of, end_of, entry_start, has_name, is_covered, is_covered_below, is_inside, is_own, is_referenced, is_referenced_below, is_skip, is_wide, is_wide_cell, is_wide_role, is_within, item_len, item_start, len_in_cell, nowhere, refers, refers_by, role_at, role_in_cell, role_of, target_at, with_name}
 use Rattle.map65.proofs.CellLemmas.{named-as, cell-len, cell-role, cell-wide, with_name_again, with_name-bit, with_name-border, with_name-lay}
 use Rattle.map65.proofs.ChangeLemmas.{changes_as, changes_more, changes_none, changes_then}
 use Rattle.map65.proofs.NameLemmas.{named-is}
@@ -19,17 +17,6 @@ use Rattle.map65.proofs.RunLemmas.{plain-code, role_at-inside}
 use Rattle.map65.proofs.ItemLaws.{begun, start-len}
 use Rattle.map65.proofs.ItemLemmas.{belongs, item_start-within, size-positive}
 use Rattle.map65.proofs.MarkingLemmas.{item_fits, item-small}
-use Rattle.map65.specs.Code.Cells.{AreCells, AreNamed, IsLaid, is_wide_cell, is_wide_role, len_in_cell, nowhere, role_in_cell, with_name}
-use Rattle.map65.specs.Cells.{AreCellsOf, bit, code_of}
-use Rattle.map65.specs.Code.Marking.{Changes, KeepsLay, Reaches, changed, is_covered, is_covered_below, is_referenced_below, is_within}
-use Rattle.map65.specs.ImageView.{end_of, is_inside}
-use Rattle.map65.specs.Items.{item_len, item_start}
-use Rattle.map65.specs.MapView.{MapView}
-use Rattle.map65.specs.Names.{has_name, entry_start, is_referenced, refers, refers_by}
-use Rattle.map65.specs.Pieces.{is_own}
-use Rattle.map65.specs.Roles.{is_skip, is_wide, role_at, role_of}
-use Rattle.map65.specs.Spans.{addresses}
-use Rattle.map65.specs.Targets.{target_at}
 
 -- ---- one bit
 

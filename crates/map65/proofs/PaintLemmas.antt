@@ -2,17 +2,9 @@
 use Rattle.std.proofs.Common.{◌≡◌, ◌∙◌, ℕ, ◌+◌, ◌/◌, ◌%◌, ◌<◌, ◌&&◌, Bool, true, false, List, [], ◌∷◌, drop, length, get_or, refl, ap, arith, max, min}
 use Rattle.std.proofs.lemmas.Bool.Decides.{nat_tests}
 use Rattle.std.proofs.lemmas.List.{drop_more}
-use Rattle.info65.specs.Ranges.{has_address}
-use Rattle.info65.specs.declared.information.range.RangeSpec.{RangeSpec}
-use Rattle.info65.specs.declared.information.range.RangeType.TheVariants.{Code}
+use Rattle.info65.specs.Words.{has_address}
+use Rattle.map65.specs.Words.{AreMarkedBelow, AreNamed, ArePainted, Changes, Code, ImageView, MapView, RangeSpec, bit, cell_of, changed, code_of, end_of, is_border, is_inside, is_within, nowhere, painted, role_at, role_by, role_in, with_border}
 use Rattle.map65.proofs.CellLemmas.{cell-small}
-use Rattle.map65.specs.Code.Cells.{AreNamed, cell_of, nowhere, with_border}
-use Rattle.map65.specs.Cells.{bit, code_of}
-use Rattle.map65.specs.Code.Marking.{AreMarkedBelow, ArePainted, Changes, changed, is_within, painted, role_by}
-use Rattle.map65.specs.ImageView.{ImageView, end_of, is_inside}
-use Rattle.map65.specs.MapView.{MapView}
-use Rattle.map65.specs.Roles.{role_at, role_in}
-use Rattle.map65.specs.Segments.{is_border}
 
 -- ---- one range after the other
 

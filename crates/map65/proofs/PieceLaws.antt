@@ -2,14 +2,10 @@
 use Rattle.std.proofs.Common.{◌≡◌, ◌∙◌, ℕ, ◌+◌, ◌==◌, ◌<◌, ◌≤◌, ◌&&◌, Bool, true, false, List, All, length, get_or, refl, ap, arith}
 use Rattle.std.proofs.lemmas.Bool.{and_from, both_ways, eq-eqb, or_left, or_right}
 use Rattle.std.proofs.lemmas.List.Folds.{list_any_at, list_any_none}
-use Rattle.info65.specs.Views.{NameView, SegmentView}
+use Rattle.info65.specs.Words.{NameView, SegmentView}
 use Rattle.map65.proofs.ItemLemmas.{in-run, is_cut_at, joined-if, joined-run, joined-uncut, one-run, run-if}
 use Rattle.map65.proofs.RunLemmas.{segment-before}
-use Rattle.map65.specs.ImageView.{is_inside}
-use Rattle.map65.specs.MapView.{MapView}
-use Rattle.map65.specs.Pieces.{AreAlike, AreOnePiece, AreOneRun, AreUnnamed, PieceLaw, RunLaw, is_own}
-use Rattle.map65.specs.Roles.{is_wide, role_of}
-use Rattle.map65.specs.Segments.{borders, is_border, segment_at}
+use Rattle.map65.specs.Words.{AreAlike, AreOnePiece, AreOneRun, AreUnnamed, MapView, PieceLaw, RunLaw, borders, is_border, is_inside, is_own, is_wide, role_of, segment_at}
 
 -- ---- runs
 

@@ -6,14 +6,8 @@ use Rattle.std.proofs.lemmas.Bool.{cases_lt}
 use Rattle.std.proofs.lemmas.Bool.Decides.{nat_tests}
 use Rattle.std.specs.Io.KnownBytes.{Consumes, IsAtEnd}
 use Rattle.std.proofs.KnownBytes.{Consumes-trans}
-use Rattle.info65.specs.Views.{SettingsView}
-use Rattle.map65.specs.Device.{TakesUpTo}
-use Rattle.map65.specs.Image.{GivesImage, ReadCount, StopsAt, image_by, image_of, most_of, read_limit, sized}
-use Rattle.map65.specs.ImageView.{ImageView}
-use Rattle.map65.specs.Taking.{IsReadTo}
-use Rattle.map65.specs.Code.Passing.{Takes}
-use Rattle.map65.specs.declared.image.ImageFault.{ImageFault}
-use Rattle.map65.specs.declared.image.ImageFault.TheVariants.{Empty, TooLarge, Short}
+use Rattle.info65.specs.Words.{SettingsView}
+use Rattle.map65.specs.Words.{Empty, GivesImage, ImageFault, ImageView, IsReadTo, ReadCount, Short, StopsAt, Takes, TakesUpTo, TooLarge, image_by, image_of, most_of, read_limit, sized}
 
 -- ---- reads, one after the other
 

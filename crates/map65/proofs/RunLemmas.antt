@@ -5,19 +5,10 @@ use Rattle.std.specs.Option.{option_map}
 use Rattle.std.proofs.lemmas.Bool.{and_from, and_parts, cond-true, eq-eqb, eqb-true, false_from_ne_true, false≢true, ne_eqb, not-true, or_parts}
 use Rattle.std.proofs.lemmas.Bool.Decides.{nat_tests}
 use Rattle.std.specs.Cmp.{both_ways}
-use Rattle.info65.specs.Segments.{contains, segment_covering}
-use Rattle.info65.specs.Views.{SegmentView}
-use Rattle.info65.specs.declared.information.range.RangeType.{RangeType}
-use Rattle.info65.specs.declared.information.range.RangeType.TheVariants.{Code}
+use Rattle.info65.specs.Words.{SegmentView, contains, segment_covering}
+use Rattle.map65.specs.Words.{Code, MapView, RangeType, are_one_run, bit, borders, cell_of, code_of, coded, end_of, has_border, is_border, is_in_run, is_inside, role_at, role_of, segment_at}
 use Rattle.map65.proofs.CellLemmas.{code-small, coded-code, has_border-is}
 use Rattle.map65.proofs.ItemLemmas.{InRun, in-run, inside-if, run-if}
-use Rattle.map65.specs.Code.Cells.{are_one_run, cell_of, coded, has_border}
-use Rattle.map65.specs.Cells.{bit, code_of}
-use Rattle.map65.specs.ImageView.{end_of, is_inside}
-use Rattle.map65.specs.MapView.{MapView}
-use Rattle.map65.specs.Pieces.{is_in_run}
-use Rattle.map65.specs.Roles.{role_at, role_of}
-use Rattle.map65.specs.Segments.{borders, is_border, segment_at}
 
 -- ---- segments
 

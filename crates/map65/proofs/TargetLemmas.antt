@@ -1,17 +1,9 @@
 -- Where no item begins there is no target, and none where one of a single byte does.
 use Rattle.std.proofs.Common.{◌≡◌, ℕ, ◌==◌, ◌<◌, false, List, None, Option, Some, arith, get_or, refl}
 use Rattle.std.proofs.lemmas.Bool.{eqb-true, ne_eqb}
-use Rattle.isa65.specs.Opcodes.{decoded}
-use Rattle.isa65.specs.declared.op.Op.{Op}
-use Rattle.info65.specs.Layouts.{layout_of}
-use Rattle.info65.specs.declared.information.range.Entry.{Entry}
-use Rattle.info65.specs.declared.information.range.Entry.TheVariants.{Address, Instruction, Return}
-use Rattle.info65.specs.declared.information.range.RangeType.{RangeType}
-use Rattle.map65.specs.ImageView.{ImageView, bytes_from}
-use Rattle.map65.specs.Items.{item_len}
-use Rattle.map65.specs.MapView.{MapView, opcodes}
-use Rattle.map65.specs.Roles.{role_of}
-use Rattle.map65.specs.Targets.{code_target, entry_target, operand_target, target_at, target_for}
+use Rattle.isa65.specs.Words.{decoded}
+use Rattle.map65.specs.Words.{Address, Entry, ImageView, Instruction, MapView, Op, RangeType, Return, bytes_from, code_target, entry_target, item_len, opcodes, operand_target, role_of, target_at, target_for}
+use Rattle.info65.specs.Words.{layout_of}
 
 code-short : (image : ImageView) (o : Option Op) (n a : ℕ) (bytes : List ℕ) → n < 2 → code_target image o n a bytes ≡ None
 unfolding operand_target

@@ -3,14 +3,12 @@
 -- A base is defined by a constant line outside the image and in skipped bytes, by a label where an item begins, and by a forward
 -- line inside an instruction: for `jmp $1001` at $1000 that is `L1001`.
 use Rattle.std.specs.Prelude.{◌≡◌, ◌⊎◌, ℕ, ◌+◌, ◌<◌, ◌≤◌, true, false, Some}
-use Rattle.info65.specs.declared.information.range.RangeType.TheVariants.{Code}
+use Rattle.map65.specs.Types.{Code, Constant, Forward, Label, Place}
 use Rattle.map65.specs.ImageView.{is_inside}
 use Rattle.map65.specs.Items.{item_len}
 use Rattle.map65.specs.MapView.{MapView}
 use Rattle.map65.specs.Names.{Base, base_at, place_of}
 use Rattle.map65.specs.Roles.{is_skip, role_of}
-use Rattle.map65.specs.declared.name.Place.{Place}
-use Rattle.map65.specs.declared.name.Place.TheVariants.{Constant, Forward, Label}
 
 -- the address lies outside the image, or is skipped
 abbrev pub IsOutside : MapView → ℕ → Type 0

@@ -8,7 +8,7 @@
 --
 -- The higher bits say nothing to a caller.
 use Rattle.std.specs.Prelude.{◌≡◌, ◌/◌, ◌%◌, ◌<◌, ℕ, Bool, true, false, List, length, slice_index, Option, Some, None}
-use Rattle.info65.specs.declared.information.range.RangeType.{RangeType}
+use Rattle.map65.specs.Types.{RangeType}
 use Rattle.info65.specs.declared.information.range.RangeType.TheVariants as role
 use Rattle.map65.specs.Items.{item_len}
 use Rattle.map65.specs.MapView.{MapView}

@@ -3,10 +3,9 @@
 -- The image is what the settings ask for: INPUTSIZE bytes after the first INPUTOFFS, or all that follow these; or the first of Read,
 -- Short, Empty and TooLarge that holds. By default it ends at $FFFF.
 use Rattle.std.specs.Prelude.{◌≡◌, ℕ, ◌+◌, ◌-◌, ◌==◌, ◌||◌, Bool, true, false, nat_lt, if◌then◌else◌, List, length, drop, take, Option, Some, None, Result, Ok, Err, ⊤}
-use Rattle.info65.specs.Views.{SettingsView}
-use Rattle.map65.specs.declared.image.ImageFault.{ImageFault}
-use Rattle.map65.specs.declared.image.ImageFault.TheVariants.{Empty, TooLarge, Short, Read, Memory}
-use Rattle.map65.specs.declared.devices.taking.TakeFault.{TakeFault}
+use Rattle.info65.specs.Words.{SettingsView}
+use Rattle.map65.specs.Types.{Empty, ImageFault, Short, TakeFault, TooLarge}
+use Rattle.map65.specs.declared.image.ImageFault.TheVariants.{Read, Memory}
 use Rattle.map65.specs.declared.devices.taking.TakeFault.TheVariants as Taken
 use Rattle.map65.specs.Device.{one_more}
 use Rattle.map65.specs.ImageView.{ImageView}

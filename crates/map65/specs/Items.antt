@@ -5,10 +5,8 @@
 -- table an item has as many bytes as the table's unit. Where its piece ends earlier an item has one byte: a cut opcode, or a leftover
 -- byte of a table.
 use Rattle.std.specs.Prelude.{◌≡◌, ◌↔◌, ◌⊎◌, ℕ, zero, suc, ◌+◌, ◌-◌, ◌<◌, ◌==◌, ◌&&◌, not, nat_lt, true, false, Option, Some, None, if◌then◌else◌}
-use Rattle.isa65.specs.Mode.{len_of}
-use Rattle.isa65.specs.Opcodes.{decoded}
-use Rattle.isa65.specs.declared.op.Op.{Op}
-use Rattle.info65.specs.declared.information.range.RangeType.{RangeType}
+use Rattle.isa65.specs.Words.{decoded, len_of}
+use Rattle.map65.specs.Types.{Op, RangeType}
 use Rattle.info65.specs.declared.information.range.RangeType.TheVariants as role
 use Rattle.map65.specs.ImageView.{byte_at, is_inside}
 use Rattle.map65.specs.MapView.{MapView, opcodes}

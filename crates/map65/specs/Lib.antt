@@ -15,3 +15,5 @@ pub mod Taking
 pub mod Targets
 pub mod Told
 pub mod Code
+pub mod Types
+pub mod Words

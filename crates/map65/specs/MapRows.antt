@@ -1,14 +1,10 @@
 -- Worked examples: roles, targets, names and images of a few bytes, and what no reading may come to.
 use Rattle.std.specs.Prelude.{◌≡◌, ℕ, true, false, List, [], ◌∷◌, map, codes, Option, None, Some, Result, Ok, Err}
-use Rattle.isa65.specs.declared.cpu.Cpu.{Cpu}
-use Rattle.isa65.specs.declared.cpu.Cpu.TheVariants.{M6502, M65C02}
-use Rattle.info65.specs.Views.{NameView, default_settings}
-use Rattle.info65.specs.declared.information.range.RangeSpec.{RangeSpec}
+use Rattle.map65.specs.Types.{Cpu, Empty, ImageFault, M6502, M65C02, NameKind, RangeSpec, Short, TooLarge}
+use Rattle.info65.specs.Words.{NameView, default_settings}
 use Rattle.info65.specs.declared.information.range.RangeType.TheVariants as role
-use Rattle.map65.specs.declared.image.ImageFault.{ImageFault}
-use Rattle.map65.specs.declared.image.ImageFault.TheVariants.{Empty, TooLarge, Short, Read}
+use Rattle.map65.specs.declared.image.ImageFault.TheVariants.{Read}
 use Rattle.map65.specs.declared.devices.taking.TakeFault.TheVariants as Taken
-use Rattle.map65.specs.declared.name.NameKind.{NameKind}
 use Rattle.map65.specs.declared.name.Place.TheVariants as place
 use Rattle.map65.specs.Cells.{code_of}
 use Rattle.map65.specs.Device.{TakesUpTo}

@@ -1,9 +1,6 @@
 -- What contracts see of a map: what it was built from.
-use Rattle.isa65.specs.Cpu.{table_of}
-use Rattle.isa65.specs.Opcodes.{Table}
-use Rattle.info65.specs.Names.{AreNames}
-use Rattle.info65.specs.Segments.{AreSegments}
-use Rattle.info65.specs.Views.{InfoView}
+use Rattle.isa65.specs.Words.{Table, table_of}
+use Rattle.info65.specs.Words.{AreNames, AreSegments, InfoView}
 use Rattle.map65.specs.ImageView.{ImageView, IsPlaced}
 
 pub record MapView : Type 0 where

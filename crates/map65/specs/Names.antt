@@ -8,17 +8,14 @@
 use Rattle.std.specs.Prelude.{◌≡◌, ◌↔◌, ◌⊎◌, ℕ, ◌+◌, ◌-◌, ◌<◌, ◌≤◌, ◌==◌, ◌&&◌, ◌||◌, Bool, true, false, List, [], length, if◌then◌else◌, Option, Some, None, is_some}
 use Rattle.std.specs.List.{list_any}
 use Rattle.std.specs.Option.{option_map}
-use Rattle.info65.specs.Names.{covering, covers, default_name, name_at}
-use Rattle.info65.specs.Views.{NameView}
-use Rattle.info65.specs.declared.information.range.RangeType.{RangeType}
+use Rattle.info65.specs.Words.{NameView, covering, covers, default_name, name_at}
+use Rattle.map65.specs.Types.{NameKind, Place, RangeType}
 use Rattle.map65.specs.ImageView.{is_inside}
 use Rattle.map65.specs.Items.{item_len, item_start}
 use Rattle.map65.specs.MapView.{MapView}
 use Rattle.map65.specs.Roles.{is_skip, is_wide, role_at, role_of}
 use Rattle.map65.specs.Spans.{addresses}
 use Rattle.map65.specs.Targets.{IsTarget, target_at}
-use Rattle.map65.specs.declared.name.NameKind.{NameKind}
-use Rattle.map65.specs.declared.name.Place.{Place}
 use Rattle.map65.specs.declared.name.Place.TheVariants as place
 
 -- ---- the item that an address lies inside

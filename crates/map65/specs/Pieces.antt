@@ -5,7 +5,7 @@
 -- given name and ends after it. Elsewhere a run is one piece.
 use Rattle.std.specs.Prelude.{◌≡◌, ◌↔◌, ◌⊎◌, ℕ, zero, suc, ◌+◌, ◌-◌, ◌==◌, ◌<◌, ◌≤◌, ◌&&◌, not, Bool, true, false, List, All, nat_lt}
 use Rattle.std.specs.List.{list_any}
-use Rattle.info65.specs.Views.{NameView, SegmentView}
+use Rattle.info65.specs.Words.{NameView, SegmentView}
 use Rattle.map65.specs.ImageView.{end_of, is_inside}
 use Rattle.map65.specs.MapView.{MapView}
 use Rattle.map65.specs.Roles.{is_role, is_wide, role_of}

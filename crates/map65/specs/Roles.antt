@@ -5,13 +5,8 @@
 use Rattle.std.specs.Prelude.{ℕ, Bool, true, false, List, [], ◌∷◌, Option, Some, None, nat_lt, if◌then◌else◌}
 use denote.Enum.Bare.{sameb}
 use Rattle.info65.specs.contracts.information.range.RangeType as range_type
-use Rattle.info65.specs.Layouts.{layout_of}
-use Rattle.info65.specs.Ranges.{has_address}
-use Rattle.info65.specs.Views.{InfoView}
-use Rattle.info65.specs.declared.information.range.Entry.{Entry}
-use Rattle.info65.specs.declared.information.range.Entry.TheVariants.{Skipped}
-use Rattle.info65.specs.declared.information.range.RangeSpec.{RangeSpec}
-use Rattle.info65.specs.declared.information.range.RangeType.{RangeType}
+use Rattle.info65.specs.Words.{InfoView, has_address, layout_of}
+use Rattle.map65.specs.Types.{Entry, RangeSpec, RangeType, Skipped}
 use Rattle.info65.specs.declared.information.range.RangeType.TheVariants as role
 use Rattle.map65.specs.ImageView.{is_inside}
 use Rattle.map65.specs.MapView.{MapView}

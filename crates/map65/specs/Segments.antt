@@ -3,8 +3,7 @@
 -- A border stands before the first address of each segment and after its last. The default segment has no name.
 use Rattle.std.specs.Prelude.{◌+◌, ◌==◌, ◌||◌, ℕ, Bool, List, Option}
 use Rattle.std.specs.List.{list_any}
-use Rattle.info65.specs.Segments.{segment_covering}
-use Rattle.info65.specs.Views.{SegmentView}
+use Rattle.info65.specs.Words.{SegmentView, segment_covering}
 use Rattle.map65.specs.MapView.{MapView}
 
 -- the name of the segment that the address belongs to; none outside all segments

@@ -1,6 +1,6 @@
 -- How far a source is read, and which of its reads failed.
 use Rattle.std.specs.Prelude.{◌≡◌, ℕ, Bool, true, List, drop, IfSome, Option, Some, Result, Ok, Err, ⊤}
-use Rattle.map65.specs.declared.devices.taking.TakeFault.{TakeFault}
+use Rattle.map65.specs.Types.{TakeFault}
 use Rattle.map65.specs.declared.devices.taking.TakeFault.TheVariants.{Read, Memory}
 use Rattle.map65.specs.Device.{one_more}
 

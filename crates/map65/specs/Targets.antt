@@ -6,22 +6,11 @@
 -- operands, numbers and text are no targets, and undefined and cut opcodes and leftover bytes have none.
 use Rattle.std.specs.Prelude.{◌≡◌, ℕ, ◌+◌, ◌-◌, ◌*◌, ◌<◌, ◌==◌, ◌||◌, nat_le, nat_lt, Bool, if◌then◌else◌, List, slice_index, Option, Some, None}
 use denote.Enum.Bare.{sameb}
-use Rattle.isa65.specs.Mode.{len_of, row_of, size_of}
-use Rattle.isa65.specs.Opcodes.{Table, decoded}
+use Rattle.isa65.specs.Words.{Table, decoded, len_of, row_of, size_of}
 use Rattle.isa65.specs.contracts.mnemonic.Mnemonic as mnemonic
-use Rattle.isa65.specs.declared.mnemonic.Mnemonic.{Mnemonic}
-use Rattle.isa65.specs.declared.mnemonic.Mnemonic.TheVariants.{Jmp, Jsr}
-use Rattle.isa65.specs.declared.mode.Mode.{Mode}
-use Rattle.isa65.specs.declared.op.Op.{Op}
-use Rattle.isa65.specs.declared.row.OperandKind.TheVariants.{Word, Distance}
-use Rattle.isa65.specs.declared.row.Pattern.{Pattern}
-use Rattle.isa65.specs.declared.row.Pattern.TheVariants.{Direct}
-use Rattle.isa65.specs.declared.row.Row.{Row}
-use Rattle.isa65.specs.declared.row.Row.TheVariants.{One, Two}
-use Rattle.info65.specs.Layouts.{layout_of}
-use Rattle.info65.specs.declared.information.range.Entry.{Entry}
+use Rattle.map65.specs.Types.{Direct, Distance, Entry, Jmp, Jsr, Mnemonic, Mode, One, Op, Pattern, RangeType, Row, Two, Word}
+use Rattle.info65.specs.Words.{layout_of}
 use Rattle.info65.specs.declared.information.range.Entry.TheVariants as entry
-use Rattle.info65.specs.declared.information.range.RangeType.{RangeType}
 use Rattle.map65.specs.ImageView.{ImageView, bytes_from, is_inside}
 use Rattle.map65.specs.Items.{item_len}
 use Rattle.map65.specs.MapView.{MapView, opcodes}

@@ -1,6 +1,6 @@
 -- What a `Told` holds.
 use Rattle.std.specs.Prelude.{ℕ, Bool, false}
-use Rattle.map65.specs.declared.devices.told.Told.{Told}
+use Rattle.map65.specs.Types.{Told}
 
 -- how many of its calls failed
 abbrev pub told_faults : {T : Type 0} → Told T → ℕ

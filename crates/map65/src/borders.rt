@@ -1,10 +1,8 @@
 //! Marks the segment borders in the cells of a map.
 
 ghost use Rattle.std.specs.Prelude.{◌≡◌, ◌+◌, ◌==◌, ◌||◌, length};
-ghost use Rattle.info65.specs.Segments.{AreSegments};
-ghost use Rattle.map65.specs.Code.Cells.{with_border};
-ghost use Rattle.map65.specs.Code.Marking.{Changes};
-ghost use Rattle.map65.specs.Segments.{is_border};
+ghost use Rattle.info65.specs.Words.{AreSegments};
+ghost use Rattle.map65.specs.Words.{Changes, is_border, with_border};
 
 use crate::cells::with_border;
 use info65::Info;

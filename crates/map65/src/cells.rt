@@ -4,8 +4,7 @@
 
 ghost use Rattle.std.specs.Prelude.{◌≡◌, ◌≢◌, ◌<◌, ℕ, IfOk, Some, slice_index, vec_len};
 ghost use Rattle.std.specs.Bool.{OnTrue, OnFalse};
-ghost use Rattle.map65.specs.Code.Cells.{are_one_run, cell_of, coded, is_named, has_border, is_wide_cell, len_in_cell, role_in_cell, with_name, with_border, with_len};
-ghost use Rattle.map65.specs.Cells.{code_of};
+ghost use Rattle.map65.specs.Words.{are_one_run, cell_of, code_of, coded, has_border, is_named, is_wide_cell, len_in_cell, role_in_cell, with_border, with_len, with_name};
 
 use crate::roles::is_wide;
 use info65::RangeType;

@@ -1,8 +1,7 @@
 //! The image.
 
 ghost use Rattle.std.specs.Prelude.{◌≡◌, IfOk};
-ghost use Rattle.map65.specs.Image.{image_by, is_short, start_of};
-ghost use Rattle.map65.specs.ImageView.{AreBytes, IsPlaced};
+ghost use Rattle.map65.specs.Words.{AreBytes, IsPlaced, image_by, is_short, start_of};
 
 use crate::devices::TakeFault;
 use std::alloc::{Allocator, Global};

@@ -1,13 +1,7 @@
 //! The laws of runs, pieces, items, cells and names, and the worked examples, each stated by a function that does nothing.
 
-ghost use Rattle.info65.specs.Names.{AreNames};
-ghost use Rattle.map65.specs.Bases.{BaseLaw, PlaceLaw};
-ghost use Rattle.map65.specs.Code.Cells.{CellLaw};
-ghost use Rattle.map65.specs.Items.{ItemLaw};
-ghost use Rattle.map65.specs.MapRows.{WorkedMaps};
-ghost use Rattle.map65.specs.MapView.{MapView};
-ghost use Rattle.map65.specs.Names.{EntryStartLaw, NameLaw, ReferenceLaw};
-ghost use Rattle.map65.specs.Pieces.{PieceLaw, RunLaw};
+ghost use Rattle.info65.specs.Words.{AreNames};
+ghost use Rattle.map65.specs.Words.{BaseLaw, CellLaw, EntryStartLaw, ItemLaw, MapView, NameLaw, PieceLaw, PlaceLaw, ReferenceLaw, RunLaw, WorkedMaps};
 
 /// A run is a longest stretch of the image of one role without a segment border inside.
 #[tactic(auto, using(crate::proofs::PieceLaws::run_law))]

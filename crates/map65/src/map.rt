@@ -2,17 +2,8 @@
 
 ghost use Rattle.std.specs.Prelude.{◌≡◌, ◌≢◌, ◌+◌, ◌-◌, ◌/◌, ◌%◌, ◌<◌, ◌≤◌, ℕ, IfOk, IfSome, Some, length, option_map, slice_index};
 ghost use Rattle.std.specs.Bool.{OnTrue, OnFalse};
-ghost use Rattle.info65.specs.Code.Names.{given_seen};
-ghost use Rattle.info65.specs.Names.{covering, default_name};
-ghost use Rattle.map65.specs.Code.Cells.{IsBuilt, is_named, len_in_cell, role_in_cell};
-ghost use Rattle.map65.specs.Cells.{AreCellsOf, bit, code_of};
-ghost use Rattle.map65.specs.ImageView.{IsPlaced, end_of};
-ghost use Rattle.map65.specs.Items.{item_len};
-ghost use Rattle.map65.specs.MapView.{IsSoundMap};
-ghost use Rattle.map65.specs.Names.{given_base, has_name, entry_start, entry_base, kind_at, kind_by, place_in, place_of, text_at};
-ghost use Rattle.map65.specs.Pieces.{is_in_run};
-ghost use Rattle.map65.specs.Roles.{role_at};
-ghost use Rattle.map65.specs.Segments.{is_border, segment_at};
+ghost use Rattle.info65.specs.Words.{covering, default_name, given_seen};
+ghost use Rattle.map65.specs.Words.{AreCellsOf, IsBuilt, IsPlaced, IsSoundMap, bit, code_of, end_of, entry_base, entry_start, given_base, has_name, is_border, is_in_run, is_named, item_len, kind_at, kind_by, len_in_cell, place_in, place_of, role_at, role_in_cell, segment_at, text_at};
 
 use crate::cells::{are_one_run, blank_cells, is_code, is_named, len_in, role_in};
 use crate::image::{ADDRESSES, Image};

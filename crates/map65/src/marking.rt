@@ -1,16 +1,9 @@
 //! Writes roles, and then the lengths of items, into the cells of a map.
 
 ghost use Rattle.std.specs.Prelude.{◌≡◌, ◌+◌, ◌-◌, ◌<◌, ◌≤◌, ◌&&◌, ℕ, [], length, slice_index};
-ghost use Rattle.isa65.specs.Cpu.{table_of};
-ghost use Rattle.isa65.specs.Opcodes.{decoded};
-ghost use Rattle.info65.specs.Ranges.{has_address};
-ghost use Rattle.info65.specs.Segments.{AreSegments};
-ghost use Rattle.map65.specs.Code.Cells.{AreNamed, IsLaid, is_cut, nowhere};
-ghost use Rattle.map65.specs.Code.Marking.{AreMarkedBelow, ArePainted, Changes, is_joined_in, is_within, painted};
-ghost use Rattle.map65.specs.ImageView.{IsPlaced, end_of, is_inside};
-ghost use Rattle.map65.specs.Items.{code_size, item_start, size_at, full_len_at};
-ghost use Rattle.map65.specs.Pieces.{is_own};
-ghost use Rattle.map65.specs.Roles.{role_of};
+ghost use Rattle.isa65.specs.Words.{decoded, table_of};
+ghost use Rattle.info65.specs.Words.{AreSegments, has_address};
+ghost use Rattle.map65.specs.Words.{AreMarkedBelow, AreNamed, ArePainted, Changes, IsLaid, IsPlaced, code_size, end_of, full_len_at, is_cut, is_inside, is_joined_in, is_own, is_within, item_start, nowhere, painted, role_of, size_at};
 
 use crate::borders::mark_borders;
 use crate::cells::{are_one_run, cell_of, is_named, is_wide_cell, role_in, with_len};

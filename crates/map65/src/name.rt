@@ -1,7 +1,7 @@
 //! Names of addresses.
 
 ghost use Rattle.std.specs.Prelude.{◌≡◌, ◌≤◌, length};
-ghost use Rattle.info65.specs.Names.{default_name};
+ghost use Rattle.info65.specs.Words.{default_name};
 
 use arrayvec::ArrayVec;
 use info65::default_name;

@@ -1,14 +1,8 @@
 //! Marks the addresses that have a name in the cells of a map.
 
 ghost use Rattle.std.specs.Prelude.{◌≡◌, ◌==◌, ◌+◌, ◌<◌, ◌≤◌, length, max};
-ghost use Rattle.info65.specs.Code.Names.{given_seen};
-ghost use Rattle.info65.specs.Names.{AreNames, name_at};
-ghost use Rattle.map65.specs.Code.Cells.{AreCells, AreNamed, IsLaid, nowhere, with_name};
-ghost use Rattle.map65.specs.Code.Marking.{Changes, KeepsLay, is_covered, is_within};
-ghost use Rattle.map65.specs.ImageView.{IsPlaced, end_of};
-ghost use Rattle.map65.specs.MapView.{MapView};
-ghost use Rattle.map65.specs.Names.{entry_start, refers};
-ghost use Rattle.map65.specs.Pieces.{is_own};
+ghost use Rattle.info65.specs.Words.{AreNames, given_seen, name_at};
+ghost use Rattle.map65.specs.Words.{AreCells, AreNamed, Changes, IsLaid, IsPlaced, KeepsLay, MapView, end_of, entry_start, is_covered, is_own, is_within, nowhere, refers, with_name};
 
 use crate::cells::{is_wide_cell, len_in, role_in, with_name};
 use crate::image::Image;

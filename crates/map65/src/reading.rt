@@ -1,10 +1,7 @@
 //! Reading an image.
 
 ghost use Rattle.std.specs.Prelude.{◌≡◌, ◌+◌, ◌-◌, ◌^◌, ◌<◌, ◌≤◌, take, drop, IfSome, IfOk, length};
-ghost use Rattle.map65.specs.Device.{TakesUpTo, has_failed};
-ghost use Rattle.map65.specs.Image.{GivesImage, ReadCount, StopsAt, image_of, read_limit, most_of};
-ghost use Rattle.map65.specs.ImageView.{AreBytes, IsPlaced};
-ghost use Rattle.map65.specs.Taking.{IsReadTo, TakeCount, TakesNoMore};
+ghost use Rattle.map65.specs.Words.{AreBytes, GivesImage, IsPlaced, IsReadTo, ReadCount, StopsAt, TakeCount, TakesNoMore, TakesUpTo, has_failed, image_of, most_of, read_limit};
 
 use crate::devices::{Source, TakeFault, pass_over, take_up_to};
 use crate::image::{Image, ImageFault};

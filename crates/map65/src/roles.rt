@@ -1,7 +1,7 @@
 //! What follows from the role of an address alone.
 
 ghost use Rattle.std.specs.Prelude.{◌≡◌};
-ghost use Rattle.map65.specs.Roles.{is_skip, is_wide, unit_of};
+ghost use Rattle.map65.specs.Words.{is_skip, is_wide, unit_of};
 
 use info65::{Entry, RangeType};
 

@@ -1,12 +1,8 @@
 //! Targets of items: the addresses that they refer to.
 
 ghost use Rattle.std.specs.Prelude.{◌≡◌, ◌+◌, ◌<◌, ◌≤◌, IsTrue, length};
-ghost use Rattle.isa65.specs.Cpu.{table_of};
-ghost use Rattle.isa65.specs.Mode.{len_of, row_len};
-ghost use Rattle.map65.specs.ImageView.{bytes_from, end_of, is_inside};
-ghost use Rattle.map65.specs.Items.{item_len};
-ghost use Rattle.map65.specs.Roles.{role_of};
-ghost use Rattle.map65.specs.Targets.{branch_target, entry_of, is_jump, only_inside, opcode_target, operand_target, return_target, row_target, target_at, target_for, target_of, word_of, word_target};
+ghost use Rattle.isa65.specs.Words.{len_of, row_len, table_of};
+ghost use Rattle.map65.specs.Words.{branch_target, bytes_from, end_of, entry_of, is_inside, is_jump, item_len, only_inside, opcode_target, operand_target, return_target, role_of, row_target, target_at, target_for, target_of, word_of, word_target};
 
 use crate::image::Image;
 use info65::{Entry, Info, RangeType};

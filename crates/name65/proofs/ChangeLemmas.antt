@@ -2,9 +2,7 @@
 use Rattle.std.proofs.Common.{◌≡◌, ◌++◌, ℕ, Bool, List, [], ◌∷◌, map, Option, ap, refl}
 use Rattle.std.specs.Prelude.{is_some}
 use Rattle.text65.specs.Lines.{text_lines}
-use Rattle.stmt65.specs.Lexing.{parts}
-use Rattle.stmt65.specs.Meaning.{readings}
-use Rattle.stmt65.specs.Reading.{reading_of}
+use Rattle.stmt65.specs.Words.{parts, reading_of, readings}
 use Rattle.stmt65.specs.declared.language.Language.{Language}
 use Rattle.stmt65.specs.declared.assembling.assembler.Source.{Source}
 use Rattle.name65.specs.NamedText.{AreLines, is_touched, line_text, lines_text, touched_from}

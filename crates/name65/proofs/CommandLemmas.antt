@@ -1,8 +1,7 @@
 -- The command is one of which `clap` says its matches and faults.
 use Rattle.std.proofs.Common.{refl}
 use Rattle.clap.proofs.OnLiterals.{clap_on_literals}
-use Rattle.usage65.specs.Command.{command_of}
-use Rattle.usage65.specs.Values.{IsPlain}
+use Rattle.usage65.specs.Words.{IsPlain, command_of}
 use Rattle.name65.specs.Command.{app}
 
 pub app_is_plain : IsPlain app

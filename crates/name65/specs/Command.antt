@@ -1,8 +1,7 @@
 -- The program's command line.
 use Rattle.std.specs.Prelude.{[], ◌∷◌, None, Some, codes}
 use Rattle.clap.specs.Words.{App}
-use Rattle.usage65.specs.Choices.{ChoiceView, ProgramView, help_choice, info_choice, output_choice, start_choice, version_choice}
-use Rattle.usage65.specs.Command.{command_of}
+use Rattle.usage65.specs.Words.{ChoiceView, ProgramView, command_of, help_choice, info_choice, output_choice, start_choice, version_choice}
 
 abbrev pub groups_choice : ChoiceView
 groups_choice = record info_choice { purpose = codes "information file, for its lines `#: ..` and the start" }

@@ -4,12 +4,7 @@ use Rattle.std.specs.List.{list_any}
 use Rattle.std.specs.String.{string_bytes}
 use Rattle.info65.specs.declared.tags.tag.Tag.{Tag}
 use Rattle.text65.specs.Lines.{text_lines}
-use Rattle.stmt65.specs.Code.Held.{held}
-use Rattle.stmt65.specs.Lexing.{parts}
-use Rattle.stmt65.specs.Meaning.{meaning_in}
-use Rattle.stmt65.specs.Reading.{reading_of}
-use Rattle.stmt65.specs.SourceLine.{SourceLine, Assignment}
-use Rattle.stmt65.specs.Sources.{source_addresses, source_meaning, source_readings}
+use Rattle.stmt65.specs.Words.{Assignment, SourceLine, held, meaning_in, parts, reading_of, source_addresses, source_meaning, source_readings}
 use Rattle.stmt65.specs.declared.assembling.assembler.Source.{Source}
 use Rattle.name65.specs.Marks.{AreNamed, is_marked}
 use Rattle.name65.specs.declared.complaint.Refusal.{Refusal}

@@ -1,11 +1,7 @@
 -- What a command line asks for.
 use Rattle.std.specs.Prelude.{ℕ, Bool, List, Option, Result, Ok, codes, if◌then◌else◌}
 use Rattle.clap.specs.Words.{Row, Text, first_of}
-use Rattle.usage65.specs.Code.Names.{names_seen}
-use Rattle.usage65.specs.FileNames.{info_named, input_named, output_named}
-use Rattle.usage65.specs.Number.{address_in}
-use Rattle.usage65.specs.Requests.{NamesView, Refusal, names_apart, or_refused}
-use Rattle.usage65.specs.Values.{◌>>=◌, accepted, given, is_set}
+use Rattle.usage65.specs.Words.{NamesView, Refusal, accepted, address_in, given, info_named, input_named, is_set, names_apart, names_seen, or_refused, output_named, ◌>>=◌}
 use Rattle.name65.specs.Command.{app}
 use Rattle.name65.specs.declared.request.Request.{Request}
 use Rattle.name65.specs.declared.request.Request.TheVariants.{Help, Version, Name}

@@ -2,7 +2,7 @@
 
 ghost use Rattle.std.specs.Prelude.{◌≡◌, ◌++◌, ◌-◌, ◌≤◌, [], if◌then◌else◌, IfOk, None, Ok, OnOk, Some, drop, take};
 ghost use Rattle.std.specs.List.{list_any};
-ghost use Rattle.stmt65.specs.Sources.{source_addresses, source_meaning};
+ghost use Rattle.stmt65.specs.Words.{source_addresses, source_meaning};
 ghost use Rattle.name65.specs.NamedText.{AreLines, IsNamed, line_text, touches};
 
 use crate::changed_line::put_changed;

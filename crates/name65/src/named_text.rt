@@ -1,8 +1,7 @@
 //! The listing by names.
 
 ghost use Rattle.std.specs.Prelude.{◌≡◌, IfErr, IfOk, IsTrue, Ok};
-ghost use Rattle.stmt65.specs.Meaning.{meaning_in};
-ghost use Rattle.stmt65.specs.Sources.{source_addresses, source_meaning};
+ghost use Rattle.stmt65.specs.Words.{meaning_in, source_addresses, source_meaning};
 ghost use Rattle.name65.specs.NamedText.{IsNamed, MeansTheSame, Reports};
 
 use crate::changes::changed_text;

@@ -3,17 +3,10 @@ use Rattle.std.proofs.Common.{◌≡◌, ◌+◌, ◌<◌, ◌≤◌, ℕ, Bool,
 use Rattle.std.proofs.lemmas.Bool.{cases_Bool, cases_order}
 use Rattle.std.proofs.lemmas.Bool.Decides.{nat_tests}
 use Rattle.std.proofs.lemmas.List.Folds.{Any-from_list_any}
-use Rattle.isa65.specs.Mode.{len_of}
-use Rattle.isa65.specs.declared.mode.Mode.{Mode}
-use Rattle.isa65.specs.declared.mode.Mode.TheVariants.{Imp, Acc, Imm, Zp, Zpx, Zpy, Abs, Absx, Absy, Ind, Indx, Indy, Zpind, Absindx, Rel, Zprel}
-use Rattle.isa65.specs.declared.op.Op.{Op}
-use Rattle.map65.specs.MapView.{MapView}
-use Rattle.reach65.specs.Code.Apart.{is_after, is_before, len_at, op_len}
-use Rattle.reach65.specs.Flow.{instruction_at}
-use Rattle.reach65.specs.Laws.{IsOfCode}
-use Rattle.reach65.specs.Reached.{any_marked, is_marked}
-use Rattle.reach65.specs.Sound.{IsApart}
-use Rattle.reach65.specs.Taken.{has_byte, is_code, is_within}
+use Rattle.isa65.specs.Words.{len_of}
+use Rattle.reach65.specs.Words.{Abs, Absindx, Absx, Absy, Acc, Imm, Imp, Ind, Indx, Indy, IsApart, IsOfCode, Mode, Op, Rel, Zp, Zpind, Zprel, Zpx, Zpy, any_marked, instruction_at, is_after, is_before, is_code, is_marked, is_within, len_at, op_len}
+use Rattle.map65.specs.Words.{MapView}
+use Rattle.reach65.specs.Taken.{has_byte}
 
 -- an instruction has at most three bytes
 pub mode-short : (mode : Mode) → len_of mode ≤ 3

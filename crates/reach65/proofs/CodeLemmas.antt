@@ -2,29 +2,15 @@
 use Rattle.std.proofs.Common.{◌≡◌, ◌∙◌, ℕ, zero, suc, ◌+◌, ◌-◌, ◌<◌, ◌≤◌, ◌&&◌, nat_le, Bool, true, false, List, [], ◌∷◌, ◌++◌, length, get_or, Option, Some, None, refl, ap, sym, subst, arith, inl, inr, ◌⊎◌}
 use Rattle.std.proofs.lemmas.Bool.{and_from, and_right, cases_Bool, cases_eq, cases_lt, cond_both, le-leb, leb-true, lt-ltb, not-false, not_from_true, or_right}
 use Rattle.std.proofs.lemmas.List.Folds.{Any-from_list_any, list_any_at}
-use Rattle.isa65.specs.Mode.{len_of}
+use Rattle.isa65.specs.Words.{decoded, len_of, table_of}
 use Rattle.isa65.proofs.ModeLaws.{len-positive}
-use Rattle.isa65.specs.Opcodes.{decoded}
-use Rattle.isa65.specs.Cpu.{table_of}
-use Rattle.isa65.specs.declared.op.Op.{Op}
-use Rattle.info65.specs.Views.{InfoView}
-use Rattle.info65.specs.declared.information.range.RangeSpec.{RangeSpec}
-use Rattle.info65.specs.declared.information.range.RangeType.{RangeType}
+use Rattle.reach65.specs.Words.{AreMarkedBy, ArePieces, AreWhole, CodeLaw, Ground, IsOfCode, IsPiece, IsReachedBefore, IsStretch, IsWith, Op, RangeSpec, RangeType, any_marked, if_whole, instruction_at, is_code, is_free, is_given, is_marked, is_taken, is_within, op_in, with_info}
+use Rattle.info65.specs.Words.{InfoView}
 use Rattle.info65.specs.declared.information.range.RangeType.TheVariants as role
 use Rattle.map65.proofs.Public.{address-at, address-count, has-role, in-run, inside-if, item_law, joined-if, joined-in, joined-run, one-run-role, run-if, within}
-use Rattle.map65.specs.ImageView.{IsPlaced, byte_at, end_of, is_inside}
-use Rattle.map65.specs.Items.{CanBegin, EndsBefore, full_len_at, item_len}
-use Rattle.map65.specs.MapView.{MapView, opcodes}
-use Rattle.map65.specs.Pieces.{AreOnePiece, AreOneRun, IsFirst, is_in_run, is_joined, is_own}
-use Rattle.map65.specs.Roles.{is_skip, is_wide, role_at, role_in, role_of}
-use Rattle.map65.specs.Segments.{is_border}
-use Rattle.map65.specs.Spans.{addresses}
+use Rattle.map65.specs.Words.{AreOnePiece, AreOneRun, CanBegin, EndsBefore, IsFirst, IsPlaced, MapView, addresses, byte_at, end_of, full_len_at, is_border, is_in_run, is_inside, is_joined, is_own, is_skip, is_wide, item_len, opcodes, role_at, role_in, role_of}
 use Rattle.reach65.proofs.PieceLemmas.{pieces_cover}
-use Rattle.reach65.specs.Flow.{if_whole, instruction_at, op_in}
-use Rattle.reach65.specs.Laws.{AreWhole, CodeLaw, IsOfCode, IsReachedBefore, IsWith, with_info}
-use Rattle.reach65.specs.Pieces.{ArePieces, Ground, IsPiece, IsStretch, is_free}
-use Rattle.reach65.specs.Reached.{any_marked, is_marked}
-use Rattle.reach65.specs.Taken.{AreMarkedBy, has_byte, is_code, is_given, is_taken, is_within}
+use Rattle.reach65.specs.Taken.{has_byte}
 
 -- ---- the roles of ranges after others
 

@@ -1,15 +1,8 @@
 -- Items of a small image with and without the range that is proposed, and with a range of code that was given.
 use Rattle.std.proofs.Common.{◌≡◌, ℕ, List, [], ◌∷◌, map, refl}
-use Rattle.isa65.specs.declared.cpu.Cpu.TheVariants.{M6502}
-use Rattle.info65.specs.declared.information.range.RangeSpec.{RangeSpec}
-use Rattle.info65.specs.declared.information.range.RangeType.{RangeType}
+use Rattle.reach65.specs.Words.{M6502, RangeSpec, RangeType}
 use Rattle.info65.specs.declared.information.range.RangeType.TheVariants as role
-use Rattle.map65.specs.Items.{full_len_at, item_len, item_start, size_at}
-use Rattle.map65.specs.MapRows.{map_of}
-use Rattle.map65.specs.MapView.{MapView}
-use Rattle.map65.specs.Pieces.{are_joined, is_in_run, is_joined, is_own}
-use Rattle.map65.specs.Roles.{role_in}
-use Rattle.map65.specs.Segments.{is_border}
+use Rattle.map65.specs.Words.{MapView, are_joined, full_len_at, is_border, is_in_run, is_joined, is_own, item_len, item_start, map_of, role_in, size_at}
 
 -- jmp $1006, over two bytes $EA and one $A9, which would take the byte after it as its operand; rts
 abbrev with_ranges : List RangeSpec → MapView

@@ -1,13 +1,8 @@
 -- What the entry of a table refers to.
 use Rattle.std.proofs.Common.{arith, ◌≡◌, ◌<◌, ◌≤◌, ℕ, Option, Some, None}
-use Rattle.info65.specs.Layouts.{layout_of}
-use Rattle.info65.specs.declared.information.range.RangeType.{RangeType}
-use Rattle.map65.specs.ImageView.{bytes_from, end_of}
-use Rattle.map65.specs.Items.{item_len}
-use Rattle.map65.specs.MapView.{MapView}
-use Rattle.map65.specs.Roles.{role_at}
-use Rattle.map65.specs.Targets.{target_at, target_for}
-use Rattle.reach65.specs.Entries.{pointer_at, pointer_for}
+use Rattle.info65.specs.Words.{layout_of}
+use Rattle.reach65.specs.Words.{RangeType, pointer_at, pointer_for}
+use Rattle.map65.specs.Words.{MapView, bytes_from, end_of, item_len, role_at, target_at, target_for}
 use Rattle.map65.proofs.Public.{role_at-inside}
 
 -- an address of the image has a role

@@ -1,13 +1,8 @@
 -- Where instructions lead.
 use Rattle.std.proofs.Common.{◌≡◌, ◌<◌, ℕ, true, List, [], ◌∷◌, length, inl, inr, refl, Option, Some, None, option_and_then, arith}
 use Rattle.map65.proofs.Public.{within}
-use Rattle.map65.specs.ImageView.{bytes_from, ImageView, IsPlaced, is_inside}
-use Rattle.map65.specs.MapView.{MapView}
-use Rattle.map65.specs.Targets.{only_inside}
-use Rattle.isa65.specs.declared.op.Op.{Op}
-use Rattle.reach65.specs.Flow.{FlowView, LeadsTo, goal_at, goal_by, goal_of, instruction_at, next_at, next_of, text_of}
-use Rattle.reach65.specs.Inlines.{inline_of}
-use Rattle.info65.specs.declared.tags.tag.Tag.{Tag}
+use Rattle.map65.specs.Words.{ImageView, IsPlaced, MapView, bytes_from, is_inside, only_inside}
+use Rattle.reach65.specs.Words.{FlowView, LeadsTo, Op, Tag, goal_at, goal_by, goal_of, inline_of, instruction_at, next_at, next_of, text_of}
 
 only_inside-is : (image : ImageView) (t b : ℕ) → only_inside image t ≡ Some b → is_inside image b ≡ true
 only_inside-is image t b = grind arith

@@ -2,15 +2,8 @@
 use Rattle.std.proofs.Common.{◌≡◌, ◌≢◌, ◌⊎◌, ◌+◌, ◌≤◌, ◌<◌, ℕ, Bool, true, List, arith, length, get_or, Some, inl, inr, subst, sym}
 use Rattle.std.specs.List.{Contains}
 use Rattle.std.proofs.lemmas.List.Elements.{Contains-get_or}
-use Rattle.isa65.specs.declared.op.Op.{Op}
-use Rattle.reach65.specs.Code.Growing.{HasPair, IsGrown, extent_of}
-use Rattle.reach65.specs.Code.Searching.{HasJoined, IsAsBefore, IsDone, State}
-use Rattle.reach65.specs.Entries.{pointers}
-use Rattle.reach65.specs.Flow.{FlowView, end_after, instruction_at}
-use Rattle.reach65.specs.Growth.{AreBeside, BeginsCode, Grows, IsCandidate, IsFollowed, IsWordOf, MayJoin, after, alone, before, behind, in_halves, in_row, in_table, joined, unchanged}
-use Rattle.reach65.specs.Pairs.{pairs_at}
-use Rattle.reach65.specs.Reached.{AreReached, is_marked}
-use Rattle.reach65.specs.declared.pairs.Pair.{Pair}
+use Rattle.reach65.specs.Words.{AreBeside, AreReached, BeginsCode, FlowView, Grows, HasJoined, HasPair, IsAsBefore, IsCandidate, IsDone, IsGrown, IsWordOf, MayJoin, Op, Pair, State, after, alone, before, behind, end_after, extent_of, in_halves, in_row, in_table, instruction_at, is_marked, pairs_at, pointers, unchanged}
+use Rattle.reach65.specs.Growth.{IsFollowed, joined}
 
 -- ---- candidates
 

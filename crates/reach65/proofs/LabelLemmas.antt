@@ -4,13 +4,9 @@ use Rattle.std.specs.Prelude.{Option, Some, None, is_none}
 use Rattle.std.specs.List.{AllByRecursion, Contains}
 use Rattle.std.proofs.lemmas.Bool.{and_from, and_parts, cases_Bool, false≢true, le-leb, lt-ltb}
 use Rattle.std.proofs.lemmas.List.{append-nil, get_or_default}
-use Rattle.info65.specs.Names.{AreNames, IsName, blank_name, covering, covers, name_at}
-use Rattle.info65.specs.Views.{NameView}
+use Rattle.info65.specs.Words.{AreNames, IsName, NameView, blank_name, covering, covers, name_at}
 use Rattle.info65.proofs.Public.{AreApart, AreRising, none_covers}
-use Rattle.reach65.specs.Labels.{AreNewLabels, label_at, is_label, is_unnamed, is_wanted, labels_from, labels_of}
-use Rattle.reach65.specs.Reached.{is_marked}
-use Rattle.reach65.specs.TextLaws.{AreAmong}
-use Rattle.reach65.specs.declared.pairs.Pair.{Pair}
+use Rattle.reach65.specs.Words.{AreAmong, AreNewLabels, Pair, is_label, is_marked, is_unnamed, is_wanted, label_at, labels_from, labels_of}
 
 labels-same : (p q : ℕ → Bool) (a n : ℕ) → ((b : ℕ) → p b ≡ q b) → labels_from p a n ≡ labels_from q a n
 unfolding labels_from

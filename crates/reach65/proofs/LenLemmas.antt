@@ -4,15 +4,9 @@ use Rattle.std.specs.Prelude.{◌||◌, count_by, if◌then◌else◌, replicate
 use Rattle.std.proofs.lemmas.Bool.{and_parts, cases_lt, lt-leb}
 use Rattle.std.proofs.lemmas.List.{get_or-replicate, get_or_past, length-replicate}
 use Rattle.std.proofs.lemmas.List.Sums.{count_by-le-length, sum_by-cons}
-use Rattle.map65.specs.ImageView.{byte_at, end_of}
-use Rattle.reach65.specs.Code.Cutting.{AreTails, IsTail, no_lens, tail_len, tails_len}
-use Rattle.reach65.specs.Pieces.{Ground, IsText, chars_at, chars_from, is_filler, is_free, is_plain, is_written, len_if_text, len_in, longer, text_len}
-use Rattle.reach65.specs.Reached.{is_marked}
-use Rattle.reach65.specs.Texts.{is_char, is_letter}
-use Rattle.reach65.specs.declared.texts.Alphabet.{Alphabet}
+use Rattle.map65.specs.Words.{byte_at, end_of}
+use Rattle.reach65.specs.Words.{Alphabet, AreTails, Ground, IsTail, IsText, Tail, Tails, chars_at, chars_from, is_char, is_filler, is_free, is_letter, is_marked, is_plain, is_written, len_if_text, len_in, longer, no_lens, tail_len, tails_len, text_len}
 use Rattle.reach65.specs.declared.texts.Alphabet.TheVariants as alphabet
-use Rattle.reach65.specs.declared.texts.Tail.{Tail}
-use Rattle.reach65.specs.declared.texts.Tails.{Tails}
 
 -- ---- characters
 

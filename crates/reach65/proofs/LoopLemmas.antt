@@ -2,7 +2,7 @@
 use Rattle.std.proofs.Common.{arith, ◌≡◌, ◌+◌, ◌||◌, ℕ, zero, suc, Bool, [], ◌∷◌, ◌++◌, ap}
 use Rattle.std.specs.List.{list_any}
 use Rattle.std.proofs.lemmas.List.Folds.{list_any-append}
-use Rattle.map65.specs.Spans.{addresses}
+use Rattle.map65.specs.Words.{addresses}
 
 pub addresses_none : (a : ℕ) → addresses 0 a ≡ []
 unfolding addresses

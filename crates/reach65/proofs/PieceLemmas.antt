@@ -3,15 +3,12 @@ use Rattle.std.proofs.Common.{All, zero, suc, ◌≡◌, ◌+◌, ◌-◌, ◌<�
 use Rattle.std.proofs.lemmas.Bool.Decides.{nat_tests}
 use Rattle.std.proofs.lemmas.Bool.{and_left, and_parts, and_right, cases_eq, cases_lt, cond_both, le-leb, lt-leb, le-ltb, not_from_false, or_left}
 use Rattle.std.proofs.lemmas.List.{append-nil}
-use Rattle.info65.specs.Ranges.{has_address}
-use Rattle.info65.specs.declared.information.range.RangeSpec.{RangeSpec}
-use Rattle.info65.specs.declared.information.range.RangeType.{RangeType}
+use Rattle.info65.specs.Words.{has_address}
+use Rattle.reach65.specs.Words.{ArePieces, Ground, IsKnown, IsPiece, IsRun, IsStretch, LiesIn, RangeSpec, RangeType, are_same, begins_text, is_break, is_filler, is_free, is_given, is_open, is_plain, is_return, is_same, past_zero}
 use Rattle.info65.specs.declared.information.range.RangeType.TheVariants as role
-use Rattle.map65.specs.ImageView.{end_of}
-use Rattle.reach65.specs.Code.Cutting.{IsRun}
-use Rattle.reach65.specs.Pieces.{ArePieces, Ground, IsKnown, IsPiece, IsStretch, LiesIn, are_same, begins_text, is_break, is_filler, is_free, is_open, is_plain, is_return, is_same, is_word, past_zero}
+use Rattle.map65.specs.Words.{end_of}
+use Rattle.reach65.specs.Pieces.{is_word}
 use Rattle.reach65.proofs.LenLemmas.{text-free}
-use Rattle.reach65.specs.Taken.{is_given}
 
 -- ---- free addresses
 

@@ -2,9 +2,9 @@
 use Rattle.std.proofs.Common.{◌≡◌, ◌+◌, ◌<◌, ◌≤◌, ℕ, true, false, List, [], ◌∷◌, ◌++◌, append_assoc, arith, refl, ◌*◌}
 use Rattle.std.proofs.lemmas.Bool.{and_left, and_parts, both_ways, cases_eq}
 use Rattle.std.proofs.lemmas.List.{append-nil}
-use Rattle.info65.specs.declared.information.range.RangeSpec.{RangeSpec}
-use Rattle.map65.specs.ImageView.{end_of}
-use Rattle.reach65.specs.Rows.{AreRows, IsRow, Words, free_word, is_any_row, is_row, is_word}
+use Rattle.reach65.specs.Words.{AreRows, IsRow, RangeSpec, Words, free_word, is_any_row, is_row}
+use Rattle.map65.specs.Words.{end_of}
+use Rattle.reach65.specs.Rows.{is_word}
 use Rattle.reach65.proofs.PieceLemmas.{past-plain}
 
 past_word : (w : Words) (less a : ℕ) → end_of w.within.image ≤ a → is_word w less a ≡ false

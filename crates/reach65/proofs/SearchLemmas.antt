@@ -6,13 +6,12 @@ use Rattle.std.proofs.lemmas.List.{get_or-set_same, get_or-set_other}
 use Rattle.std.proofs.Math.ListN.{length-set}
 use Rattle.std.proofs.lemmas.List.Elements.{Contains-append_left, Contains-push, Contains-push_cases}
 use Rattle.std.proofs.lemmas.List.Sums.{sum_by-set}
-use Rattle.map65.specs.ImageView.{IsPlaced, is_inside}
-use Rattle.reach65.specs.Code.Searching.{HasEntries, HasNext, IsAtEnd, IsBegun, IsDone, IsFollowed, IsSearch, Nothing, State, put, put_entry, put_inside, put_leads, put_some}
-use Rattle.reach65.specs.Flow.{FlowView, goal_at, next_at}
+use Rattle.map65.specs.Words.{IsPlaced, is_inside}
+use Rattle.reach65.specs.Words.{AreReached, FlowView, HasEntries, HasNext, IsAtEnd, IsBegun, IsDone, IsSearch, Nothing, Reached, State, entry, goal_at, is_marked, led, next_at, no_marks, put, put_entry, put_inside, put_leads, put_some}
+use Rattle.reach65.specs.Code.Searching.{IsFollowed}
 use Rattle.map65.proofs.Public.{within}
 use Rattle.reach65.proofs.FlowLemmas.{leads-below}
 use Rattle.reach65.proofs.TakenLemmas.{blank_false}
-use Rattle.reach65.specs.Reached.{AreReached, Reached, entry, led, is_marked, no_marks}
 
 -- ---- what a step does
 

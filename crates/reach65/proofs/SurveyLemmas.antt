@@ -3,15 +3,10 @@ use Rattle.std.proofs.Common.{◌≡◌, ◌∙◌, ◌+◌, ◌≤◌, ◌&&◌
 use Rattle.std.proofs.lemmas.Bool.Decides.{nat_tests}
 use Rattle.std.specs.List.{list_any}
 use Rattle.std.proofs.Math.Bool.{or-false}
-use Rattle.isa65.specs.declared.op.Op.{Op}
-use Rattle.reach65.specs.Code.Surveying.{Adds, AddsOp, AddsRanges, blank_survey}
-use Rattle.reach65.specs.Flow.{FlowView, goal_at, instruction_at, next_at, text_at}
-use Rattle.reach65.specs.Reached.{any_marked, is_marked, no_marks}
-use Rattle.reach65.specs.Routines.{branch_at, call_at, goes_on, is_called, is_gone_on, is_it, is_text_start}
-use Rattle.reach65.specs.Survey.{AreSurvey, Survey}
-use Rattle.reach65.specs.Taken.{AreMarkedBy, has_byte, is_code, is_given, is_taken}
-use Rattle.reach65.specs.Variables.{is_operand, operand_at}
-use Rattle.map65.specs.Spans.{addresses}
+use Rattle.reach65.specs.Words.{Adds, AddsOp, AddsRanges, AreMarkedBy, AreSurvey, FlowView, Op, Survey, any_marked, blank_survey, branch_at, call_at, goal_at, instruction_at, is_called, is_code, is_given, is_gone_on, is_it, is_marked, is_operand, is_taken, is_text_start, next_at, no_marks, operand_at, text_at}
+use Rattle.reach65.specs.Routines.{goes_on}
+use Rattle.reach65.specs.Taken.{has_byte}
+use Rattle.map65.specs.Words.{addresses}
 use Rattle.reach65.proofs.LoopLemmas.{any_more}
 use Rattle.reach65.proofs.TakenLemmas.{blank_false, marked_by}
 

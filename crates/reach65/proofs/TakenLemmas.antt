@@ -2,9 +2,8 @@
 use Rattle.std.proofs.Common.{◌≡◌, ◌∙◌, ◌<◌, ◌||◌, ℕ, Bool, false, List, length, replicate, ap, arith, refl, sym}
 use Rattle.std.proofs.lemmas.List.{get_or-replicate, get_or_past, length-replicate}
 use Rattle.std.proofs.lemmas.Bool.{cases_lt}
-use Rattle.reach65.specs.Reached.{is_marked, no_marks}
-use Rattle.map65.specs.MapView.{MapView}
-use Rattle.reach65.specs.Taken.{AreMarkedBy, is_code, is_given, is_taken}
+use Rattle.reach65.specs.Words.{AreMarkedBy, is_code, is_given, is_marked, is_taken, no_marks}
+use Rattle.map65.specs.Words.{MapView}
 
 pub none_set : (n a : ℕ) → is_marked (replicate n false) a ≡ false
 none_set n a = grind (arith, cases_lt, get_or-replicate, get_or_past, length-replicate)

@@ -5,25 +5,14 @@ use Rattle.std.specs.List.{AllByRecursion, flat_map, list_any}
 use Rattle.std.proofs.lemmas.Bool.{and_parts, both_ways, leb-true}
 use Rattle.std.proofs.lemmas.List.{append-nil}
 use Rattle.std.proofs.lemmas.List.Folds.{list_any-append}
-use Rattle.info65.specs.Grammar.{Item}
-use Rattle.info65.specs.Ranges.{has_address}
-use Rattle.info65.specs.Reader.{information}
-use Rattle.info65.specs.Tokens.{Stream, tokens_after, tokens_of}
-use Rattle.info65.specs.Views.{OptionsView}
-use Rattle.info65.specs.declared.information.range.RangeSpec.{RangeSpec}
-use Rattle.info65.specs.declared.information.range.RangeType.{RangeType}
+use Rattle.info65.specs.Words.{Item, OptionsView, Stream, has_address, information, tokens_after, tokens_of}
+use Rattle.reach65.specs.Words.{AreMarkedBy, ArePieces, Ground, IsPiece, IsProposal, IsStretch, RangeSpec, RangeType, TextLaw, comment_line, is_free, is_given, is_taken, label_lines, range_lines, with_found}
 use Rattle.info65.specs.declared.information.range.RangeType.TheVariants as role
-use Rattle.map65.specs.ImageView.{IsPlaced}
-use Rattle.map65.specs.MapView.{MapView}
+use Rattle.map65.specs.Words.{IsPlaced, MapView}
 use Rattle.info65.proofs.Public.{AreAdded, GivesBoth, information-both, label_items, range_items}
 use Rattle.reach65.proofs.PieceLemmas.{above-range, stretch-free, piece-lies}
 use Rattle.reach65.proofs.LabelLemmas.{new-apart, new-low, new-rising}
 use Rattle.reach65.proofs.TextLemmas.{AreTables, IsTable, Later, Opens, comment-passed, comments-open, labels-open, later-then, opens-then, ranges-open}
-use Rattle.reach65.specs.Labels.{label_lines}
-use Rattle.reach65.specs.TextLaws.{IsProposal, TextLaw, comment_line, with_found}
-use Rattle.reach65.specs.Pieces.{ArePieces, Ground, IsPiece, IsStretch, is_free}
-use Rattle.reach65.specs.RangeLines.{range_lines}
-use Rattle.reach65.specs.Taken.{AreMarkedBy, is_given, is_taken}
 
 -- ---- pieces as ranges that are added
 

@@ -7,28 +7,17 @@ use Rattle.std.proofs.lemmas.Bool.{and_from, and_parts, le-leb, not-true}
 use Rattle.std.proofs.lemmas.Bool.Decides.{nat_tests}
 use Rattle.std.proofs.lemmas.List.Folds.{list_all-append}
 use Rattle.text65.specs.Digits.{digits4, hex_digit}
-use Rattle.info65.specs.Attributes.{attribute_named, form_of, group_named, type_named}
-use Rattle.info65.specs.Grammar.{Item, Spells, attribute_name, group_name, value, mark}
-use Rattle.info65.specs.Lexemes.{closing_brace, in_class, lexeme_at, number, number_at, number_in, opening_brace, semicolon, string, string_at, word, word_at}
-use Rattle.info65.specs.Names.{default_name}
-use Rattle.info65.specs.Tokens.{Stream, TokenView, tokens_after, tokens_of}
-use Rattle.info65.specs.Values.{a_name, a_type, an_address, value_of}
-use Rattle.info65.specs.Views.{OptionsView}
-use Rattle.info65.specs.declared.syntax.attribute.Attribute.{Attribute}
+use Rattle.info65.specs.Words.{Item, OptionsView, Spells, Stream, TokenView, a_name, a_type, an_address, attribute_name, attribute_named, closing_brace, default_name, form_of, group_name, group_named, in_class, lexeme_at, number, number_in, opening_brace, semicolon, string, string_at, tokens_after, tokens_of, type_named, value, value_of, word, word_at}
+use Rattle.info65.specs.Grammar.{mark}
+use Rattle.info65.specs.Lexemes.{number_at}
+use Rattle.reach65.specs.Words.{Alphabet, AreLines, Attribute, RangeSpec, RangeType, alphabet_of, comment_line, dots_above, in_ascii, is_line, label_line, label_lines, range_bytes, range_line, range_lines, shown_as, shown_byte, shown_bytes, shown_char, title, type_text}
 use Rattle.info65.specs.declared.syntax.attribute.Attribute.TheVariants as attribute
 use Rattle.info65.specs.declared.syntax.attribute.Form.TheVariants as form
 use Rattle.info65.specs.declared.syntax.attribute.GroupKind.TheVariants as group
 use Rattle.info65.specs.declared.syntax.lexeme.Class.TheVariants as class
-use Rattle.info65.specs.declared.information.range.RangeSpec.{RangeSpec}
-use Rattle.info65.specs.declared.information.range.RangeType.{RangeType}
 use Rattle.info65.specs.declared.information.range.RangeType.TheVariants as role
-use Rattle.map65.specs.ImageView.{ImageView}
+use Rattle.map65.specs.Words.{ImageView}
 use Rattle.info65.proofs.Public.{after_tokens, default-form, label_items, range_items, spells-append}
-use Rattle.reach65.specs.Labels.{label_line, label_lines}
-use Rattle.reach65.specs.TextLaws.{AreLines, comment_line, is_line}
-use Rattle.reach65.specs.RangeLines.{alphabet_of, dots_above, range_bytes, range_line, range_lines, shown_as, shown_byte, shown_bytes, shown_char, title, type_text}
-use Rattle.reach65.specs.Texts.{in_ascii}
-use Rattle.reach65.specs.declared.texts.Alphabet.{Alphabet}
 use Rattle.reach65.specs.declared.texts.Alphabet.TheVariants as alphabet
 
 -- ---- tokens that are these items, and then those of a stream

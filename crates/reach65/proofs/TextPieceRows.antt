@@ -1,9 +1,6 @@
 -- Texts, and how ranges are shown, held against worked examples.
 use Rattle.std.proofs.Common.{refl}
-use Rattle.reach65.specs.Pieces.{are_same, chars_from, is_break, is_filler, is_free, is_plain, is_same, is_written, len_in, text_len}
-use Rattle.reach65.specs.RangeLines.{alphabet_of, shown_bytes}
-use Rattle.reach65.specs.Texts.{in_ascii, is_char, is_letter, is_text}
-use Rattle.reach65.specs.WorkedTexts.{WorkedTexts}
+use Rattle.reach65.specs.Words.{WorkedTexts, alphabet_of, are_same, chars_from, in_ascii, is_break, is_char, is_filler, is_free, is_letter, is_plain, is_same, is_text, is_written, len_in, shown_bytes, text_len}
 
 pub worked_texts : WorkedTexts
 unfolding alphabet_of are_same chars_from in_ascii is_break is_char is_filler is_free is_letter is_plain is_same is_text is_written len_in shown_bytes text_len

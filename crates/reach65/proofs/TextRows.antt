@@ -1,25 +1,12 @@
 -- The text of two ranges, and what is read of it after a file that ends within a comment, held against published bytes.
 use Rattle.std.proofs.Common.{◌≡◌, ◌++◌, ℕ, List, [], ◌∷◌, refl}
 use Rattle.std.specs.Prelude.{Ok, codes}
-use Rattle.info65.specs.Attributes.{attribute_named, form_of, group_named, type_named}
-use Rattle.info65.specs.Closing.{closing_fault}
-use Rattle.info65.specs.Comments.{comment_in, lacks_name}
-use Rattle.info65.specs.Faults.{◌>>=◌}
-use Rattle.info65.specs.Groups.{has, has_instead, is_given, value_in}
-use Rattle.info65.specs.IncludeGroups.{has_room}
-use Rattle.info65.specs.Labels.{range_name, names_said}
-use Rattle.info65.specs.Lexemes.{in_class, lexeme_at, number_at, number_in, word_at}
-use Rattle.info65.specs.Ranges.{overlaps, range_in, range_of_parts, ranges_of}
-use Rattle.info65.specs.Reader.{attribute_at, finish, groups_of, read, read_from, step, value_at}
-use Rattle.info65.specs.Tokens.{tokens_after}
-use Rattle.info65.specs.Values.{value_of}
-use Rattle.info65.specs.Views.{no_options}
-use Rattle.info65.specs.declared.information.range.RangeSpec.{RangeSpec}
+use Rattle.info65.specs.Words.{attribute_at, attribute_named, closing_fault, comment_in, finish, form_of, group_named, groups_of, has, has_instead, has_room, in_class, is_given, lacks_name, lexeme_at, names_said, no_options, number_in, overlaps, range_in, range_name, range_of_parts, ranges_of, read, read_from, step, tokens_after, type_named, value_in, value_of, word_at, ◌>>=◌}
+use Rattle.info65.specs.Lexemes.{number_at}
+use Rattle.info65.specs.Reader.{value_at}
+use Rattle.reach65.specs.Words.{RangeSpec, alphabet_of, comment_line, in_ascii, is_char, is_letter, is_text, range_line, range_lines, shown_bytes}
 use Rattle.info65.specs.declared.information.range.RangeType.TheVariants as role
-use Rattle.map65.specs.ImageView.{ImageView}
-use Rattle.reach65.specs.RangeLines.{alphabet_of, range_line, range_lines, shown_bytes}
-use Rattle.reach65.specs.Texts.{in_ascii, is_char, is_letter, is_text}
-use Rattle.reach65.specs.TextLaws.{comment_line}
+use Rattle.map65.specs.Words.{ImageView}
 
 abbrev an_image : ImageView
 an_image = record { start = 0x1000; bytes = codes "HELLO" ++ 1 ∷ [] }

@@ -6,14 +6,9 @@ use Rattle.std.proofs.lemmas.List.{set-get_or, set-set}
 use Rattle.std.proofs.Math.ListN.{length-set}
 use Rattle.std.proofs.lemmas.List.Elements.{Contains-append_left, Contains-push, Contains-push_cases}
 use Rattle.std.proofs.lemmas.List.Sums.{sum_by-set}
-use Rattle.map65.specs.ImageView.{IsPlaced, is_inside}
+use Rattle.map65.specs.Words.{IsPlaced, is_inside}
 use Rattle.map65.proofs.Public.{within}
-use Rattle.reach65.specs.Code.Searching.{AreChecked, AreSound, IsAsBefore, IsBegun, IsDone, IsTrial, State, HasBegun, HasJoined, HasNext, IsAtEnd, put, put_entry, put_inside, put_leads, put_some, unset}
-use Rattle.reach65.specs.Code.Growing.{extent_of}
-use Rattle.reach65.specs.Flow.{FlowView, goal_at, next_at}
-use Rattle.reach65.specs.Growth.{IsSoundAt}
-use Rattle.reach65.specs.Reached.{entry, led, is_marked}
-use Rattle.reach65.specs.Sound.{IsSound, is_fine, marked_count}
+use Rattle.reach65.specs.Words.{AreChecked, AreSound, FlowView, HasBegun, HasJoined, HasNext, IsAsBefore, IsAtEnd, IsBegun, IsDone, IsSound, IsSoundAt, IsTrial, State, entry, extent_of, goal_at, is_fine, is_marked, led, marked_count, next_at, put, put_entry, put_inside, put_leads, put_some, unset}
 use Rattle.reach65.proofs.FlowLemmas.{leads-below}
 use Rattle.reach65.proofs.SearchLemmas.{by_put, contains-nil, entry_begun, entry_entries, marks_set}
 

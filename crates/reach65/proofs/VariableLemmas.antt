@@ -1,7 +1,7 @@
 -- Variables one after the other.
 use Rattle.std.proofs.Common.{zero, suc, ◌≡◌, ◌+◌, ◌-◌, ◌<◌, ◌≤◌, ℕ, Bool, true, false, List, [], ◌∷◌, ◌++◌, append_assoc, arith, refl}
 use Rattle.std.proofs.lemmas.List.{append-nil}
-use Rattle.reach65.specs.Variables.{variables_from}
+use Rattle.reach65.specs.Words.{variables_from}
 
 hit : (p : ℕ → Bool) (room at n : ℕ) → p at ≡ true → variables_from p (suc room) at (suc n) ≡ at ∷ variables_from p 256 (at + 1) n
 unfolding variables_from

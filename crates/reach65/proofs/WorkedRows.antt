@@ -1,26 +1,11 @@
 -- The definitions, held against worked examples.
 use Rattle.std.proofs.Common.{◌≡◌, ◌≤◌, ℕ, zero, suc, true, [], ◌∷◌, refl, arith}
-use Rattle.map65.specs.Items.{full_len_at, item_len, item_start, size_at}
-use Rattle.map65.specs.Pieces.{are_joined, is_in_run, is_joined, is_own}
-use Rattle.map65.specs.Roles.{role_at, role_in}
-use Rattle.map65.specs.Segments.{is_border}
-use Rattle.map65.specs.Spans.{addresses}
-use Rattle.map65.specs.Targets.{target_at, target_for, target_of}
-use Rattle.reach65.specs.Entries.{code_starts, entries_of, entries_with, plain_entries_of, pointer_at, pointers, vectors}
-use Rattle.map65.specs.MapRows.{code_at}
+use Rattle.map65.specs.Words.{addresses, are_joined, code_at, full_len_at, is_border, is_in_run, is_joined, is_own, item_len, item_start, role_at, role_in, size_at, target_at, target_for, target_of}
+use Rattle.reach65.specs.Words.{FlowView, IsApart, WorkedCode, any_marked, branch_at, call_at, code_starts, end_after, entries_of, entries_with, free_word, goal_at, goal_of, inline_of, instruction_at, is_called, is_code, is_entered, is_fine, is_free, is_gone_on, is_in_table, is_inline, is_likely, is_marked, is_of_table, is_open, is_operand, is_plain, is_routine, is_row, is_run_into, is_text_start, marked_count, next_at, operand_at, past_zero, plain_entries_of, pointer_at, pointers, text_at, text_end, text_of, vectors, zero_end}
 use Rattle.reach65.proofs.ApartLemmas.{tests_apart}
-use Rattle.reach65.specs.Flow.{FlowView, end_after, goal_at, goal_of, instruction_at, next_at, text_at, text_of}
-use Rattle.reach65.specs.Inlines.{inline_of, is_inline, text_end, zero_end}
-use Rattle.reach65.specs.Pieces.{is_free, is_open, is_plain, past_zero}
-use Rattle.reach65.specs.Reached.{any_marked, is_marked}
-use Rattle.reach65.specs.Routines.{branch_at, call_at, goes_on, is_called, is_gone_on, is_text_start}
-use Rattle.reach65.specs.Rows.{free_word, is_in_table, is_of_table, is_row, is_word}
-use Rattle.reach65.specs.Growth.{is_entered, is_run_into}
-use Rattle.reach65.specs.Sound.{IsApart, is_fine, marked_count}
-use Rattle.reach65.specs.Survey.{is_likely, is_routine}
-use Rattle.reach65.specs.Taken.{has_byte, is_code}
-use Rattle.reach65.specs.Variables.{is_operand, operand_at}
-use Rattle.reach65.specs.Worked.{WorkedCode}
+use Rattle.reach65.specs.Routines.{goes_on}
+use Rattle.reach65.specs.Rows.{is_word}
+use Rattle.reach65.specs.Taken.{has_byte}
 
 -- nop; nop; nop; rts at $0000
 abbrev four : FlowView

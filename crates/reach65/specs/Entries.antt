@@ -2,16 +2,11 @@
 use Rattle.std.specs.Prelude.{ℕ, ◌+◌, ◌*◌, ◌==◌, ◌&&◌, nat_le, Bool, true, false, List, [], ◌∷◌, ◌++◌, length, if◌then◌else◌, Option, None}
 use Rattle.std.specs.List.{flat_map}
 use Rattle.std.specs.Option.{option_to_list}
-use Rattle.info65.specs.Layouts.{layout_of}
-use Rattle.info65.specs.declared.information.range.Entry.{Entry}
+use Rattle.info65.specs.Words.{layout_of}
+use Rattle.reach65.specs.Types.{Entry, RangeSpec}
 use Rattle.info65.specs.declared.information.range.Entry.TheVariants as entry
-use Rattle.info65.specs.declared.information.range.RangeSpec.{RangeSpec}
 use Rattle.info65.specs.declared.information.range.RangeType.TheVariants as role
-use Rattle.map65.specs.ImageView.{ImageView, byte_at, end_of}
-use Rattle.map65.specs.MapView.{MapView}
-use Rattle.map65.specs.Roles.{is_role, role_of}
-use Rattle.map65.specs.Spans.{addresses}
-use Rattle.map65.specs.Targets.{entry_target, target_at}
+use Rattle.map65.specs.Words.{ImageView, MapView, addresses, byte_at, end_of, entry_target, is_role, role_of, target_at}
 
 -- ---- what tables of the information file say
 

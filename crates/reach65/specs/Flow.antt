@@ -5,24 +5,11 @@
 -- or of `jsr` to an absolute address; to each of them only inside the image. A call that text follows leads to the address after the text.
 use Rattle.std.specs.Prelude.{◌≡◌, ◌⊎◌, ℕ, ◌+◌, ◌&&◌, ◌||◌, nat_le, Bool, false, List, if◌then◌else◌, Option, Some, None, option_and_then, is_none, is_some}
 use denote.Enum.Bare.{sameb}
-use Rattle.isa65.specs.Mode.{len_of, row_of}
-use Rattle.isa65.specs.Opcodes.{decoded}
+use Rattle.isa65.specs.Words.{decoded, len_of, row_of}
 use Rattle.isa65.specs.contracts.mnemonic.Mnemonic as mnemonic
-use Rattle.isa65.specs.declared.mnemonic.Mnemonic.{Mnemonic}
-use Rattle.isa65.specs.declared.mnemonic.Mnemonic.TheVariants.{Bra, Brk, Jmp, Jsr, Rti, Rts}
-use Rattle.isa65.specs.declared.mode.Mode.{Mode}
-use Rattle.isa65.specs.declared.op.Op.{Op}
-use Rattle.isa65.specs.declared.row.OperandKind.TheVariants.{Word}
-use Rattle.isa65.specs.declared.row.Pattern.TheVariants.{Direct}
-use Rattle.isa65.specs.declared.row.Row.{Row}
-use Rattle.isa65.specs.declared.row.Row.TheVariants.{One}
-use Rattle.info65.specs.declared.information.range.RangeType.{RangeType}
+use Rattle.reach65.specs.Types.{Bra, Brk, Direct, Jmp, Jsr, Mnemonic, Mode, One, Op, RangeType, Row, Rti, Rts, Tag, Word}
 use Rattle.info65.specs.declared.information.range.RangeType.TheVariants as role
-use Rattle.info65.specs.declared.tags.tag.Tag.{Tag}
-use Rattle.map65.specs.ImageView.{ImageView, byte_at, bytes_from, end_of}
-use Rattle.map65.specs.MapView.{MapView, opcodes}
-use Rattle.map65.specs.Roles.{role_at}
-use Rattle.map65.specs.Targets.{branch_target, is_jump, only_inside, word_of}
+use Rattle.map65.specs.Words.{ImageView, MapView, branch_target, byte_at, bytes_from, end_of, is_jump, only_inside, opcodes, role_at, word_of}
 use Rattle.reach65.specs.Inlines.{inline_of, text_end}
 
 -- a map, and the groups `#: ..` of its information file

@@ -8,8 +8,8 @@
 -- instruction has a byte. Each is an address where code begins, or each is such an address less one: a sound beginning, or a reached
 -- instruction, which for addresses less one has none right before it that goes on to it.
 use Rattle.std.specs.Prelude.{◌≡◌, ◌≢◌, ℕ, ◌+◌, ◌-◌, ◌≤◌, ◌==◌, ◌&&◌, ◌||◌, not, nat_le, Bool, true, false, List, [], ◌∷◌, ◌++◌, Some, Contains, is_some}
-use Rattle.isa65.specs.declared.op.Op.{Op}
-use Rattle.map65.specs.ImageView.{is_inside}
+use Rattle.reach65.specs.Types.{Op, Pair}
+use Rattle.map65.specs.Words.{is_inside}
 use Rattle.reach65.specs.Entries.{pointers, word_at}
 use Rattle.reach65.specs.Flow.{FlowView, end_after, instruction_at, next_at}
 use Rattle.reach65.specs.Pairs.{pairs_at}
@@ -17,7 +17,6 @@ use Rattle.reach65.specs.Reached.{AreReached, is_marked}
 use Rattle.reach65.specs.Routines.{is_it}
 use Rattle.reach65.specs.Sound.{IsSound}
 use Rattle.reach65.specs.Taken.{is_taken}
-use Rattle.reach65.specs.declared.pairs.Pair.{Pair}
 
 -- the entries, and marks of what is reached from them
 pub record Extent : Type 0 where

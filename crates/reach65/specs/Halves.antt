@@ -7,7 +7,7 @@ use Rattle.std.specs.List.{fold}
 use Rattle.std.specs.List.Sorted.{IsNonDecreasingBy}
 use Rattle.reach65.specs.Reached.{is_marked}
 use Rattle.reach65.specs.Survey.{Survey, is_likely}
-use Rattle.reach65.specs.declared.pairs.Pair.{Pair}
+use Rattle.reach65.specs.Types.{Pair}
 
 -- marks of the bytes that a pair has, and the pairs that are kept
 pub record Choice : Type 0 where

@@ -3,10 +3,9 @@
 -- A group INLINE of an information file says that text follows each call of its address, up to and with the first zero byte, or of as many
 -- bytes as its SIZE says. Code goes on behind it.
 use Rattle.std.specs.Prelude.{ℕ, ◌+◌, ◌==◌, ◌&&◌, Bool, true, false, List, [], ◌∷◌, if◌then◌else◌, Option, Some, None}
-use Rattle.info65.specs.declared.tags.tag.Tag.{Tag}
-use Rattle.info65.specs.declared.tags.tag.TagKind.{TagKind}
+use Rattle.reach65.specs.Types.{Tag, TagKind}
 use Rattle.info65.specs.declared.tags.tag.TagKind.TheVariants as kind
-use Rattle.map65.specs.ImageView.{ImageView, bytes_from}
+use Rattle.map65.specs.Words.{ImageView, bytes_from}
 
 abbrev pub is_kind : TagKind → Bool
 is_kind kind.Inline = true

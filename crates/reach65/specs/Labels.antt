@@ -3,10 +3,9 @@
 use Rattle.std.specs.Prelude.{ℕ, zero, suc, ◌≡◌, ◌+◌, ◌≤◌, ◌==◌, ◌&&◌, ◌||◌, Bool, List, [], ◌∷◌, ◌++◌, codes, if◌then◌else◌, None, is_none}
 use Rattle.std.specs.List.{flat_map, list_any}
 use Rattle.text65.specs.Digits.{digits4}
-use Rattle.info65.specs.Names.{covering, default_name}
-use Rattle.info65.specs.Views.{NameView}
+use Rattle.info65.specs.Words.{NameView, covering, default_name}
 use Rattle.reach65.specs.Reached.{is_marked}
-use Rattle.reach65.specs.declared.pairs.Pair.{Pair}
+use Rattle.reach65.specs.Types.{Pair}
 
 -- the address of a pair, or a variable
 unfoldable pub is_wanted : List Pair → List ℕ → ℕ → Bool

@@ -1,14 +1,9 @@
 -- What the ranges that are proposed are for: with them each reached instruction is an item of the map.
 use Rattle.std.specs.Prelude.{◌≡◌, ℕ, ◌+◌, ◌-◌, ◌<◌, Bool, true, List, ◌++◌, Some}
-use Rattle.isa65.specs.Mode.{len_of}
-use Rattle.isa65.specs.declared.op.Op.{Op}
-use Rattle.info65.specs.declared.information.range.RangeSpec.{RangeSpec}
-use Rattle.info65.specs.Views.{InfoView}
-use Rattle.info65.specs.declared.tags.tag.Tag.{Tag}
-use Rattle.map65.specs.ImageView.{IsPlaced}
-use Rattle.map65.specs.Items.{item_len}
-use Rattle.map65.specs.MapView.{MapView}
-use Rattle.map65.specs.Pieces.{AreOneRun}
+use Rattle.isa65.specs.Words.{len_of}
+use Rattle.reach65.specs.Types.{Op, RangeSpec, Tag}
+use Rattle.info65.specs.Words.{InfoView}
+use Rattle.map65.specs.Words.{AreOneRun, IsPlaced, MapView, item_len}
 use Rattle.reach65.specs.Flow.{instruction_at}
 use Rattle.reach65.specs.Pieces.{ArePieces}
 use Rattle.reach65.specs.Reached.{AreReached, is_marked}

@@ -24,3 +24,5 @@ pub mod Laws
 pub mod WorkedTexts
 pub mod WorkedFinds
 pub mod Code
+pub mod Types
+pub mod Words

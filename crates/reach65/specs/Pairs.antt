@@ -8,23 +8,12 @@
 -- The address that the two bytes form lies in the image, or is one of the 256 after it.
 use Rattle.std.specs.Prelude.{ℕ, ◌+◌, ◌*◌, ◌==◌, ◌&&◌, nat_le, nat_lt, Bool, List, [], ◌∷◌, ◌++◌, length, flat_map, if◌then◌else◌, Option, Some, None}
 use denote.Enum.Bare.{sameb}
-use Rattle.isa65.specs.Mode.{len_of}
-use Rattle.isa65.specs.declared.mnemonic.Mnemonic.{Mnemonic}
-use Rattle.isa65.specs.declared.mnemonic.Mnemonic.TheVariants.{Lda, Ldx, Ldy, Sta, Stx, Sty}
-use Rattle.isa65.specs.declared.mode.Mode.{Mode}
-use Rattle.isa65.specs.declared.mode.Mode.TheVariants.{Abs, Imm, Zp}
-use Rattle.isa65.specs.declared.op.Op.{Op}
-use Rattle.map65.specs.ImageView.{ImageView, byte_at, bytes_from, end_of}
-use Rattle.map65.specs.MapView.{MapView}
-use Rattle.map65.specs.Spans.{addresses}
-use Rattle.map65.specs.Targets.{byte_of, word_of}
+use Rattle.isa65.specs.Words.{len_of}
+use Rattle.reach65.specs.Types.{A, Abs, Imm, Lda, Ldx, Ldy, Mnemonic, Mode, Op, Pair, Register, Sta, Store, Stx, Sty, X, Y, Zp}
+use Rattle.map65.specs.Words.{ImageView, MapView, addresses, byte_at, byte_of, bytes_from, end_of, word_of}
 use Rattle.reach65.specs.Flow.{instruction_at}
 use Rattle.reach65.specs.Reached.{is_marked}
 use Rattle.reach65.specs.contracts.pairs.Register as register
-use Rattle.reach65.specs.declared.pairs.Pair.{Pair}
-use Rattle.reach65.specs.declared.pairs.Register.{Register}
-use Rattle.reach65.specs.declared.pairs.Register.TheVariants.{A, X, Y}
-use Rattle.reach65.specs.declared.pairs.Store.{Store}
 
 -- ---- what the bytes form
 

@@ -5,13 +5,11 @@
 -- bytes, and so is a text that has a character beside those of ASCII. Where a text is known to begin, it goes up to and with its zero byte,
 -- whatever its bytes are.
 use Rattle.std.specs.Prelude.{All, ◌≡◌, ◌⊎◌, ℕ, zero, suc, ◌+◌, ◌-◌, ◌<◌, ◌≤◌, ◌==◌, ◌&&◌, ◌||◌, not, nat_lt, Bool, true, false, List, [], ◌∷◌, length, take, if◌then◌else◌}
-use Rattle.info65.specs.declared.information.range.RangeSpec.{RangeSpec}
-use Rattle.info65.specs.declared.information.range.RangeType.{RangeType}
+use Rattle.reach65.specs.Types.{Alphabet, RangeSpec, RangeType}
 use Rattle.info65.specs.declared.information.range.RangeType.TheVariants as role
-use Rattle.map65.specs.ImageView.{ImageView, byte_at, bytes_from, end_of, is_inside}
+use Rattle.map65.specs.Words.{ImageView, byte_at, bytes_from, end_of, is_inside}
 use Rattle.reach65.specs.Reached.{is_marked}
 use Rattle.reach65.specs.Texts.{are_chars, are_enough, is_char, letter_count}
-use Rattle.reach65.specs.declared.texts.Alphabet.{Alphabet}
 use Rattle.reach65.specs.declared.texts.Alphabet.TheVariants as alphabet
 
 -- the image, the addresses that something speaks for, those of words that are addresses, those of words that are less one, and where texts are

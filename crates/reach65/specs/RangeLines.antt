@@ -2,12 +2,10 @@
 -- bytes that are a text is shown as that text.
 use Rattle.std.specs.Prelude.{ℕ, ◌+◌, ◌-◌, ◌&&◌, List, [], ◌++◌, codes, flat_map, length, map, nat_lt, take, if◌then◌else◌}
 use Rattle.text65.specs.Digits.{digits4}
-use Rattle.info65.specs.declared.information.range.RangeSpec.{RangeSpec}
-use Rattle.info65.specs.declared.information.range.RangeType.{RangeType}
+use Rattle.reach65.specs.Types.{Alphabet, RangeSpec, RangeType}
 use Rattle.info65.specs.declared.information.range.RangeType.TheVariants as role
-use Rattle.map65.specs.ImageView.{ImageView, bytes_from}
+use Rattle.map65.specs.Words.{ImageView, bytes_from}
 use Rattle.reach65.specs.Texts.{in_ascii, is_text}
-use Rattle.reach65.specs.declared.texts.Alphabet.{Alphabet}
 use Rattle.reach65.specs.declared.texts.Alphabet.TheVariants as alphabet
 
 -- a byte from $20 to $7E is shown as it is, another one as a dot

@@ -1,9 +1,7 @@
 -- What is reached: the least set of addresses that has the entries in the image, and with an address those that its instruction leads to.
 use Rattle.std.specs.Prelude.{◌≡◌, ◌↔◌, ℕ, ◌&&◌, Bool, true, false, List, length, get_or, replicate, Contains}
 use Rattle.std.specs.List.{list_any}
-use Rattle.map65.specs.ImageView.{is_inside}
-use Rattle.map65.specs.MapView.{MapView}
-use Rattle.map65.specs.Spans.{addresses}
+use Rattle.map65.specs.Words.{MapView, addresses, is_inside}
 use Rattle.reach65.specs.Flow.{FlowView, LeadsTo}
 
 pub data Reached (f : FlowView) (entries : List ℕ) : ℕ → Type 0 where

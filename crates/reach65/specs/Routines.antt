@@ -4,10 +4,8 @@
 -- on to a reached instruction, a routine begins: it is entered by a jump, by a call, or from outside. And one begins where a call leads, even if
 -- the code before it goes on there.
 use Rattle.std.specs.Prelude.{ℕ, ◌==◌, ◌||◌, Bool, false, List, if◌then◌else◌, Option, Some, None}
-use Rattle.isa65.specs.declared.mnemonic.Mnemonic.TheVariants.{Jsr}
-use Rattle.isa65.specs.declared.op.Op.{Op}
-use Rattle.map65.specs.MapView.{MapView}
-use Rattle.map65.specs.Targets.{is_jump}
+use Rattle.reach65.specs.Types.{Jsr, Op}
+use Rattle.map65.specs.Words.{MapView, is_jump}
 use Rattle.reach65.specs.Flow.{FlowView, goal_at, instruction_at, is, next_at, text_at}
 use Rattle.reach65.specs.Reached.{any_marked}
 

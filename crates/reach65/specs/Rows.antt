@@ -4,11 +4,10 @@
 -- the one after it. A row is a longest run of at least two such words, of which the first two are different.
 use Rattle.std.specs.Prelude.{◌≡◌, ℕ, ◌+◌, ◌*◌, ◌<◌, ◌≤◌, ◌&&◌, ◌||◌, ◌==◌, not, Bool, true, false, List, [], ◌∷◌, Option, Some, None, if◌then◌else◌}
 use Rattle.std.specs.List.{list_any}
-use Rattle.info65.specs.Ranges.{has_address}
-use Rattle.info65.specs.declared.information.range.RangeSpec.{RangeSpec}
-use Rattle.info65.specs.declared.information.range.RangeType.{RangeType}
+use Rattle.info65.specs.Words.{has_address}
+use Rattle.reach65.specs.Types.{RangeSpec, RangeType}
 use Rattle.info65.specs.declared.information.range.RangeType.TheVariants as role
-use Rattle.map65.specs.Roles.{is_role}
+use Rattle.map65.specs.Words.{is_role}
 use Rattle.reach65.specs.Entries.{word_at}
 use Rattle.reach65.specs.Pieces.{Ground, is_plain}
 use Rattle.reach65.specs.Survey.{Survey, is_routine}

@@ -2,8 +2,7 @@
 use Rattle.std.specs.Prelude.{ℕ, ◌+◌, ◌&&◌, ◌||◌, nat_le, nat_lt, Bool, false, true, List, Option, Some, None}
 use Rattle.std.specs.List.{list_any}
 use Rattle.std.specs.Option.{unwrap_or}
-use Rattle.info65.specs.declared.tags.tag.Tag.{Tag}
-use Rattle.info65.specs.declared.tags.tag.TagKind.{TagKind}
+use Rattle.reach65.specs.Types.{Tag, TagKind}
 use Rattle.info65.specs.declared.tags.tag.TagKind.TheVariants as kind
 
 -- one of so many places from one on

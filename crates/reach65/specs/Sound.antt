@@ -4,15 +4,9 @@
 -- byte with another reached instruction, and if there are at least four of them, or three if a table or a word of a row leads there. Data and
 -- text fail at this nearly always, since two fifths of all bytes are no opcode.
 use Rattle.std.specs.Prelude.{◌≡◌, ℕ, ◌+◌, ◌≤◌, ◌&&◌, ◌||◌, not, nat_le, Bool, true, false, List, Option, Some, None, count_by, is_some}
-use Rattle.isa65.specs.Mode.{row_of}
-use Rattle.isa65.specs.declared.mnemonic.Mnemonic.TheVariants.{Brk}
-use Rattle.isa65.specs.declared.op.Op.{Op}
-use Rattle.isa65.specs.declared.row.OperandKind.TheVariants.{Distance}
-use Rattle.isa65.specs.declared.row.Row.{Row}
-use Rattle.isa65.specs.declared.row.Row.TheVariants.{One, Two}
-use Rattle.map65.specs.ImageView.{ImageView, bytes_from, is_inside}
-use Rattle.map65.specs.MapView.{MapView}
-use Rattle.map65.specs.Targets.{only_inside}
+use Rattle.isa65.specs.Words.{row_of}
+use Rattle.reach65.specs.Types.{Brk, Distance, One, Op, Row, Two}
+use Rattle.map65.specs.Words.{ImageView, MapView, bytes_from, is_inside, only_inside}
 use Rattle.reach65.specs.Flow.{FlowView, goal_of, instruction_at, is, is_last, next_of}
 use Rattle.reach65.specs.Reached.{is_marked}
 use Rattle.reach65.specs.Taken.{has_byte}

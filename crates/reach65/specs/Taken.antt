@@ -1,11 +1,10 @@
 -- Which addresses are spoken for: those of a range of the information file, and the bytes of reached instructions.
 use Rattle.std.specs.Prelude.{◌≡◌, ℕ, ◌+◌, ◌<◌, ◌&&◌, ◌||◌, nat_le, nat_lt, Bool, false, List, length, Option, Some, None}
 use Rattle.std.specs.List.{list_any}
-use Rattle.isa65.specs.Mode.{len_of}
-use Rattle.isa65.specs.declared.op.Op.{Op}
-use Rattle.info65.specs.Ranges.{has_address}
-use Rattle.info65.specs.declared.information.range.RangeSpec.{RangeSpec}
-use Rattle.map65.specs.MapView.{MapView}
+use Rattle.isa65.specs.Words.{len_of}
+use Rattle.reach65.specs.Types.{Op, RangeSpec}
+use Rattle.info65.specs.Words.{has_address}
+use Rattle.map65.specs.Words.{MapView}
 use Rattle.reach65.specs.Flow.{instruction_at}
 use Rattle.reach65.specs.Reached.{any_marked, is_marked}
 

@@ -1,13 +1,9 @@
 -- The text that is proposed, after the information file that was given.
 use Rattle.std.specs.Prelude.{◌≡◌, ℕ, ◌≤◌, ◌==◌, Bool, true, not, List, [], ◌∷◌, ◌++◌, length, map, Ok}
 use Rattle.std.specs.List.{AllByRecursion, Contains, flat_map, list_all}
-use Rattle.info65.specs.Labels.{by_address}
-use Rattle.info65.specs.Names.{AreNames, default_label}
-use Rattle.info65.specs.declared.information.range.RangeSpec.{RangeSpec}
-use Rattle.info65.specs.Reader.{information}
-use Rattle.info65.specs.Views.{InfoView, NameView, OptionsView}
-use Rattle.map65.specs.ImageView.{ImageView, IsPlaced}
-use Rattle.map65.specs.MapView.{MapView}
+use Rattle.info65.specs.Words.{AreNames, InfoView, NameView, OptionsView, by_address, default_label, information}
+use Rattle.reach65.specs.Types.{RangeSpec}
+use Rattle.map65.specs.Words.{ImageView, IsPlaced, MapView}
 use Rattle.reach65.specs.Labels.{AreNewLabels, label_lines}
 use Rattle.reach65.specs.Pieces.{ArePieces}
 use Rattle.reach65.specs.RangeLines.{range_lines}

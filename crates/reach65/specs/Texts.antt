@@ -1,7 +1,7 @@
 -- Which bytes are a text, in three alphabets: ASCII, ASCII with the high bit set, and PETSCII.
 use Rattle.std.specs.Prelude.{ℕ, ◌+◌, ◌-◌, ◌*◌, ◌==◌, ◌&&◌, ◌||◌, nat_le, Bool, List, length, count_by, if◌then◌else◌}
 use Rattle.std.specs.List.{list_all}
-use Rattle.reach65.specs.declared.texts.Alphabet.{Alphabet}
+use Rattle.reach65.specs.Types.{Alphabet}
 use Rattle.reach65.specs.declared.texts.Alphabet.TheVariants as alphabet
 
 -- the first byte to the last

@@ -1,14 +1,9 @@
 -- The variables right after an image: addresses that reached code has as absolute operands, from the end of the image on, each at most 256
 -- after the one before, the first at most 256 after the last address of the image.
 use Rattle.std.specs.Prelude.{ℕ, zero, suc, ◌+◌, ◌-◌, Bool, List, [], ◌∷◌, if◌then◌else◌, Option, Some, None}
-use Rattle.isa65.specs.Mode.{row_of}
-use Rattle.isa65.specs.declared.op.Op.{Op}
-use Rattle.isa65.specs.declared.row.OperandKind.TheVariants.{Word}
-use Rattle.isa65.specs.declared.row.Row.{Row}
-use Rattle.isa65.specs.declared.row.Row.TheVariants.{One}
-use Rattle.map65.specs.ImageView.{ImageView, bytes_from, end_of}
-use Rattle.map65.specs.MapView.{MapView}
-use Rattle.map65.specs.Targets.{word_of}
+use Rattle.isa65.specs.Words.{row_of}
+use Rattle.reach65.specs.Types.{One, Op, Row, Word}
+use Rattle.map65.specs.Words.{ImageView, MapView, bytes_from, end_of, word_of}
 use Rattle.reach65.specs.Flow.{instruction_at}
 use Rattle.reach65.specs.Reached.{any_marked, is_marked}
 use Rattle.reach65.specs.Routines.{is_it}

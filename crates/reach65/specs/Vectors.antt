@@ -1,6 +1,6 @@
 -- The vectors of the CPU, at $FFFA to $FFFF: those that led to code are entries of a table of addresses.
 use Rattle.std.specs.Prelude.{ℕ, ◌+◌, ◌&&◌, ◌||◌, not, nat_le, nat_lt, Bool, List}
-use Rattle.map65.specs.ImageView.{ImageView}
+use Rattle.map65.specs.Words.{ImageView}
 use Rattle.reach65.specs.Entries.{has_vectors, word_at}
 use Rattle.reach65.specs.Reached.{is_marked}
 

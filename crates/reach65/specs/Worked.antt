@@ -1,14 +1,10 @@
 -- Worked examples: where instructions and texts behind calls lead, which entries there are, what a sound beginning is, what reached instructions do, and which words
 -- make a row.
 use Rattle.std.specs.Prelude.{◌≡◌, ℕ, Bool, true, false, List, [], ◌∷◌, map, Option, Some, None}
-use Rattle.isa65.specs.declared.cpu.Cpu.TheVariants.{M6502, M65C02}
-use Rattle.info65.specs.declared.information.range.RangeSpec.{RangeSpec}
-use Rattle.info65.specs.declared.information.range.RangeType.{RangeType}
+use Rattle.reach65.specs.Types.{M6502, M65C02, RangeSpec, RangeType, Tag}
 use Rattle.info65.specs.declared.information.range.RangeType.TheVariants as role
-use Rattle.info65.specs.declared.tags.tag.Tag.{Tag}
 use Rattle.info65.specs.declared.tags.tag.TagKind.TheVariants as kind
-use Rattle.map65.specs.MapRows.{code_at, map_of}
-use Rattle.map65.specs.MapView.{MapView}
+use Rattle.map65.specs.Words.{MapView, code_at, map_of}
 use Rattle.reach65.specs.Entries.{entries_of, plain_entries_of}
 use Rattle.reach65.specs.Flow.{FlowView, goal_at, next_at, text_at}
 use Rattle.reach65.specs.Growth.{is_entered, is_run_into}

@@ -1,14 +1,12 @@
 -- Worked examples: addresses in halves, variables, and vectors.
 use Rattle.std.specs.Prelude.{◌≡◌, ℕ, ◌==◌, Bool, true, false, List, [], ◌∷◌, map}
-use Rattle.map65.specs.ImageView.{ImageView}
-use Rattle.map65.specs.MapRows.{code_at}
+use Rattle.map65.specs.Words.{ImageView, code_at}
 use Rattle.reach65.specs.Halves.{kept_of}
 use Rattle.reach65.specs.Pairs.{pairs_of, rank_of}
 use Rattle.reach65.specs.Survey.{Survey}
 use Rattle.reach65.specs.Variables.{variables_from}
 use Rattle.reach65.specs.Vectors.{is_of_vector}
-use Rattle.reach65.specs.declared.pairs.Pair.{Pair}
-use Rattle.reach65.specs.declared.pairs.Register.TheVariants.{A, X, Y}
+use Rattle.reach65.specs.Types.{A, Pair, X, Y}
 
 -- the pairs of instructions of two bytes each, at $0000
 abbrev pub pairs_in : List ℕ → List Pair

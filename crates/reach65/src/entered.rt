@@ -1,8 +1,7 @@
 //! Where reached code is entered, as the words of tables say.
 
 ghost use Rattle.std.specs.Prelude.{◌≡◌, ◌<◌, length};
-ghost use Rattle.reach65.specs.Growth.{goes_on_from, is_entered, is_run_into};
-ghost use Rattle.reach65.specs.Routines.{is_it};
+ghost use Rattle.reach65.specs.Words.{goes_on_from, is_entered, is_it, is_run_into};
 
 use crate::flow::Flow;
 use std::alloc::Allocator;

@@ -2,9 +2,8 @@
 
 ghost use Rattle.std.specs.Prelude.{◌≡◌, ◌+◌, ◌++◌, ◌<◌, ◌≤◌, ℕ, IfOk, OnOk, length};
 ghost use Rattle.std.specs.Option.{option_to_list};
-ghost use Rattle.map65.specs.ImageView.{end_of};
-ghost use Rattle.map65.specs.MapView.{MapView};
-ghost use Rattle.reach65.specs.Entries.{code_start, code_starts, entries_of, entries_with, has_vectors, plain_entries_of, pointer_at, pointer_for, pointers, vectors, word_at};
+ghost use Rattle.map65.specs.Words.{MapView, end_of};
+ghost use Rattle.reach65.specs.Words.{code_start, code_starts, entries_of, entries_with, has_vectors, plain_entries_of, pointer_at, pointer_for, pointers, vectors, word_at};
 
 use crate::flow::{byte_at, bytes_from};
 use info65::{Entry, RangeSpec, RangeType};

@@ -1,9 +1,9 @@
 //! Where instructions lead.
 
 ghost use Rattle.std.specs.Prelude.{◌≡◌, ◌+◌, ◌≤◌, ◌<◌, length, IfSome, Some};
-ghost use Rattle.isa65.specs.Mode.{len_of, row_len};
-ghost use Rattle.map65.specs.ImageView.{IsPlaced, byte_at, bytes_from, end_of};
-ghost use Rattle.reach65.specs.Flow.{end_after, goal_at, goal_by, goal_of, instruction_at, is_last, next_at, next_of, row_goal, text_by, text_of};
+ghost use Rattle.isa65.specs.Words.{len_of, row_len};
+ghost use Rattle.map65.specs.Words.{IsPlaced, byte_at, bytes_from, end_of};
+ghost use Rattle.reach65.specs.Words.{end_after, goal_at, goal_by, goal_of, instruction_at, is_last, next_at, next_of, row_goal, text_by, text_of};
 
 use crate::inlines::{inline_of, text_end, zero_end_in};
 use info65::{RangeType, Tag};

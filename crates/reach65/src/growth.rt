@@ -1,9 +1,8 @@
 //! What is reached from sound beginnings besides the entries.
 
 ghost use Rattle.std.specs.Prelude.{◌≡◌, IfOk, OnOk, Ok, true, length};
-ghost use Rattle.reach65.specs.Code.Growing.{HasPair, IsGrown, extent_of};
-ghost use Rattle.reach65.specs.Code.Searching.{IsDone};
-ghost use Rattle.reach65.specs.Growth.{IsCandidate, IsFollowed, MayJoin};
+ghost use Rattle.reach65.specs.Words.{HasPair, IsCandidate, IsDone, IsGrown, MayJoin, extent_of};
+ghost use Rattle.reach65.specs.Growth.{IsFollowed};
 
 use crate::entries::pointers_of;
 use crate::flow::Flow;

@@ -1,8 +1,8 @@
 //! Text behind calls.
 
 ghost use Rattle.std.specs.Prelude.{◌≡◌, ◌+◌, ◌<◌, ◌≤◌, IfSome, None, length};
-ghost use Rattle.map65.specs.ImageView.{bytes_from, end_of};
-ghost use Rattle.reach65.specs.Inlines.{inline_of, is_inline, text_end, zero_end};
+ghost use Rattle.map65.specs.Words.{bytes_from, end_of};
+ghost use Rattle.reach65.specs.Words.{inline_of, is_inline, text_end, zero_end};
 
 use info65::{Tag, TagKind};
 use map65::Image;

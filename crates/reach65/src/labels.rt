@@ -2,8 +2,7 @@
 
 ghost use Rattle.std.specs.Prelude.{[], ◌≡◌, ◌==◌, ◌++◌, ◌<◌, IfOk, OnOk, length};
 ghost use Rattle.std.specs.List.{list_any};
-ghost use Rattle.reach65.specs.Code.Marking.{Marks};
-ghost use Rattle.reach65.specs.Labels.{AreNewLabels, is_unnamed, is_wanted, label_at, labels_from, labels_of};
+ghost use Rattle.reach65.specs.Words.{AreNewLabels, Marks, is_unnamed, is_wanted, label_at, labels_from, labels_of};
 
 use crate::marks::{blank_marks, mark_some};
 use crate::pairs::Pair;

@@ -1,11 +1,7 @@
 //! The laws of what is proposed, each stated by a function that does nothing.
 
-ghost use Rattle.map65.specs.MapView.{MapView};
-ghost use Rattle.reach65.specs.Laws.{CodeLaw};
-ghost use Rattle.reach65.specs.TextLaws.{TextLaw};
-ghost use Rattle.reach65.specs.Worked.{WorkedCode};
-ghost use Rattle.reach65.specs.WorkedFinds.{WorkedFinds};
-ghost use Rattle.reach65.specs.WorkedTexts.{WorkedTexts};
+ghost use Rattle.map65.specs.Words.{MapView};
+ghost use Rattle.reach65.specs.Words.{CodeLaw, TextLaw, WorkedCode, WorkedFinds, WorkedTexts};
 
 /// With the ranges that are proposed besides those that were given, each reached instruction is an item of the map, if no
 /// two of them share a byte and each lies in one run.

@@ -1,11 +1,8 @@
 //! Marks of addresses, one for each from $0000 to $FFFF.
 
 ghost use Rattle.std.specs.Prelude.{◌≡◌, ◌≤◌, ◌&&◌, ℕ, IfOk, false, length, nat_le, nat_lt, replicate};
-ghost use Rattle.info65.specs.Ranges.{has_address};
-ghost use Rattle.reach65.specs.Code.Marking.{Marks};
-ghost use Rattle.reach65.specs.Reached.{is_marked, no_marks};
-ghost use Rattle.reach65.specs.Routines.{is_it};
-ghost use Rattle.reach65.specs.Taken.{is_given};
+ghost use Rattle.info65.specs.Words.{has_address};
+ghost use Rattle.reach65.specs.Words.{Marks, is_given, is_it, is_marked, no_marks};
 
 use info65::RangeSpec;
 use map65::ADDRESSES;

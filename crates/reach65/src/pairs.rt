@@ -1,9 +1,10 @@
 //! Addresses that code loads in halves.
 
 ghost use Rattle.std.specs.Prelude.{◌≡◌, ◌+◌, ◌++◌, ◌<◌, ◌≤◌, ◌==◌, IfOk, IfSome, OnOk, IsTrue, length};
-ghost use Rattle.isa65.specs.Mode.{len_of};
-ghost use Rattle.map65.specs.ImageView.{end_of, is_inside};
-ghost use Rattle.reach65.specs.Pairs.{by_again, by_loads, by_places, by_stores, is_near, joined, load_at, loaded, operand_address, pairs_at, pairs_of, rank_of, reached_op, store_at, stored};
+ghost use Rattle.isa65.specs.Words.{len_of};
+ghost use Rattle.map65.specs.Words.{end_of, is_inside};
+ghost use Rattle.reach65.specs.Words.{by_again, by_loads, by_places, by_stores, is_near, load_at, loaded, operand_address, pairs_at, pairs_of, rank_of, reached_op, store_at, stored};
+ghost use Rattle.reach65.specs.Pairs.{joined};
 
 use crate::flow::{Flow, byte_at, bytes_from, start_and_len};
 use isa65::{Mnemonic, Mode, Op};

@@ -1,12 +1,8 @@
 //! What is proposed for the addresses that nothing speaks for.
 
 ghost use Rattle.std.specs.Prelude.{◌≡◌, ◌≢◌, ◌+◌, ◌<◌, ◌≤◌, ℕ, IfNone, IfOk, IfSome, IsTrue, false, true, get_or, length, replicate, take};
-ghost use Rattle.map65.specs.ImageView.{byte_at, bytes_from, end_of, is_inside};
-ghost use Rattle.reach65.specs.Code.Cutting.{AreLens, AreTails, IsRun, IsTail, NoneIn, is_of, no_lens};
-ghost use Rattle.reach65.specs.Pieces.{ArePieces, IsKnown, IsPiece, IsStretch, LieIn, begins_text, chars_at, is_break, is_filler, is_free, is_open, is_plain, is_same, is_written, text_len};
-ghost use Rattle.reach65.specs.Reached.{is_marked};
-ghost use Rattle.reach65.specs.Rows.{free_word};
-ghost use Rattle.reach65.specs.Taken.{AreMarkedBy, is_given};
+ghost use Rattle.map65.specs.Words.{byte_at, bytes_from, end_of, is_inside};
+ghost use Rattle.reach65.specs.Words.{AreLens, AreMarkedBy, ArePieces, AreTails, IsKnown, IsPiece, IsRun, IsStretch, IsTail, LieIn, NoneIn, begins_text, chars_at, free_word, is_break, is_filler, is_free, is_given, is_marked, is_of, is_open, is_plain, is_same, is_written, no_lens, text_len};
 
 use crate::entries::word_at;
 use crate::flow::byte_at;

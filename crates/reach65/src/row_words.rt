@@ -1,12 +1,9 @@
 //! Words of rows that lead to code.
 
 ghost use Rattle.std.specs.Prelude.{◌≡◌, ◌⊎◌, ◌<◌, ◌+◌, ◌≤◌, IfOk, IfSome, OnOk, false, length, true};
-ghost use Rattle.isa65.specs.Mode.{len_of};
-ghost use Rattle.map65.specs.ImageView.{end_of};
-ghost use Rattle.reach65.specs.Code.Growing.{IsGrown};
-ghost use Rattle.reach65.specs.Code.Searching.{IsDone};
-ghost use Rattle.reach65.specs.Growth.{AreBeside, IsWordOf};
-ghost use Rattle.reach65.specs.Taken.{AreMarkedBy, is_given, is_taken};
+ghost use Rattle.isa65.specs.Words.{len_of};
+ghost use Rattle.map65.specs.Words.{end_of};
+ghost use Rattle.reach65.specs.Words.{AreBeside, AreMarkedBy, IsDone, IsGrown, IsWordOf, is_given, is_taken};
 
 use crate::entries::word_at;
 use crate::flow::{Flow, is_last, start_and_len};

@@ -1,11 +1,8 @@
 //! Rows of words that are addresses of routines.
 
 ghost use Rattle.std.specs.Prelude.{◌≡◌, ◌+◌, ◌<◌, ◌≤◌, ◌||◌, ℕ, IfNone, IfOk, IfSome, IsTrue, false, length, true};
-ghost use Rattle.reach65.specs.Code.Cutting.{NoneIn};
-ghost use Rattle.reach65.specs.Code.Marking.{Marks};
-ghost use Rattle.reach65.specs.Rows.{AreRows, AreWords, IsRow, are_different, is_any_row, is_in_table, is_of_table, is_row, is_word};
-ghost use Rattle.reach65.specs.Reached.{is_marked};
-ghost use Rattle.reach65.specs.Taken.{AreMarkedBy};
+ghost use Rattle.reach65.specs.Words.{AreMarkedBy, AreRows, AreWords, IsRow, Marks, NoneIn, are_different, is_any_row, is_in_table, is_marked, is_of_table, is_row};
+ghost use Rattle.reach65.specs.Rows.{is_word};
 
 use crate::marks::{blank_marks, mark_range};
 use crate::pieces::Ground;

@@ -1,9 +1,8 @@
 //! What the lines `#: ..` of an information file say of halves.
 
 ghost use Rattle.std.specs.Prelude.{◌≡◌, ◌<◌, IfOk, length};
-ghost use Rattle.reach65.specs.Code.Marking.{MarksBelow};
-ghost use Rattle.reach65.specs.Said.{has_byte, is_among, is_said};
-ghost use Rattle.reach65.specs.Taken.{AreMarkedBy};
+ghost use Rattle.reach65.specs.Words.{AreMarkedBy, MarksBelow, is_among, is_said};
+ghost use Rattle.reach65.specs.Said.{has_byte};
 
 use crate::marks::{blank_marks, mark_span};
 use info65::{Tag, TagKind};

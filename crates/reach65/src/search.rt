@@ -1,13 +1,8 @@
 //! The search of what is reached.
 
 ghost use Rattle.std.specs.Prelude.{◌≡◌, ◌++◌, ◌∷◌, [], ℕ, true, List, Contains, Ok, None, Some, IfOk, IfNone, IfSome, OnOk, false, length, slice_set};
-ghost use Rattle.map65.specs.ImageView.{is_inside};
-ghost use Rattle.reach65.specs.Code.Growing.{extent_of};
-ghost use Rattle.reach65.specs.Code.Searching.{AreChecked, AreSound, HasBegun, HasNext, IsAsBefore, IsAtEnd, IsBegun, IsDone, IsTried, KeepsTrial, put, put_entry, put_inside, put_leads, put_some, unset};
-ghost use Rattle.reach65.specs.Flow.{goal_at, next_at};
-ghost use Rattle.reach65.specs.Growth.{BeginsCode, IsSoundAt};
-ghost use Rattle.reach65.specs.Sound.{is_fine};
-ghost use Rattle.reach65.specs.Reached.{AreReached, is_marked, no_marks};
+ghost use Rattle.map65.specs.Words.{is_inside};
+ghost use Rattle.reach65.specs.Words.{AreChecked, AreReached, AreSound, BeginsCode, HasBegun, HasNext, IsAsBefore, IsAtEnd, IsBegun, IsDone, IsSoundAt, IsTried, KeepsTrial, extent_of, goal_at, is_fine, is_marked, next_at, no_marks, put, put_entry, put_inside, put_leads, put_some, unset};
 
 use crate::entered::is_entered;
 use crate::flow::{Flow, image_of};

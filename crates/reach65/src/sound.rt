@@ -1,12 +1,10 @@
 //! Sound beginnings.
 
 ghost use Rattle.std.specs.Prelude.{◌≡◌, ◌+◌, ◌<◌, ◌≤◌, ◌&&◌, false, true, length};
-ghost use Rattle.isa65.specs.Mode.{len_of};
-ghost use Rattle.map65.specs.ImageView.{end_of};
-ghost use Rattle.reach65.specs.Code.Searching.{AreApart};
-ghost use Rattle.reach65.specs.Code.Apart.{is_after, is_before, len_at};
-ghost use Rattle.reach65.specs.Sound.{IsApart, goes_on, is_begun, is_beyond, is_branch, is_fine_op, leads_well};
-ghost use Rattle.reach65.specs.Taken.{is_code};
+ghost use Rattle.isa65.specs.Words.{len_of};
+ghost use Rattle.map65.specs.Words.{end_of};
+ghost use Rattle.reach65.specs.Words.{AreApart, IsApart, is_after, is_before, is_begun, is_beyond, is_branch, is_code, is_fine_op, leads_well, len_at};
+ghost use Rattle.reach65.specs.Sound.{goes_on};
 
 use crate::flow::{Flow, bytes_from, goal_of, is_last};
 use isa65::{Mnemonic, Op, OperandKind, Row};

@@ -1,14 +1,9 @@
 //! What reached instructions do with the addresses.
 
 ghost use Rattle.std.specs.Prelude.{◌≡◌, ◌+◌, ◌<◌, ◌≤◌, ◌==◌, ◌&&◌, ◌||◌, IfOk, OnOk, Some, length, nat_le, nat_lt, true};
-ghost use Rattle.isa65.specs.Mode.{len_of, row_len};
-ghost use Rattle.map65.specs.ImageView.{end_of};
-ghost use Rattle.reach65.specs.Code.Marking.{Marks};
-ghost use Rattle.reach65.specs.Code.Surveying.{Adds, AddsOp, AddsRanges, blank_survey};
-ghost use Rattle.reach65.specs.Reached.{any_marked, is_marked};
-ghost use Rattle.reach65.specs.Routines.{branch_of, call_of};
-ghost use Rattle.reach65.specs.Survey.{AreSurvey, is_likely, is_routine};
-ghost use Rattle.reach65.specs.Variables.{word_in};
+ghost use Rattle.isa65.specs.Words.{len_of, row_len};
+ghost use Rattle.map65.specs.Words.{end_of};
+ghost use Rattle.reach65.specs.Words.{Adds, AddsOp, AddsRanges, AreSurvey, Marks, any_marked, blank_survey, branch_of, call_of, is_likely, is_marked, is_routine, word_in};
 
 use crate::flow::{Flow, bytes_from, start_and_len};
 use crate::marks::{blank_marks, mark_ranges, mark_some};

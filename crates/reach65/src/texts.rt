@@ -1,9 +1,7 @@
 //! Which bytes are a text, in three alphabets.
 
 ghost use Rattle.std.specs.Prelude.{◌≡◌, ◌<◌, suc, length, if◌then◌else◌};
-ghost use Rattle.reach65.specs.Code.Cutting.{tail_len, tails_len};
-ghost use Rattle.reach65.specs.Pieces.{longer};
-ghost use Rattle.reach65.specs.Texts.{are_chars, are_enough, in_ascii, is_char, is_from, is_letter, is_text, letter_count, petscii_in_ascii};
+ghost use Rattle.reach65.specs.Words.{are_chars, are_enough, in_ascii, is_char, is_from, is_letter, is_text, letter_count, longer, petscii_in_ascii, tail_len, tails_len};
 
 /// What bytes stand for as characters.
 #[derive(Clone, Copy, Debug, PartialEq, Eq)]

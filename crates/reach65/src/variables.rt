@@ -1,9 +1,8 @@
 //! The variables right after an image.
 
 ghost use Rattle.std.specs.Prelude.{◌≡◌, ◌++◌, ◌+◌, ◌-◌, ◌<◌, ◌≤◌, IfOk, length};
-ghost use Rattle.map65.specs.ImageView.{end_of};
-ghost use Rattle.reach65.specs.Reached.{is_marked};
-ghost use Rattle.reach65.specs.Variables.{variables_from, variables_of};
+ghost use Rattle.map65.specs.Words.{end_of};
+ghost use Rattle.reach65.specs.Words.{is_marked, variables_from, variables_of};
 
 use map65::{ADDRESSES, Image};
 use std::alloc::{AllocError, Allocator};

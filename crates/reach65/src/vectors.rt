@@ -1,9 +1,7 @@
 //! The vectors of the CPU that led to code.
 
 ghost use Rattle.std.specs.Prelude.{◌≡◌, ◌+◌, ◌<◌, ◌≤◌, IfOk, length};
-ghost use Rattle.reach65.specs.Code.Marking.{Marks};
-ghost use Rattle.reach65.specs.Taken.{AreMarkedBy};
-ghost use Rattle.reach65.specs.Vectors.{has_vector, is_of_vector, is_vector};
+ghost use Rattle.reach65.specs.Words.{AreMarkedBy, Marks, has_vector, is_of_vector, is_vector};
 
 use crate::entries::{has_vectors, word_at};
 use crate::marks::{blank_marks, mark_span};

@@ -5,20 +5,8 @@ use Rattle.std.specs.List.{All, flat_map, prefix_len}
 use Rattle.std.proofs.lemmas.List.{append-nil}
 use Rattle.std.proofs.lemmas.List.Elements.{All-head, All-tail}
 use Rattle.std.proofs.lemmas.Bool.{leb-false, leb-true}
-use Rattle.stmt65.specs.declared.assembling.fault.AsmFault.{AsmFault}
-use Rattle.stmt65.specs.SourceLine.{SourceLine}
+use Rattle.stmt65.specs.Words.{AsmFault, Definition, FindsLine, GivesByte, IsFaultless, Language, Layout, Line, SourceLine, State, address_after, after, bytes_of, fault_of, held, held_after, initial, line_addresses, line_bytes, line_past, lines_below, lines_of, meaning_in, names_of, parts, reading_of, readings}
 use Rattle.text65.specs.Lines.{text_lines}
-use Rattle.stmt65.specs.Lexing.{parts}
-use Rattle.stmt65.specs.Reading.{reading_of}
-use Rattle.stmt65.specs.Symbols.{Definition}
-use Rattle.stmt65.specs.declared.language.Language.{Language}
-use Rattle.stmt65.specs.Layout.{Layout}
-use Rattle.stmt65.specs.Coding.{State}
-use Rattle.stmt65.specs.Meaning.{after, bytes_of, fault_of, initial, meaning_in, readings}
-use Rattle.stmt65.specs.TextLaws.{Line, IsFaultless, line_bytes, lines_below, lines_of, names_of}
-use Rattle.stmt65.specs.LineAddresses.{FindsLine, GivesByte, address_after, line_addresses, line_past}
-use Rattle.stmt65.specs.Code.Held.{held}
-use Rattle.stmt65.specs.Code.MeaningViews.{held_after}
 use Rattle.stmt65.proofs.Cases.{by_test}
 use Rattle.stmt65.proofs.HeldLemmas.{after-held, held_state, initial-held, none_fits, small_same}
 use Rattle.stmt65.proofs.TextLemmas.{at-after, means_bytes}

@@ -4,19 +4,13 @@ use Rattle.std.specs.Prelude.{codes}
 use Rattle.std.specs.Str.{str_to_ascii_lowercase}
 use Rattle.std.proofs.lemmas.Bool.{and_parts, eqb-true, not-true, or_parts}
 use Rattle.std.proofs.lemmas.Slice.Eq.{bytes_eq-Decides}
-use Rattle.isa65.specs.declared.mnemonic.Mnemonic.{Mnemonic}
-use Rattle.isa65.specs.declared.mnemonic.Mnemonic.TheVariants.{Adc}
-use Rattle.isa65.specs.Mnemonic.{text_of, mnemonic_named}
+use Rattle.stmt65.specs.Words.{ALL, Adc, Define, Directive, Mark, Mnemonic, Number, Part, Word, directive_named, directive_text, is_define, is_mark, is_name, is_number_here, is_word_here, number_in, same}
+use Rattle.isa65.specs.Words.{mnemonic_named, text_of}
 use Rattle.isa65.proofs.MnemonicLaws.{lowercase-text_of, mnemonic_named-is}
 use Rattle.isa65.proofs.Finding.{find-passes}
 use Rattle.text65.specs.Names.{is_reserved_word}
-use Rattle.stmt65.specs.declared.directive.Directive.{Directive}
 use Rattle.stmt65.specs.declared.directive.Directive.TheVariants as directive
-use Rattle.stmt65.specs.declared.directive.TheConstants.{ALL}
-use Rattle.stmt65.specs.Directives.{directive_text, directive_named}
-use Rattle.stmt65.specs.Parts.{Part, Word, Number, Define, Mark, number_of}
-use Rattle.stmt65.specs.Names.{same, is_name}
-use Rattle.stmt65.specs.Reading.{is_mark, is_define, is_word_here, is_number_here, number_in}
+use Rattle.stmt65.specs.Parts.{number_of}
 
 pub by_test : {P : Type 0} (b : Bool) → (b ≡ true → P) → (b ≡ false → P) → P
 by_test true f g = f refl

@@ -5,18 +5,12 @@ use Rattle.std.proofs.lemmas.Bool.{and_parts}
 use Rattle.std.proofs.Math.Bool.{and-true}
 use Rattle.std.proofs.lemmas.List.{append-nil}
 use Rattle.std.proofs.lemmas.List.Folds.{list_all-append}
-use Rattle.stmt65.specs.Code.CodingViews.{Puts, PutsAll, data_fragments, entry_fragments}
+use Rattle.stmt65.specs.Words.{Definition, DifferenceValue, Directive, Distance, Entry, Fill, Fixed, Fragment, HalfOf, NameValue, NumberValue, Oversized, Puts, PutsAll, Single, Value, ZeroPage, address_of, apart, below, coding_len, data_fragments, datum_fragments, datum_of, entry_bytes, entry_fragments, entry_in, entry_limit, find_name, fragment_bytes, fragment_fits, fragment_len, held, is_fragment_known, is_known, is_near, value_in, word_in}
 use Rattle.stmt65.specs.declared.source_line.Value.{Value as CodeValue}
 use Rattle.stmt65.specs.declared.source_line.Datum.{Datum as CodeDatum}
-use Rattle.stmt65.specs.Code.SourceLineViews.{datum_of}
 use Rattle.std.proofs.lemmas.List.{drop_more}
 use Rattle.std.specs.List.{list_all, flat_map}
-use Rattle.stmt65.specs.SourceLine.{Value, NumberValue, NameValue, DifferenceValue}
-use Rattle.stmt65.specs.Symbols.{Definition, below, address_of, apart, find_name, is_known, value_in, word_in}
-use Rattle.stmt65.specs.Coding.{datum_fragments, Fragment, Fixed, Single, ZeroPage, Oversized, Entry, Distance, HalfOf, Fill, entry_in, entry_bytes, entry_limit, is_near, fragment_len, is_fragment_known, fragment_fits, fragment_bytes, coding_len}
 use Rattle.std.proofs.Math.Nat.{suc-mul, zero-mul}
-use Rattle.stmt65.specs.declared.directive.Directive.{Directive}
-use Rattle.stmt65.specs.Code.Held.{held}
 use Rattle.stmt65.proofs.Cases.{by_option}
 
 -- ---- lengths

@@ -1,9 +1,7 @@
 -- The cutting of a text gives its bytes back, and there is no other.
 use Rattle.std.proofs.Common.{◌≡◌, ℕ, false, List, [], ◌∷◌, refl, ap, ◌∙◌, arith}
 use Rattle.std.specs.List.{flat_map}
-use Rattle.stmt65.specs.SourceLine.{Datum, NumberDatum, StringDatum, ValueDatum, HalfDatum}
-use Rattle.stmt65.specs.TableLaws.{datum_bytes, EndsStretch, IsCut, CutsTexts}
-use Rattle.stmt65.specs.Tables.{is_plain, cut_text}
+use Rattle.stmt65.specs.Words.{CutsTexts, Datum, EndsStretch, HalfDatum, IsCut, NumberDatum, StringDatum, ValueDatum, cut_text, datum_bytes, is_plain}
 use Rattle.stmt65.proofs.Lexed.{begins}
 use Rattle.stmt65.proofs.TableLists.{cut_nil, cut_single, cut_case, cut_stretch}
 

@@ -2,12 +2,8 @@
 use Rattle.std.proofs.Common.{◌≡◌, ℕ, ◌+◌, ◌*◌, ◌/◌, ◌<◌, ◌≤◌, List, [], ◌∷◌, length, take, drop, refl, arith}
 use Rattle.std.specs.List.{All}
 use Rattle.std.proofs.lemmas.List.{length-reverse, length-drop}
-use Rattle.isa65.specs.declared.byte_order.ByteOrder.{ByteOrder}
-use Rattle.isa65.specs.declared.byte_order.ByteOrder.TheVariants.{LittleEndian, BigEndian}
-use Rattle.stmt65.specs.declared.directive.Directive.{Directive}
-use Rattle.stmt65.specs.declared.directive.Directive.TheVariants.{Word, Dbyt, Addr, Dword}
-use Rattle.stmt65.specs.Coding.{low, entry_bytes, entry_limit}
-use Rattle.stmt65.specs.Tables.{entry_len, in_order, low_number, pieces, entries, entry_number}
+use Rattle.stmt65.specs.Words.{Addr, BigEndian, ByteOrder, Dbyt, Directive, Dword, LittleEndian, entries, entry_bytes, entry_len, entry_limit, entry_number, in_order, low, low_number, pieces}
+use Rattle.stmt65.specs.declared.directive.Directive.TheVariants.{Word}
 
 -- ---- the order of bytes
 

@@ -7,18 +7,8 @@ use Rattle.std.proofs.lemmas.Bool.{cases_lt, ltb-true}
 use Rattle.std.proofs.lemmas.Bool.Decides.{nat_tests, Decides-at, Decides-like, Decides-ltb, Decides-not, Decides-or, Decides-and}
 use Rattle.std.proofs.lemmas.Option.{same_Some}
 use Rattle.std.proofs.lemmas.List.Folds.{Any-from_list_any, list_any-from_Any, list_all-map, list_all-append}
-use Rattle.isa65.specs.declared.row.Pattern.TheVariants.{Direct}
-use Rattle.isa65.specs.Cpu.{cpu_named}
-use Rattle.stmt65.specs.declared.assembling.fault.AsmFaultKind.{AsmFaultKind}
-use Rattle.stmt65.specs.declared.assembling.fault.AsmFaultKind.TheVariants.{Syntax, UnknownCpu, NoSuchForm, Undefined, DefinedTwice, OutOfRange, PastStart, PastEnd, Memory}
-use Rattle.stmt65.specs.SourceLine.{Value, NumberValue, NameValue, DifferenceValue, Form, One, Datum, NumberDatum, StringDatum, ValueDatum, HalfDatum, Operation, Instr, Data, Values, Reserve, Segment, SetCpu, SourceLine}
-use Rattle.stmt65.specs.declared.source_line.Notation.TheVariants.{Plain}
-use Rattle.stmt65.specs.Symbols.{Definition, find_name, value_in, is_known, below, word_in}
-use Rattle.stmt65.specs.Coding.{State, entry_limit, Fragment, Fixed, Single, ZeroPage, Oversized, Entry, Distance, HalfOf, Fill, gap, datum_fragments, is_fragment_known, fragment_fits, entry_in, is_short, ways, coding}
-use Rattle.stmt65.specs.Meaning.{operation_in, fragments_of, next_of, defined_by, has_unknown_cpu, has_no_form, is_undefined, is_twice, is_out_of_range, is_past_start, is_past_end, Test, first_of, tests_of, fault_of}
-use Rattle.stmt65.specs.Forms.{form_values}
-use Rattle.stmt65.specs.Layout.{start_of, is_before}
-use Rattle.stmt65.specs.FaultLaws.{rank, datum_values, operation_values, EntersPast, NamesNoCpu, HasNoMode, IsUnknown, HasRoom, HasFault, LineHasFault, FindsLowest, FindsNone}
+use Rattle.stmt65.specs.Words.{AsmFaultKind, Data, Datum, DefinedTwice, Definition, DifferenceValue, Direct, Distance, EntersPast, Entry, Fill, FindsLowest, FindsNone, Fixed, Form, Fragment, HalfDatum, HalfOf, HasFault, HasNoMode, HasRoom, Instr, IsUnknown, LineHasFault, Memory, NameValue, NamesNoCpu, NoSuchForm, NumberDatum, NumberValue, One, Operation, OutOfRange, Oversized, PastEnd, PastStart, Plain, Reserve, Segment, SetCpu, Single, SourceLine, State, StringDatum, Syntax, Test, Undefined, UnknownCpu, Value, ValueDatum, Values, ZeroPage, below, coding, datum_fragments, datum_values, defined_by, entry_in, entry_limit, fault_of, find_name, first_of, form_values, fragment_fits, fragments_of, gap, has_no_form, has_unknown_cpu, is_before, is_fragment_known, is_known, is_out_of_range, is_past_end, is_past_start, is_short, is_twice, is_undefined, next_of, operation_in, operation_values, rank, start_of, tests_of, value_in, ways, word_in}
+use Rattle.isa65.specs.Words.{cpu_named}
 use Rattle.stmt65.proofs.Cases.{by_option, by_test}
 use Rattle.stmt65.proofs.CodingLemmas.{string_known}
 use Rattle.stmt65.proofs.ModeLemmas.{each_way, false_true, needs_mode, taken}

@@ -7,24 +7,8 @@ use Rattle.std.specs.Str.{bytes_eq}
 use Rattle.std.proofs.lemmas.List.{map-append}
 use Rattle.std.proofs.lemmas.Bool.{cases_lt, ltb-false, ltb-true}
 use Rattle.std.proofs.lemmas.Bool.Decides.{nat_tests}
-use Rattle.stmt65.specs.declared.assembling.coding.Coded.{Coded}
-use Rattle.stmt65.specs.declared.assembling.state.Placed.{Placed}
-use Rattle.stmt65.specs.declared.assembling.fault.AsmFaultKind.{AsmFaultKind}
-use Rattle.stmt65.specs.declared.assembling.fault.AsmFaultKind.TheVariants.{UnknownCpu, NoSuchForm, Undefined, DefinedTwice, OutOfRange, PastStart, PastEnd}
-use Rattle.stmt65.specs.declared.source_line.Minus.{Minus}
-use Rattle.stmt65.specs.declared.source_line.Minus.TheVariants.{Zero}
-use Rattle.stmt65.specs.SourceLine.{SourceLine, Assignment, PlaceAssignment, Statement, Value, NumberValue, NameValue, DifferenceValue, Form, One, Two, Operation, Instr, Segment}
-use Rattle.stmt65.specs.declared.directive.Directive.{Directive}
+use Rattle.stmt65.specs.Words.{AsmFaultKind, Assignment, Coded, Codes, DefinedTwice, Definition, DifferenceValue, Directive, Distance, Entry, Fill, Fixed, Form, Fragment, Instr, IsPlaced, Language, Layout, Minus, NameValue, NoSuchForm, NumberValue, One, Operation, OutOfRange, Oversized, PastEnd, PastStart, PlaceAssignment, Placed, PutsAll, Segment, SourceLine, State, Statement, Two, Undefined, UnknownCpu, Value, Zero, address_of, after, below, bytes_of, coded, coded_of, coding, coding_len, defined_by, definitions_in, entry_in, entry_limit, fault_of, final, find_name, first_of, fragment_bytes, fragment_fits, fragments_in, fragments_of, gap, has_no_form, has_unknown_cpu, has_zero_page_size, held, held_after, held_coded, held_definition, held_final, held_value, initial, is_before, is_constant, is_fragment_known, is_known, is_near, is_out_of_range, is_past_end, is_past_start, is_short, is_small, is_twice, is_undefined, lowered, meaning_in, meaning_of, next_of, operation_in, readings, start_of, value_in, word_in}
 use Rattle.stmt65.specs.declared.directive.Directive.TheVariants.{Word}
-use Rattle.stmt65.specs.Symbols.{Definition, find_name, below, address_of, lowered, value_in, is_known, word_in, is_small, is_constant, has_zero_page_size}
-use Rattle.stmt65.specs.Coding.{State, entry_limit, Fragment, Fixed, Oversized, Entry, Distance, Fill, entry_in, is_fragment_known, is_near, fragment_fits, fragment_bytes, is_short, gap, coding, coding_len}
-use Rattle.stmt65.specs.Layout.{Layout, start_of, is_before}
-use Rattle.stmt65.specs.Code.CodingViews.{PutsAll, coded_of}
-use Rattle.stmt65.specs.Code.Held.{held, held_value}
-use Rattle.stmt65.specs.Meaning.{operation_in, fragments_of, next_of, defined_by, has_unknown_cpu, has_no_form, is_undefined, is_twice, is_out_of_range, is_past_start, is_past_end, first_of, fault_of, bytes_of, after, final, initial, coded, meaning_in, meaning_of, readings}
-use Rattle.stmt65.specs.Code.MeaningViews.{fragments_in, definitions_in, held_definition, IsPlaced, held_after, held_final}
-use Rattle.stmt65.specs.Code.LateViews.{Codes, held_coded}
-use Rattle.stmt65.specs.declared.language.Language.{Language}
 use Rattle.stmt65.proofs.Cases.{by_option, by_test}
 
 -- the address after a line

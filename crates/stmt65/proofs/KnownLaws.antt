@@ -3,16 +3,7 @@ use Rattle.std.proofs.Common.{◌≡◌, ℕ, ◌+◌, ◌<◌, List, [], ◌∷
 use Rattle.std.specs.Prelude.{Ok}
 use Rattle.std.proofs.Math.Seq.{take-length}
 use Rattle.text65.specs.Lines.{text_lines}
-use Rattle.stmt65.specs.declared.assembling.assembler.Source.{Source}
-use Rattle.stmt65.specs.Sources.{source_meaning, source_readings, source_state}
-use Rattle.stmt65.specs.SourceLine.{SourceLine}
-use Rattle.stmt65.specs.Lexing.{parts}
-use Rattle.stmt65.specs.Reading.{reading_of}
-use Rattle.stmt65.specs.Symbols.{Definition}
-use Rattle.stmt65.specs.Coding.{State}
-use Rattle.stmt65.specs.Meaning.{bytes_of, readings, with_front}
-use Rattle.stmt65.specs.Code.MeaningViews.{held_after, held_final}
-use Rattle.stmt65.specs.Code.LateViews.{Follows, held_coded}
+use Rattle.stmt65.specs.Words.{Definition, Follows, Source, SourceLine, State, bytes_of, held_after, held_coded, held_final, parts, reading_of, readings, source_meaning, source_readings, source_state, with_front}
 use Rattle.stmt65.proofs.HeldLemmas.{meaning_held}
 use Rattle.stmt65.proofs.PassLaws.{front-end, front-front, front-nil}
 

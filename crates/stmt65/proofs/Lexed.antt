@@ -11,10 +11,8 @@ use Rattle.std.proofs.lemmas.List.{take_at, drop_at, drop-drop}
 use Rattle.std.proofs.lemmas.Str.Parse.{digit_from_value}
 use Rattle.text65.specs.Digits.{hex_digit}
 use Rattle.text65.specs.Names.{is_blank, is_word_byte}
-use Rattle.stmt65.specs.declared.language.Language.TheVariants.{Listing}
-use Rattle.stmt65.specs.Digits.{hex2, hex4, offset_text}
-use Rattle.stmt65.specs.Lexing.{is_word_start, is_text_byte, part_at, parts}
-use Rattle.stmt65.specs.Parts.{Word, Number, Text, Define, Mark, begins_with, number_of}
+use Rattle.stmt65.specs.Words.{Define, Listing, Mark, Number, Text, Word, begins_with, hex2, hex4, is_text_byte, is_word_start, offset_text, part_at, parts}
+use Rattle.stmt65.specs.Parts.{number_of}
 use Rattle.stmt65.proofs.Cases.{by_test}
 use Rattle.stmt65.proofs.PartLemmas.{parts_blank, parts_part}
 

@@ -1,11 +1,7 @@
 -- A line is read as r exactly where it is a spelling of r.
 use Rattle.std.proofs.Common.{refl, sym, ◌∙◌}
 use Rattle.std.proofs.lemmas.Option.{same_Some}
-use Rattle.stmt65.specs.declared.language.Language.TheVariants.{Listing}
-use Rattle.stmt65.specs.Reading.{reading_of}
-use Rattle.stmt65.specs.Spelling.{IsSpelling}
-use Rattle.stmt65.specs.ReadingLaws.{ReadsSpellings, SpellsOne, ReadsLines}
-use Rattle.stmt65.specs.Lexing.{parts}
+use Rattle.stmt65.specs.Words.{IsSpelling, Listing, ReadsLines, ReadsSpellings, SpellsOne, parts, reading_of}
 use Rattle.stmt65.proofs.SpacingLemmas.{takes_parts}
 use Rattle.stmt65.proofs.ReadIsSpelled.{at, reading_read}
 use Rattle.stmt65.proofs.SpelledIsRead.{line_again}

@@ -2,9 +2,7 @@
 use Rattle.std.proofs.Common.{◌≡◌, ℕ, zero, suc, true, false, cond, ◌-◌, ◌<◌, ◌≤◌, List, [], ◌∷◌, ◌++◌, length, drop, Option, Some, None, refl, sym, ap, ◌∙◌, arith, append_assoc}
 use Rattle.std.specs.Prelude.{map}
 use Rattle.std.proofs.lemmas.List.{length-drop, map-append}
-use Rattle.stmt65.specs.Parts.{Part}
-use Rattle.stmt65.specs.Code.Shortens.{Shortens}
-use Rattle.stmt65.specs.Reading.{◌>>=◌, is_mark, is_nil, whole, joined, list_of}
+use Rattle.stmt65.specs.Words.{Part, Shortens, is_mark, is_nil, joined, list_of, whole, ◌>>=◌}
 use Rattle.stmt65.proofs.Cases.{by_list, by_option}
 
 -- the list, and others before it

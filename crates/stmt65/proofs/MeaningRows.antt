@@ -1,29 +1,14 @@
 -- Worked rows of the meaning: what a few lines mean from a start.
 use Rattle.std.specs.Prelude.{◌≡◌, ℕ, true, List, [], ◌∷◌, ◌++◌, map, codes, Option, Some, None, Result, Ok, Err, refl}
-use Rattle.isa65.specs.declared.mnemonic.Mnemonic.{Mnemonic}
-use Rattle.isa65.specs.declared.mnemonic.Mnemonic.TheVariants.{Bne, Bra, Asl, Jmp, Lda, Nop, Smb0, Sta, Stx}
-use Rattle.stmt65.specs.declared.assembling.fault.AsmFault.{AsmFault}
-use Rattle.stmt65.specs.declared.assembling.fault.AsmFaultKind.{AsmFaultKind}
-use Rattle.stmt65.specs.declared.assembling.fault.AsmFaultKind.TheVariants.{Syntax, UnknownCpu, NoSuchForm, Undefined, DefinedTwice, OutOfRange, PastStart, PastEnd}
-use Rattle.stmt65.specs.SourceLine.{Value, NumberValue, NameValue, Form, Empty, One, NumberDatum, StringDatum, Operation, Nothing, Instr, Data, Values, Segment, Code, SetCpu, SourceLine, Assignment, PlaceAssignment, Statement}
-use Rattle.stmt65.specs.declared.source_line.Notation.TheVariants.{Plain, Absolute}
-use Rattle.stmt65.specs.declared.source_line.Minus.TheVariants.{Zero, One as MinusOne}
-use Rattle.stmt65.specs.declared.directive.Directive.TheVariants.{Word, Dbyt, Addr, Dword}
-use Rattle.isa65.specs.declared.row.Pattern.TheVariants.{Immediate, Direct, DirectY}
-use Rattle.isa65.specs.Mnemonic.{mnemonic_named}
+use Rattle.stmt65.specs.Words.{Addr, Asl, AsmFault, AsmFaultKind, Assignment, Bne, Bra, Code, Data, Dbyt, DefinedTwice, Direct, DirectY, Dword, Empty, Form, Immediate, Instr, Jmp, Lda, Mnemonic, NameValue, NoSuchForm, Nop, Nothing, NumberDatum, NumberValue, One, Operation, OutOfRange, PastEnd, PastStart, PlaceAssignment, Plain, Repair, Segment, SetCpu, Smb0, SourceLine, Sta, Statement, StringDatum, Stx, Syntax, Undefined, UnknownCpu, Value, Values, Zero, after, bytes_of, coded, coding, coding_len, constant_of, cpu_after, defined_by, directive_named, entry_in, fault_of, final, find_name, fragment_bytes, fragment_fits, fragments_of, free, further_at, halved_in, has_no_form, has_unknown_cpu, has_zero_page_size, immediate_of, inner_at, is_known, is_name, is_out_of_range, is_past_end, is_past_start, is_twice, is_undefined, joined, less_one, line_at, mark_datum, meaning, meaning_in, meaning_of, named_at, next_datum, next_half, next_of, next_value, operation_at, other_at, part_at, parts_after, reading_of, tail_at, text_in, value_in, ways, word_datum, word_in}
+use Rattle.stmt65.specs.declared.source_line.Notation.TheVariants.{Absolute}
+use Rattle.stmt65.specs.declared.source_line.Minus.TheVariants.{One as MinusOne}
+use Rattle.stmt65.specs.declared.directive.Directive.TheVariants.{Word}
+use Rattle.isa65.specs.Words.{cpu_named, mnemonic_named}
 use Rattle.text65.specs.Lines.{text_lines}
 use Rattle.text65.specs.Names.{has_name_form, is_reserved_word}
-use Rattle.stmt65.specs.Directives.{directive_named}
-use Rattle.stmt65.specs.declared.language.Language.TheVariants.{Repair}
-use Rattle.stmt65.specs.Layout.{free}
-use Rattle.stmt65.specs.Lexing.{part_at, parts_after}
-use Rattle.stmt65.specs.Names.{is_name}
 use Rattle.stmt65.specs.Parts.{number_of}
-use Rattle.stmt65.specs.Reading.{less_one, named_at, next_value, halved_in, next_half, tail_at, inner_at, immediate_of, form_of, joined, word_datum, mark_datum, next_datum, text_in, further_at, other_at, operation_at, operation_of, constant_of, line_at, reading_of}
-use Rattle.stmt65.specs.Symbols.{find_name, value_in, is_known, word_in, has_zero_page_size}
-use Rattle.isa65.specs.Cpu.{cpu_named}
-use Rattle.stmt65.specs.Coding.{entry_in, fragment_fits, fragment_bytes, ways, coding, coding_len}
-use Rattle.stmt65.specs.Meaning.{fragments_of, next_of, defined_by, has_unknown_cpu, has_no_form, is_undefined, is_twice, is_out_of_range, is_past_start, is_past_end, fault_of, bytes_of, cpu_after, after, final, coded, meaning_of, meaning_in, meaning}
+use Rattle.stmt65.specs.Reading.{form_of, operation_of}
 
 abbrev foo : List ℕ
 foo = codes "foo"

@@ -7,21 +7,10 @@ use Rattle.std.specs.List.{list_any}
 use Rattle.std.proofs.lemmas.Bool.Decides.{Decides-and}
 use Rattle.std.proofs.lemmas.Slice.Eq.{bytes_eq-Decides}
 use denote.Enum.Bare.{sameb, same_true}
-use Rattle.isa65.specs.declared.cpu.Cpu.{Cpu}
-use Rattle.isa65.specs.declared.mnemonic.Mnemonic.{Mnemonic}
-use Rattle.isa65.specs.declared.mode.Mode.{Mode}
-use Rattle.isa65.specs.declared.mode.Mode.TheVariants.{Imp, Acc, Imm, Zp, Zpx, Zpy, Abs, Absx, Absy, Ind, Indx, Indy, Zpind, Absindx, Rel, Zprel}
-use Rattle.isa65.specs.declared.row.Pattern.TheVariants.{Direct}
+use Rattle.stmt65.specs.Words.{Abs, Absindx, Absx, Absy, Acc, Cpu, Direct, EachWay, Fixed, Form, Fragment, HasMode, Imm, Imp, Ind, Indx, Indy, IsModeOf, IsWay, LacksForm, Mnemonic, Mode, ModesAreWays, NeedsMode, One, Plain, Rel, TakesMode, TakesModes, Way, WaysAreModes, Zp, Zpind, Zprel, Zpx, Zpy, coding, coding_len, first_way, form_text, has_prefix, is_short, is_way, mode_fragments, ways}
 use Rattle.isa65.specs.contracts.mode.Mode as mode
-use Rattle.isa65.specs.Cpu.{table_of}
-use Rattle.isa65.specs.Mode.{len_of, written, zero_page_of}
-use Rattle.isa65.specs.Opcodes.{encoded}
-use Rattle.stmt65.specs.SourceLine.{Form, One}
-use Rattle.stmt65.specs.declared.source_line.Notation.TheVariants.{Plain}
-use Rattle.stmt65.specs.Coding.{Fragment, Fixed, is_short, Way, ways, first_way, coding, coding_len}
-use Rattle.stmt65.specs.Forms.{form_text, has_prefix}
+use Rattle.isa65.specs.Words.{encoded, len_of, table_of, written, zero_page_of}
 use Rattle.stmt65.proofs.Cases.{by_option, by_test}
-use Rattle.stmt65.specs.ModeLaws.{IsModeOf, IsWay, EachWay, WaysAreModes, is_way, ModesAreWays, HasMode, mode_fragments, TakesMode, TakesModes, LacksForm, NeedsMode}
 
 pub false_true : {P : Type 0} → false ≡ true → P
 false_true e = absurd (let no : ⊥ = cc in no)

@@ -8,38 +8,15 @@ use Rattle.std.specs.Char.{is_ascii_digit}
 use Rattle.std.specs.Fmt.{decimal}
 use Rattle.std.proofs.lemmas.Bool.Decides.{nat_tests}
 use Rattle.std.proofs.lemmas.Fmt.{decimal_is_IsNumeral}
-use Rattle.isa65.specs.Cpu.{cpu_text}
-use Rattle.isa65.specs.Mnemonic.{text_of}
-use Rattle.isa65.specs.Mode.{expression}
+use Rattle.isa65.specs.Words.{cpu_text, expression, text_of}
 use Rattle.isa65.proofs.CpuNames.{cpu_name}
-use Rattle.isa65.specs.declared.mnemonic.Mnemonic.{Mnemonic}
-use Rattle.isa65.specs.declared.mnemonic.Mnemonic.TheVariants.{Adc}
-use Rattle.isa65.specs.declared.mode.Mode.{Mode}
-use Rattle.isa65.specs.declared.mode.Mode.TheVariants.{Imp}
-use Rattle.isa65.specs.declared.row.OperandKind.{OperandKind}
+use Rattle.stmt65.specs.Words.{Adc, Columns, Datum, Directive, ExprView, Field, HasLabelName, HasNames, Imp, IsInWidth, IsPrintable, Mnemonic, Mode, OperandKind, OperandsView, RemarksView, Row, StatementView, bytes_text, character, comma_list, cut_text, datum_text, digits2, directive_text, distance_text, entries, entry_text, fields_of, filled, hex2, hex4, in_order, in_pattern, instr_fields, is_name, is_text_byte, kind_text, kind_texts, label_fields, level_fields, line_of, named_text, next_text, numbers_text, offset_text, operand_text, order_of, prefix_text, quoted, with_fields}
 use Rattle.isa65.specs.declared.row.OperandKind.TheVariants as kind
-use Rattle.isa65.specs.declared.row.Row.{Row}
 use Rattle.isa65.specs.declared.row.Row.TheVariants as row
 use Rattle.text65.specs.Digits.{hex_digit}
 use Rattle.text65.specs.Names.{has_name_form}
-use Rattle.stmt65.specs.declared.printing.columns.Columns.{Columns}
-use Rattle.stmt65.specs.declared.directive.Directive.{Directive}
 use Rattle.stmt65.specs.declared.directive.Directive.TheVariants as directive
-use Rattle.stmt65.specs.Directives.{directive_text}
-use Rattle.stmt65.specs.Digits.{digits2, hex2, hex4, offset_text}
-use Rattle.stmt65.specs.Levels.{character, level_fields}
-use Rattle.stmt65.specs.Line.{filled, with_fields, line_of}
-use Rattle.stmt65.specs.Operands.{named_text, kind_text, kind_texts, prefix_text, in_pattern, operand_text}
-use Rattle.stmt65.specs.Printable.{IsPrintable}
-use Rattle.stmt65.specs.SourceLine.{Datum}
 use Rattle.stmt65.specs.SourceLine as source
-use Rattle.stmt65.specs.Tables.{order_of, in_order, entries, cut_text}
-use Rattle.stmt65.specs.Statements.{Field, next_text, comma_list, bytes_text, quoted, datum_text, entry_text, numbers_text, distance_text, instr_fields, label_fields, fields_of}
-use Rattle.stmt65.specs.Lexing.{is_text_byte}
-use Rattle.stmt65.specs.Names.{is_name}
-use Rattle.stmt65.specs.Printed.{HasNames, HasLabelName}
-use Rattle.stmt65.specs.Code.Widths.{IsInWidth}
-use Rattle.stmt65.specs.Views.{ExprView, OperandsView, StatementView, RemarksView}
 use Rattle.stmt65.specs.Views as view
 use Rattle.stmt65.proofs.Lexed.{all_as, digits_pass}
 use Rattle.stmt65.proofs.ReadBack.{IsRead, AreRead, are_read, name_quotes}

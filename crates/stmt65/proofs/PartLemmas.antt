@@ -6,10 +6,7 @@ use Rattle.std.specs.Char.{is_ascii_digit}
 use Rattle.std.proofs.lemmas.List.{take_rest}
 use Rattle.std.proofs.lemmas.Bool.{ne_eqb, lt-ltb}
 use Rattle.text65.specs.Names.{is_blank, is_word_byte}
-use Rattle.stmt65.specs.declared.language.Language.{Language}
-use Rattle.stmt65.specs.Parts.{Part, Word, Number}
-use Rattle.stmt65.specs.declared.language.Language.TheVariants.{Repair}
-use Rattle.stmt65.specs.Lexing.{is_word_start, is_binary_digit, hex_len, alone_at, part_at, parts, parts_after}
+use Rattle.stmt65.specs.Words.{Language, Number, Part, Repair, Word, alone_at, hex_len, is_binary_digit, is_word_start, part_at, parts, parts_after}
 
 pub parts_after-drop : (l : Language) (skip : ℕ) (bs : List ℕ) → parts_after l skip bs ≡ parts l (drop skip bs)
 unfolding parts_after

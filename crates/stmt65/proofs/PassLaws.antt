@@ -5,28 +5,8 @@ use Rattle.std.specs.List.{list_all, flat_map}
 use Rattle.std.proofs.lemmas.Bool.{and_parts}
 use Rattle.std.proofs.lemmas.List.{append-nil, drop-append-le, drop_all, drop_more, length-drop, take-append-le, take_all, take_at}
 use Rattle.std.specs.Str.{bytes_eq}
-use Rattle.stmt65.specs.declared.assembling.assembler.Pass.{Pass}
-use Rattle.stmt65.specs.declared.assembling.assembler.Source.{Source}
-use Rattle.stmt65.specs.Sources.{source_meaning, source_readings, source_state}
-use Rattle.stmt65.specs.declared.assembling.late.Late.{Late}
-use Rattle.stmt65.specs.declared.assembling.late.Work.{Work}
-use Rattle.stmt65.specs.declared.assembling.fault.AsmFault.{AsmFault}
-use Rattle.stmt65.specs.declared.assembling.fault.AsmFaultKind.{AsmFaultKind}
-use Rattle.stmt65.specs.declared.assembling.fault.AsmFaultKind.TheVariants.{Syntax}
-use Rattle.stmt65.specs.declared.assembling.state.Placed.{Placed}
-use Rattle.stmt65.specs.SourceLine.{SourceLine, Value, NumberValue, NameValue, DifferenceValue}
+use Rattle.stmt65.specs.Words.{AsmFault, AsmFaultKind, Codes, Definition, DifferenceValue, Fill, Fixed, Fragment, GoesOn, IsIdle, IsOf, IsPassed, IsPlaced, IsSound, Language, Late, Layout, NameValue, NumberValue, Oversized, Pass, Placed, Source, SourceLine, State, Syntax, Takes, Value, Work, bytes_of, coded_late, defined_in, entry_in, fault_at, fault_of, fault_or, fault_past, find_name, fragment_bytes, fragment_fits, fragments_in, fragments_of, fronts, held, held_after, held_coded, held_final, initial, is_fragment_known, is_known, is_out_of_range, is_undefined, late_state, next_of, parts, reading_of, readings, source_meaning, source_of, source_readings, source_state, state_in, unless, value_in, with_front, word_in, work_of}
 use Rattle.text65.specs.Lines.{text_lines}
-use Rattle.stmt65.specs.Lexing.{parts}
-use Rattle.stmt65.specs.Reading.{reading_of}
-use Rattle.stmt65.specs.Symbols.{Definition, find_name, value_in, is_known, word_in}
-use Rattle.stmt65.specs.declared.language.Language.{Language}
-use Rattle.stmt65.specs.Layout.{Layout}
-use Rattle.stmt65.specs.Coding.{State, Fragment, Fixed, Oversized, Fill, entry_in, is_fragment_known, fragment_fits, fragment_bytes}
-use Rattle.stmt65.specs.Meaning.{bytes_of, fault_of, fragments_of, initial, is_undefined, is_out_of_range, next_of, readings, unless, with_front}
-use Rattle.stmt65.specs.Code.SourceLineViews.{source_of}
-use Rattle.stmt65.specs.Code.MeaningViews.{IsPlaced, defined_in, fragments_in, held_after, held_final}
-use Rattle.stmt65.specs.Code.Held.{held}
-use Rattle.stmt65.specs.Code.LateViews.{Codes, GoesOn, IsIdle, IsOf, IsPassed, IsSound, Takes, coded_late, fault_at, fault_or, fault_past, fronts, held_coded, late_state, state_in, work_of}
 use Rattle.stmt65.proofs.Cases.{by_option, by_test}
 use Rattle.stmt65.proofs.HeldLemmas.{fragments-placed, meaning_held, none_fits, past-held}
 

@@ -8,45 +8,15 @@ use Rattle.std.proofs.lemmas.Bool.{and_parts, ltb-true, ne_eqb, eqb-true}
 use Rattle.std.proofs.lemmas.Bool.Decides.{nat_tests}
 use Rattle.std.proofs.lemmas.List.{append-nil, length-append}
 use Rattle.std.proofs.lemmas.Slice.Eq.{bytes_eq-Decides}
-use Rattle.isa65.specs.Cpu.{cpu_text}
-use Rattle.isa65.specs.Mnemonic.{text_of}
-use Rattle.isa65.specs.Mode.{row_of, zero_page_row}
-use Rattle.isa65.specs.declared.cpu.Cpu.{Cpu}
-use Rattle.isa65.specs.declared.mnemonic.Mnemonic.{Mnemonic}
-use Rattle.isa65.specs.declared.mnemonic.Mnemonic.TheVariants.{Adc}
-use Rattle.isa65.specs.declared.mode.Mode.{Mode}
-use Rattle.isa65.specs.declared.mode.Mode.TheVariants.{Imp}
-use Rattle.isa65.specs.declared.row.OperandKind.{OperandKind}
+use Rattle.isa65.specs.Words.{cpu_text, row_of, text_of, zero_page_row}
+use Rattle.stmt65.specs.Words.{Adc, AreOperands, AreWordWide, Assignment, Automatic, Code, Columns, Cpu, Define, Directive, Empty, ExprView, HasLabelName, HasName, HasNames, HasNamesIn, Imp, Instr, IsInWidth, IsLong, IsOperand, IsPrintable, IsSpelling, IsValue, IsWordWide, IsWrittenIn, Item, Listing, Mark, MayBeForced, MayBeLabelled, Mnemonic, Mode, NameValue, Nothing, Number, NumberDatum, NumberValue, One, OperandKind, OperandsView, Operation, Part, Pattern, PlaceAssignment, RemarksView, Row, Segment, SetCpu, Spells, Statement, StatementView, TargetView, Word, Zero, alone, begins_with, bytes_text, cut_text, data_list, data_text, definition_fields, directive_text, distance_text, entries, entry_value, fields_of, filled, form_items, has_bytes, hex2, hex4, instr_fields, is_name, is_text_byte, is_word_start, kind_text, label_fields, level_fields, line_of, long_text, mark, named_text, number, numbers_text, offset_text, operand_text, operation_items, parts, plain_line, prefix_items, prefix_text, quoted, quoted_name, reading_of, remark_fields, return_text, row_form, row_operands, sized, source_form, source_line, source_value, string, value, value_list, with_fields, with_label, with_operands, word}
 use Rattle.isa65.specs.declared.row.OperandKind.TheVariants as kind
-use Rattle.isa65.specs.declared.row.Pattern.{Pattern}
 use Rattle.isa65.specs.declared.row.Pattern.TheVariants as pattern
-use Rattle.isa65.specs.declared.row.Row.{Row}
 use Rattle.isa65.specs.declared.row.Row.TheVariants as row
 use Rattle.text65.specs.Names.{has_name_form, is_word_byte}
-use Rattle.stmt65.specs.declared.language.Language.TheVariants.{Listing}
-use Rattle.stmt65.specs.declared.directive.Directive.{Directive}
 use Rattle.stmt65.specs.declared.directive.Directive.TheVariants as directive
-use Rattle.stmt65.specs.Directives.{directive_text}
-use Rattle.stmt65.specs.declared.printing.columns.Columns.{Columns}
-use Rattle.stmt65.specs.Digits.{hex2, hex4, offset_text}
-use Rattle.stmt65.specs.Levels.{level_fields}
-use Rattle.stmt65.specs.Line.{filled, with_fields, plain_line, line_of}
-use Rattle.stmt65.specs.Operands.{named_text, long_text, kind_text, prefix_text, row_operands, operand_text}
-use Rattle.stmt65.specs.Printable.{IsLong, IsOperand, AreOperands, IsWrittenIn, MayBeForced, IsPrintable, MayBeLabelled}
-use Rattle.stmt65.specs.Statements.{has_bytes, bytes_text, quoted, data_text, numbers_text, alone, with_operands, return_text, distance_text, instr_fields, label_fields, definition_fields, remark_fields, fields_of}
-use Rattle.stmt65.specs.SourceLine.{NumberValue, NameValue, NumberDatum, Empty, One, Operation, Nothing, Instr, Segment, Code, SetCpu, Assignment, PlaceAssignment, Statement}
-use Rattle.stmt65.specs.declared.source_line.AddressSize.TheVariants.{Absolute, Automatic}
-use Rattle.stmt65.specs.declared.source_line.Minus.TheVariants.{Zero, One as MinusOne}
-use Rattle.stmt65.specs.Forms.{sized}
-use Rattle.stmt65.specs.Tables.{entries, cut_text}
-use Rattle.stmt65.specs.Parts.{Part, Word, Number, Define, Mark, begins_with}
-use Rattle.stmt65.specs.Lexing.{is_word_start, is_text_byte, parts}
-use Rattle.stmt65.specs.Names.{is_name}
-use Rattle.stmt65.specs.Reading.{reading_of}
-use Rattle.stmt65.specs.Spelling.{Item, word, mark, number, string, quoted_name, value, data_list, value_list, IsValue, Spells, prefix_items, form_items, operation_items, IsSpelling}
-use Rattle.stmt65.specs.Printed.{entry_value, source_value, row_form, source_form, source_line, with_label, HasName, HasNamesIn, HasNames, HasLabelName}
-use Rattle.stmt65.specs.Code.Widths.{IsWordWide, AreWordWide, IsInWidth}
-use Rattle.stmt65.specs.Views.{ExprView, OperandsView, TargetView, StatementView, RemarksView}
+use Rattle.stmt65.specs.declared.source_line.AddressSize.TheVariants.{Absolute}
+use Rattle.stmt65.specs.declared.source_line.Minus.TheVariants.{One as MinusOne}
 use Rattle.stmt65.specs.Views as view
 use Rattle.stmt65.proofs.ReadIsSpelled.{at_mark, at_value, at_define, last, word_front, name_front}
 use Rattle.stmt65.proofs.SpelledIsRead.{line_again}

@@ -2,21 +2,11 @@
 use Rattle.std.proofs.Common.{arith, ◌≡◌, ℕ, zero, suc, Bool, true, false, cond, append_assoc, List, [], ◌∷◌, ◌++◌, length, drop, Option, Some, None, refl, sym, ap, ◌∙◌, inl, inr}
 use Rattle.std.specs.Prelude.{codes, IfSome}
 use Rattle.std.proofs.lemmas.List.{append-nil}
-use Rattle.isa65.specs.Mnemonic.{text_of, mnemonic_named}
+use Rattle.isa65.specs.Words.{mnemonic_named, text_of}
 use Rattle.text65.specs.Names.{has_name_form}
-use Rattle.stmt65.specs.declared.language.Language.TheVariants.{Listing}
-use Rattle.stmt65.specs.declared.source_line.AddressSize.{AddressSize}
-use Rattle.stmt65.specs.declared.source_line.AddressSize.TheVariants.{Absolute, Automatic}
-use Rattle.stmt65.specs.SourceLine.{is_absolute, Value, Form, One, Two, Operation, Instr, Data, Values, SetCpu}
-use Rattle.stmt65.specs.declared.source_line.Notation.TheVariants.{Plain}
-use Rattle.isa65.specs.declared.row.Pattern.TheVariants.{Immediate, Direct, DirectX, DirectY}
-use Rattle.stmt65.specs.Forms.{sized}
-use Rattle.stmt65.specs.declared.directive.Directive.{Directive}
-use Rattle.stmt65.specs.Directives.{directive_text, directive_named}
-use Rattle.stmt65.specs.Parts.{Part, Word, Number, Text, Define, Mark}
-use Rattle.stmt65.specs.Names.{same, is_name}
-use Rattle.stmt65.specs.Reading.{is_mark, is_define, is_word_here, is_number_here, number_in, ◌>>=◌, less_one, named_at, next_value, whole, tail_at, inner_at, immediate_of, form_of, joined, list_of, word_datum, mark_datum, next_datum, text_in, data_of, segment_of, values_of, set_cpu_of, instruction_of, further_at, other_at, operation_at, operation_of, constant_of, line_at, reading_of}
-use Rattle.stmt65.specs.Spelling.{Item, word, mark, define, name, number, string, quoted_name, value, data_list, value_list, IsPlus, IsValue, IsDatum, prefix_items, IsList, IsItem, Spells, form_items, operation_items, IsSpelling}
+use Rattle.stmt65.specs.Words.{AddressSize, Automatic, Data, Define, Direct, DirectX, DirectY, Directive, Form, Immediate, Instr, IsDatum, IsItem, IsList, IsPlus, IsSpelling, IsValue, Item, Listing, Mark, Number, One, Operation, Part, Plain, SetCpu, Spells, Text, Two, Value, Values, Word, constant_of, data_list, data_of, define, directive_named, directive_text, form_items, further_at, immediate_of, inner_at, is_absolute, is_define, is_mark, is_name, is_number_here, is_word_here, joined, less_one, line_at, list_of, mark, mark_datum, name, named_at, next_datum, next_value, number, number_in, operation_at, operation_items, other_at, prefix_items, quoted_name, reading_of, same, segment_of, set_cpu_of, sized, string, tail_at, text_in, value, value_list, values_of, whole, word, word_datum, ◌>>=◌}
+use Rattle.stmt65.specs.declared.source_line.AddressSize.TheVariants.{Absolute}
+use Rattle.stmt65.specs.Reading.{form_of, instruction_of, operation_of}
 use Rattle.stmt65.proofs.Cases.{by_test, by_option, by_list, mark_is, define_is, word_is, number_is, number_here_is, mnemonic_is, directive_is}
 
 -- ps begins with parts of which Is holds, and then come the parts rest

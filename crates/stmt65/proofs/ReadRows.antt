@@ -2,23 +2,14 @@
 use Rattle.std.proofs.Common.{◌≡◌, ℕ, List, [], ◌∷◌, ◌++◌, Option, Some, None, refl}
 use Rattle.std.specs.Prelude.{codes, is_some, map, replicate}
 use Rattle.std.specs.List.{filter}
-use Rattle.isa65.specs.Mnemonic.{mnemonic_named}
-use Rattle.isa65.specs.declared.mnemonic.Mnemonic.{Mnemonic}
-use Rattle.isa65.specs.declared.mnemonic.Mnemonic.TheVariants.{Asl, Bbr0, Bne, Cmp, Inc, Jmp, Lda, Ldx, Nop, Ror, Rts}
-use Rattle.isa65.specs.declared.row.Pattern.TheVariants.{Immediate, Direct, Indirect, IndirectX, IndirectY}
+use Rattle.isa65.specs.Words.{mnemonic_named}
+use Rattle.stmt65.specs.Words.{AbsoluteX, AbsoluteY, Accumulator, Addr, Asl, Assignment, Bbr0, Bne, Cmp, Code, Data, Dbyt, DifferenceValue, Direct, Dword, Empty, Form, HalfDatum, High, Immediate, Inc, Indirect, IndirectX, IndirectY, Instr, Jmp, Language, Lda, Ldx, Listing, Low, Mnemonic, NameValue, Nop, Nothing, NumberDatum, NumberValue, One, Operation, PlaceAssignment, Plain, Repair, Reserve, Ror, Rts, Segment, SetCpu, SourceLine, Statement, StringDatum, Two, Value, ValueDatum, Values, Zero, constant_of, directive_named, further_at, halved_in, immediate_of, inner_at, is_name, joined, less_one, line_at, mark_datum, named_at, next_datum, next_half, next_value, operation_at, other_at, part_at, parts, parts_after, reading_of, tail_at, text_in, word_datum}
 use Rattle.text65.specs.Names.{has_name_form, is_reserved_word}
-use Rattle.stmt65.specs.Directives.{directive_named}
-use Rattle.stmt65.specs.Lexing.{part_at, parts, parts_after}
-use Rattle.stmt65.specs.Names.{is_name}
 use Rattle.stmt65.specs.Parts.{number_of}
-use Rattle.stmt65.specs.Reading.{less_one, named_at, next_value, halved_in, next_half, tail_at, inner_at, immediate_of, form_of, joined, word_datum, mark_datum, next_datum, text_in, further_at, other_at, operation_at, operation_of, constant_of, line_at, reading_of}
-use Rattle.stmt65.specs.SourceLine.{Value, NumberValue, NameValue, DifferenceValue, Form, Empty, Accumulator, One, Two, NumberDatum, StringDatum, ValueDatum, HalfDatum, Operation, Nothing, Instr, Data, Values, Reserve, Segment, Code, SetCpu, SourceLine, Assignment, PlaceAssignment, Statement}
-use Rattle.stmt65.specs.declared.directive.Directive.TheVariants.{Word, Dbyt, Addr, Dword}
-use Rattle.stmt65.specs.declared.language.Language.{Language}
-use Rattle.stmt65.specs.declared.language.Language.TheVariants.{Listing, Repair}
-use Rattle.stmt65.specs.declared.source_line.Notation.TheVariants.{Plain, Half, Absolute, AbsoluteX, AbsoluteY}
-use Rattle.stmt65.specs.declared.source_line.Half.TheVariants.{Low, High}
-use Rattle.stmt65.specs.declared.source_line.Minus.TheVariants.{Zero, One as MinusOne}
+use Rattle.stmt65.specs.Reading.{form_of, operation_of}
+use Rattle.stmt65.specs.declared.directive.Directive.TheVariants.{Word}
+use Rattle.stmt65.specs.declared.source_line.Notation.TheVariants.{Half, Absolute}
+use Rattle.stmt65.specs.declared.source_line.Minus.TheVariants.{One as MinusOne}
 
 abbrev said : Language → List ℕ → Option SourceLine
 said language line = reading_of language (parts language line)

@@ -8,16 +8,9 @@ use Rattle.std.proofs.lemmas.List.{take-append-le, drop-append-le, length-drop}
 use Rattle.std.proofs.lemmas.Bool.Decides.{nat_tests}
 use Rattle.std.proofs.lemmas.List.Folds.{list_all-append, prefix_len-append}
 use Rattle.text65.specs.Names.{is_blank}
-use Rattle.stmt65.specs.declared.language.Language.TheVariants.{Listing}
-use Rattle.stmt65.specs.Lexing.{is_text_byte, part_at, parts, parts_after}
-use Rattle.stmt65.specs.Parts.{Part, Mark, begins_with}
-use Rattle.stmt65.specs.SourceLine.{Value, NumberValue, NameValue, DifferenceValue, Form, One, Datum, NumberDatum, StringDatum, ValueDatum, HalfDatum, Operation, Nothing, Instr, SourceLine, Assignment, PlaceAssignment, Statement}
+use Rattle.stmt65.specs.Words.{Assignment, Datum, DifferenceValue, Direct, Form, HalfDatum, Instr, IsDatum, IsItem, IsList, IsMinus, IsPlus, IsSpelling, IsValue, Item, Listing, Mark, Minus, NameValue, Nothing, NumberDatum, NumberValue, One, Operation, Part, PlaceAssignment, Plain, SourceLine, Spells, Statement, StringDatum, Value, ValueDatum, Zero, begins_with, form_items, is_text_byte, line_items, operation_items, part_at, parts, parts_after}
 use Rattle.stmt65.specs.Spelling as item
-use Rattle.stmt65.specs.Spelling.{Item, IsPlus, IsMinus, IsValue, IsDatum, IsList, IsItem, Spells, IsSpelling, form_items, operation_items, line_items}
-use Rattle.stmt65.specs.declared.source_line.Notation.TheVariants.{Plain}
-use Rattle.isa65.specs.declared.row.Pattern.TheVariants.{Direct}
-use Rattle.stmt65.specs.declared.source_line.Minus.{Minus}
-use Rattle.stmt65.specs.declared.source_line.Minus.TheVariants.{Zero, One as MinusOne}
+use Rattle.stmt65.specs.declared.source_line.Minus.TheVariants.{One as MinusOne}
 use Rattle.stmt65.proofs.Cases.{by_test}
 use Rattle.stmt65.proofs.SpacingLemmas.{taken}
 

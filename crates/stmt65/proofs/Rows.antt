@@ -1,20 +1,8 @@
 -- The definitions at lines of listings.
 use Rattle.std.proofs.Common.{◌≡◌, ℕ, Bool, true, false, List, [], ◌∷◌, ◌++◌, Option, Some, None, refl}
 use Rattle.std.specs.Prelude.{codes, decimal, map, replicate}
-use Rattle.isa65.specs.declared.cpu.Cpu.TheVariants.{M6502}
-use Rattle.isa65.specs.declared.mnemonic.Mnemonic.{Mnemonic}
-use Rattle.isa65.specs.declared.mnemonic.Mnemonic.TheVariants.{Asl, Bbr0, Bne, Jmp, Lda, Ldx, Rts, Sta}
-use Rattle.isa65.specs.declared.mode.Mode.{Mode}
-use Rattle.isa65.specs.declared.mode.Mode.TheVariants.{Imp, Acc, Imm, Zp, Zpx, Zpy, Abs, Absx, Absy, Ind, Indx, Indy, Zpind, Absindx, Rel, Zprel}
-use Rattle.stmt65.specs.declared.directive.Directive.TheVariants.{Word, Dbyt, Addr, Dword}
-use Rattle.stmt65.specs.Columns.{default_columns}
-use Rattle.stmt65.specs.Digits.{offset_text}
-use Rattle.stmt65.specs.Directives.{directive_text}
-use Rattle.stmt65.specs.Line.{filled, line_of}
-use Rattle.stmt65.specs.Operands.{operand_text}
-use Rattle.stmt65.specs.Statements.{comma_list, data_text, numbers_text}
-use Rattle.stmt65.specs.Tables.{pieces, entries, cut_text}
-use Rattle.stmt65.specs.Views.{ExprView, OperandsView, RemarksView, StatementView, TargetView}
+use Rattle.stmt65.specs.Words.{Abs, Absindx, Absx, Absy, Acc, Addr, Asl, Bbr0, Bne, Dbyt, Dword, ExprView, Imm, Imp, Ind, Indx, Indy, Jmp, Lda, Ldx, M6502, Mnemonic, Mode, OperandsView, Rel, RemarksView, Rts, Sta, StatementView, TargetView, Zp, Zpind, Zprel, Zpx, Zpy, comma_list, cut_text, data_text, default_columns, directive_text, entries, filled, line_of, numbers_text, offset_text, operand_text, pieces}
+use Rattle.stmt65.specs.declared.directive.Directive.TheVariants.{Word}
 use Rattle.stmt65.specs.Views as view
 
 -- remarks of level 0, with this label

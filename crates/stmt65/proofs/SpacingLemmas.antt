@@ -7,11 +7,7 @@ use Rattle.std.specs.Char.{is_ascii_digit, is_ascii_hexdigit}
 use Rattle.std.proofs.lemmas.Bool.{and_parts, ltb-true, eqb-true, not-true, or_parts}
 use Rattle.std.proofs.lemmas.List.{take_at, drop_at, length-append, length-drop, length-take, length-take-le, take-append-drop}
 use Rattle.text65.specs.Names.{is_blank, is_word_byte}
-use Rattle.stmt65.specs.declared.language.Language.TheVariants.{Listing}
-use Rattle.stmt65.specs.Parts.{Part, Word, Number, Text, Define, Mark, begins_with}
-use Rattle.stmt65.specs.Lexing.{is_word_start, is_text_byte, hex_len, part_at, parts}
-use Rattle.stmt65.specs.Spacing.{IsDecimal, IsHex, is_alone, IsText, IsSpacing}
-use Rattle.stmt65.specs.ReadingLaws.{TakesParts}
+use Rattle.stmt65.specs.Words.{Define, IsDecimal, IsHex, IsSpacing, IsText, Listing, Mark, Number, Part, TakesParts, Text, Word, begins_with, hex_len, is_alone, is_text_byte, is_word_start, part_at, parts}
 use Rattle.stmt65.proofs.PartLemmas.{parts_nil, parts_blank, parts_remark, parts_part}
 use Rattle.stmt65.proofs.Cases.{by_test}
 use Rattle.stmt65.proofs.Lexed.{digit_begins, digit_no_word, prefix_stop, word_begins}

@@ -2,22 +2,13 @@
 use Rattle.std.proofs.Common.{◌≡◌, ℕ, zero, suc, true, false, eqb, List, [], ◌∷◌, ◌++◌, length, ◌≤◌, Option, Some, None, refl, sym, ap, ◌∙◌, arith, inl, inr, append_assoc}
 use Rattle.std.specs.Prelude.{codes}
 use Rattle.std.proofs.lemmas.List.{append-nil, length-append}
-use Rattle.isa65.specs.Mnemonic.{text_of}
-use Rattle.stmt65.specs.declared.language.Language.TheVariants.{Listing}
-use Rattle.stmt65.specs.declared.source_line.AddressSize.{AddressSize}
-use Rattle.stmt65.specs.declared.source_line.AddressSize.TheVariants.{Absolute, Automatic}
-use Rattle.stmt65.specs.declared.source_line.Minus.{Minus}
-use Rattle.stmt65.specs.declared.source_line.Minus.TheVariants.{Zero, One as MinusOne}
+use Rattle.isa65.specs.Words.{text_of}
+use Rattle.stmt65.specs.Words.{Accumulator, AddressSize, Assignment, Automatic, Code, Data, Datum, Define, DifferenceValue, Direct, DirectX, DirectY, Directive, Empty, Form, HalfDatum, Immediate, Indirect, IndirectX, IndirectY, Instr, IsDatum, IsItem, IsList, IsMinus, IsPlus, IsSpelling, IsValue, Item, Listing, Mark, Minus, NameValue, Nothing, Number, NumberDatum, NumberValue, One, Operation, Part, PlaceAssignment, Reserve, Segment, SetCpu, SourceLine, Spells, Statement, StringDatum, Two, Value, ValueDatum, Values, Word, Zero, constant_of, data_list, data_of, define, directive_text, form_items, further_at, immediate_of, inner_at, is_absolute, is_define, is_mark, is_name, is_nil, is_word_here, joined, less_one, line_at, mark, mark_datum, name, named_at, next_datum, next_value, number, operation_at, operation_items, other_at, prefix_items, quoted_name, reading_of, same, segment_of, set_cpu_of, sized, string, tail_at, text_in, unwritten, value, value_list, values_of, whole, word, word_datum}
+use Rattle.stmt65.specs.declared.source_line.AddressSize.TheVariants.{Absolute}
+use Rattle.stmt65.specs.declared.source_line.Minus.TheVariants.{One as MinusOne}
 use Rattle.stmt65.specs.declared.source_line.Notation.TheVariants as notation
-use Rattle.isa65.specs.declared.row.Pattern.TheVariants.{Immediate, Direct, DirectX, DirectY, Indirect, IndirectX, IndirectY}
-use Rattle.stmt65.specs.Forms.{sized}
-use Rattle.stmt65.specs.SourceLine.{Value, NumberValue, NameValue, DifferenceValue, is_absolute, Form, Empty, Accumulator, One, Two, Datum, NumberDatum, StringDatum, ValueDatum, HalfDatum, Operation, Nothing, Instr, Data, Values, Reserve, Segment, Code, SetCpu, SourceLine, Assignment, PlaceAssignment, Statement}
-use Rattle.stmt65.specs.declared.directive.Directive.{Directive}
-use Rattle.stmt65.specs.Directives.{directive_text}
-use Rattle.stmt65.specs.Parts.{Part, Word, Number, Define, Mark, number_of}
-use Rattle.stmt65.specs.Names.{same, is_name}
-use Rattle.stmt65.specs.Reading.{is_mark, is_define, is_word_here, is_nil, less_one, named_at, next_value, tail_at, inner_at, immediate_of, form_of, joined, word_datum, mark_datum, next_datum, text_in, data_of, values_of, segment_of, set_cpu_of, whole, further_at, other_at, operation_at, operation_of, constant_of, line_at, reading_of}
-use Rattle.stmt65.specs.Spelling.{Item, word, mark, define, name, number, string, quoted_name, value, data_list, value_list, unwritten, IsPlus, IsMinus, IsValue, IsDatum, prefix_items, IsList, IsItem, Spells, form_items, operation_items, IsSpelling}
+use Rattle.stmt65.specs.Parts.{number_of}
+use Rattle.stmt65.specs.Reading.{form_of, operation_of}
 use Rattle.stmt65.proofs.Cases.{by_test, other, no_letter, no_dot, mnemonic_again, directive_again, no_directive, no_directives}
 
 -- ---- items in front

@@ -15,9 +15,9 @@ use Rattle.std.proofs.lemmas.Map.Lookups.{exact_unsigned}
 use Rattle.std.proofs.lemmas.Slice.Eq.{bytes_eq-Decides}
 use Rattle.std.proofs.lemmas.List.{length-map, map-append}
 use Rattle.std.proofs.Math.Seq.{take-length}
-use Rattle.stmt65.specs.Symbols.{Definition, find_name}
+use Rattle.stmt65.specs.Words.{Definition, IsIndex, definition_of, find_name, first_at, if_named, is_named, place_of}
 use Rattle.stmt65.specs.declared.assembling.symbols.Definition.{Definition as CodeDefinition}
-use Rattle.stmt65.specs.Code.SymbolViews.{definition_of, first_at, if_named, is_named, number_of, place_of, IsIndex}
+use Rattle.stmt65.specs.Code.SymbolViews.{number_of}
 use Rattle.stmt65.proofs.Cases.{by_option, by_test}
 
 -- no names in no definitions

@@ -12,20 +12,9 @@ use Rattle.std.proofs.lemmas.Bool.{and_parts, ltb-true, eqb-true, eq-eqb}
 use Rattle.std.proofs.lemmas.Bool.Decides.{nat_tests}
 use Rattle.std.proofs.lemmas.List.{append-nil, reverse-append, length-reverse, length-take-le, length-drop, map-id, take-append-drop}
 use Rattle.text65.specs.Digits.{hex_digit}
-use Rattle.stmt65.specs.declared.language.Language.TheVariants.{Listing}
-use Rattle.stmt65.specs.declared.directive.Directive.{Directive}
+use Rattle.stmt65.specs.Words.{AreBytes, BigEndian, ByteOrder, Datum, Directive, IsDatum, IsList, IsValue, Listing, LittleEndian, Number, NumberDatum, Part, StringDatum, bytes_text, comma_list, cut_text, data_text, datum_text, digits2, entries, entry_len, entry_text, entry_value, hex2, in_order, is_plain, is_text_byte, low_number, numbers_text, order_of, parts, pieces}
 use Rattle.stmt65.specs.declared.directive.Directive.TheVariants.{Word}
-use Rattle.isa65.specs.declared.byte_order.ByteOrder.{ByteOrder}
-use Rattle.isa65.specs.declared.byte_order.ByteOrder.TheVariants.{LittleEndian, BigEndian}
-use Rattle.stmt65.specs.Digits.{digits2, hex2}
-use Rattle.stmt65.specs.SourceLine.{Datum, NumberDatum, StringDatum}
-use Rattle.stmt65.specs.Parts.{Part, Number, number_of}
-use Rattle.stmt65.specs.Lexing.{is_text_byte, parts}
-use Rattle.stmt65.specs.Spelling.{IsValue, IsDatum, IsList}
-use Rattle.stmt65.specs.Printed.{entry_value}
-use Rattle.stmt65.specs.Statements.{bytes_text, comma_list, datum_text, data_text, entry_text, numbers_text}
-use Rattle.stmt65.specs.Tables.{entry_len, order_of, in_order, low_number, pieces, entries, is_plain, cut_text}
-use Rattle.stmt65.specs.Code.Widths.{AreBytes}
+use Rattle.stmt65.specs.Parts.{number_of}
 use Rattle.stmt65.proofs.Lexed.{Ends, parts_mark, parts_text, hex_is_digit, hex_value, below_16, parts_hex, parts_hex2, number_of-hex2}
 use Rattle.stmt65.proofs.PartLemmas.{parts_nil}
 use Rattle.stmt65.proofs.ReadIsSpelled.{Fronts}

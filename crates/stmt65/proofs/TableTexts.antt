@@ -3,10 +3,7 @@ use Rattle.std.proofs.Common.{◌≡◌, ℕ, ◌<◌, ◌≤◌, List, [], ◌�
 use Rattle.std.specs.List.{prefix_len, flat_map}
 use Rattle.std.proofs.lemmas.List.{append-nil, take-append-drop, length-take-le}
 use Rattle.std.proofs.lemmas.List.Sums.{prefix_len-le-length}
-use Rattle.stmt65.specs.declared.directive.Directive.{Directive}
-use Rattle.stmt65.specs.Digits.{hex2}
-use Rattle.stmt65.specs.Statements.{comma_list, data_text, datum_text, entry_text, next_text, numbers_text, quoted}
-use Rattle.stmt65.specs.Tables.{entry_len, entries, is_plain, cut_text}
+use Rattle.stmt65.specs.Words.{Directive, comma_list, cut_text, data_text, datum_text, entries, entry_len, entry_text, hex2, is_plain, next_text, numbers_text, quoted}
 use Rattle.stmt65.proofs.Cases.{by_test}
 use Rattle.stmt65.proofs.SpacingLemmas.{run_passes}
 use Rattle.stmt65.proofs.EntryLaws.{entries_none, entries_more}

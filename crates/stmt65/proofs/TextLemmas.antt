@@ -4,15 +4,8 @@ use Rattle.std.specs.Prelude.{Result, Ok, Err}
 use Rattle.std.proofs.lemmas.List.{length-replicate}
 use Rattle.std.specs.List.{All, flat_map}
 use Rattle.std.proofs.lemmas.List.Elements.{All-cons, All-head, All-tail}
-use Rattle.stmt65.specs.declared.assembling.fault.AsmFault.{AsmFault}
-use Rattle.stmt65.specs.declared.assembling.fault.AsmFaultKind.{AsmFaultKind}
-use Rattle.stmt65.specs.SourceLine.{SourceLine}
+use Rattle.stmt65.specs.Words.{AsmFault, AsmFaultKind, Definition, Entry, Fill, Fragment, IsFaultless, IsFirstFault, Line, MeansBytes, MeansFault, SourceLine, StandsAtItsBytes, State, after, bytes_of, coded, coding_len, entry_or_zero, fault_of, fragment_bytes, fragment_len, fragments_of, initial, line_bytes, lines_below, low, meaning_of, next_of, unless, with_front}
 use Rattle.stmt65.proofs.EntryLaws.{entry_bytes-length}
-use Rattle.stmt65.specs.Symbols.{Definition}
-use Rattle.stmt65.specs.Coding.{Fragment, Entry, Fill, low, entry_or_zero, fragment_len, fragment_bytes, coding_len}
-use Rattle.stmt65.specs.Coding.{State}
-use Rattle.stmt65.specs.Meaning.{initial, after, fault_of, fragments_of, next_of, bytes_of, coded, meaning_of, unless, with_front}
-use Rattle.stmt65.specs.TextLaws.{Line, lines_below, IsFaultless, IsFirstFault, line_bytes, MeansBytes, MeansFault, StandsAtItsBytes}
 
 -- ---- lengths
 

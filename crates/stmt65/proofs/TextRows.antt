@@ -2,31 +2,14 @@
 use Rattle.std.proofs.Common.{◌≡◌, ℕ, Bool, true, false, List, [], ◌∷◌, ◌++◌, Option, Some, None, refl}
 use Rattle.std.specs.Prelude.{codes, map, replicate, Ok}
 use Rattle.std.specs.List.{flat_map}
-use Rattle.isa65.specs.Cpu.{cpu_named}
-use Rattle.isa65.specs.Mnemonic.{mnemonic_named}
-use Rattle.isa65.specs.declared.mnemonic.Mnemonic.{Mnemonic}
-use Rattle.isa65.specs.declared.mnemonic.Mnemonic.TheVariants.{Bne, Jmp, Lda}
-use Rattle.isa65.specs.declared.mode.Mode.{Mode}
-use Rattle.isa65.specs.declared.mode.Mode.TheVariants.{Zp, Abs, Rel}
+use Rattle.isa65.specs.Words.{cpu_named, mnemonic_named}
+use Rattle.stmt65.specs.Words.{Abs, Bne, Columns, Dbyt, Dword, ExprView, Jmp, Lda, Mnemonic, Mode, Rel, StatementView, Zp, after, bytes_of, coded, coding, coding_len, comma_list, constant_of, cpu_after, cut_text, default_columns, defined_by, directive_named, entries, entry_in, fault_of, filled, final, find_name, fragment_bytes, fragment_fits, fragments_of, further_at, halved_in, has_no_form, has_unknown_cpu, has_zero_page_size, immediate_of, inner_at, is_known, is_name, is_out_of_range, is_past_end, is_past_start, is_twice, is_undefined, joined, less_one, line_at, line_of, mark_datum, meaning, meaning_in, meaning_of, named_at, next_datum, next_half, next_of, next_value, operand_text, operation_at, other_at, part_at, parts_after, pieces, reading_of, tail_at, text_in, value_in, ways, word_datum, word_in}
 use Rattle.text65.specs.Lines.{text_lines}
 use Rattle.text65.specs.Names.{has_name_form, is_reserved_word}
-use Rattle.stmt65.specs.Coding.{entry_in, fragment_fits, fragment_bytes, ways, coding, coding_len}
-use Rattle.stmt65.specs.Columns.{default_columns}
-use Rattle.stmt65.specs.Directives.{directive_named}
-use Rattle.stmt65.specs.Lexing.{part_at, parts_after}
-use Rattle.stmt65.specs.Line.{filled, line_of}
-use Rattle.stmt65.specs.Meaning.{fragments_of, next_of, defined_by, has_unknown_cpu, has_no_form, is_undefined, is_twice, is_out_of_range, is_past_start, is_past_end, fault_of, bytes_of, cpu_after, after, final, coded, meaning_of, meaning_in, meaning}
-use Rattle.stmt65.specs.Names.{is_name}
-use Rattle.stmt65.specs.Operands.{operand_text}
 use Rattle.stmt65.specs.Parts.{number_of}
-use Rattle.stmt65.specs.Reading.{less_one, named_at, next_value, halved_in, next_half, tail_at, inner_at, immediate_of, form_of, joined, word_datum, mark_datum, next_datum, text_in, further_at, other_at, operation_at, operation_of, constant_of, line_at, reading_of}
-use Rattle.stmt65.specs.Statements.{comma_list}
-use Rattle.stmt65.specs.Symbols.{find_name, value_in, is_known, word_in, has_zero_page_size}
-use Rattle.stmt65.specs.Tables.{pieces, entries, cut_text}
-use Rattle.stmt65.specs.Views.{ExprView, StatementView}
+use Rattle.stmt65.specs.Reading.{form_of, operation_of}
 use Rattle.stmt65.specs.Views as view
-use Rattle.stmt65.specs.declared.directive.Directive.TheVariants.{Word, Dbyt, Dword}
-use Rattle.stmt65.specs.declared.printing.columns.Columns.{Columns}
+use Rattle.stmt65.specs.declared.directive.Directive.TheVariants.{Word}
 
 -- a statement, perhaps with a label before it
 record Labelled : Type 0 where

@@ -1,7 +1,7 @@
 -- The bytes of a slice have 8 bits.
 use Rattle.std.proofs.Common.{ℕ, suc, ◌<◌, List, [], ◌∷◌, get_or, refl}
 use Rattle.std.proofs.lemmas.Bool.{lt-ltb}
-use Rattle.stmt65.specs.Code.Widths.{AreBytes}
+use Rattle.stmt65.specs.Words.{AreBytes}
 
 pub each_in_width : (xs : List ℕ) → ((i : ℕ) → get_or xs i 0 < 256) → AreBytes xs
 each_in_width [] h = refl

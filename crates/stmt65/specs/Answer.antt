@@ -1,8 +1,7 @@
 -- What `assemble` returns.
 use Rattle.std.specs.Prelude.{◌≡◌, ◌⊎◌, ℕ, List, Result, Ok, Err}
 use Rattle.std.specs.declared.vec.Vec.{Vec}
-use Rattle.stmt65.specs.declared.assembling.fault.AsmFault.{AsmFault}
-use Rattle.stmt65.specs.declared.assembling.fault.AsmFaultKind.TheVariants.{Memory}
+use Rattle.stmt65.specs.Types.{AsmFault, Memory}
 
 -- if memory was refused
 abbrev pub out_of_memory : AsmFault

@@ -7,23 +7,15 @@
 -- printing of a statement, so that the law of reassembly compares two readings.
 use Rattle.std.specs.Prelude.{ℕ, ◌+◌, ◌-◌, ◌/◌, ◌%◌, Bool, true, false, ◌&&◌, List, [], ◌∷◌, length, map, replicate, nat_le, nat_lt, if◌then◌else◌, Option, Some, None, is_some, unwrap_or}
 use Rattle.std.specs.List.{flat_map}
-use Rattle.isa65.specs.declared.cpu.Cpu.{Cpu}
-use Rattle.isa65.specs.declared.mnemonic.Mnemonic.{Mnemonic}
-use Rattle.isa65.specs.declared.mode.Mode.{Mode}
-use Rattle.isa65.specs.declared.mode.Mode.TheVariants.{Imp, Acc, Imm, Zp, Zpx, Zpy, Abs, Absx, Absy, Ind, Indx, Indy, Zpind, Absindx, Rel, Zprel}
-use Rattle.isa65.specs.Cpu.{table_of}
-use Rattle.isa65.specs.Opcodes.{encoded}
-use Rattle.isa65.specs.declared.row.OperandKind.{OperandKind}
+use Rattle.stmt65.specs.Types.{Abs, Absindx, Absx, Absy, Acc, Addr, Cpu, Dbyt, Directive, Dword, High, Imm, Imp, Ind, Indx, Indy, Low, Mnemonic, Mode, Notation, OperandKind, Rel, Zp, Zpind, Zprel, Zpx, Zpy}
+use Rattle.isa65.specs.Words.{encoded, table_of}
 use Rattle.isa65.specs.declared.row.OperandKind.TheVariants as kind
 use Rattle.isa65.specs.declared.row.Pattern.TheVariants as pattern
 use Rattle.stmt65.specs.SourceLine.{Value, NumberValue, Form, Empty, Accumulator, One, Two, Datum, NumberDatum, StringDatum, ValueDatum, HalfDatum, Operation, Nothing, Instr, Data, Values, Reserve, Segment, Code, SetCpu}
 use Rattle.stmt65.specs.declared.source_line.Half.{Half}
-use Rattle.stmt65.specs.declared.source_line.Half.TheVariants.{Low, High}
 use Rattle.stmt65.specs.Layout.{Layout, start_of}
-use Rattle.stmt65.specs.declared.source_line.Notation.{Notation}
 use Rattle.stmt65.specs.declared.source_line.Notation.TheVariants as notation
-use Rattle.stmt65.specs.declared.directive.Directive.{Directive}
-use Rattle.stmt65.specs.declared.directive.Directive.TheVariants.{Word, Dbyt, Addr, Dword}
+use Rattle.stmt65.specs.declared.directive.Directive.TheVariants.{Word}
 use Rattle.stmt65.specs.Symbols.{Definition, value_in, is_known, below, word_in, byte_in, has_zero_page_size}
 
 -- ---- numbers

@@ -1,6 +1,6 @@
 -- The definitions that a text gives.
 use Rattle.std.specs.Prelude.{ℕ, List}
-use Rattle.stmt65.specs.declared.language.Language.{Language}
+use Rattle.stmt65.specs.Types.{Language}
 use Rattle.stmt65.specs.Layout.{Layout}
 use Rattle.stmt65.specs.Symbols.{Definition}
 use Rattle.stmt65.specs.Meaning.{final, initial, readings}

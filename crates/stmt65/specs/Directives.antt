@@ -1,9 +1,8 @@
 -- The directives that give numbers, and their words. How a table of them is printed stands in `Tables`, what they code in `Coding`.
 use Rattle.std.specs.Prelude.{ℕ, List, codes, Option}
 use Rattle.std.specs.List.{find}
-use Rattle.stmt65.specs.declared.directive.Directive.{Directive}
-use Rattle.stmt65.specs.declared.directive.Directive.TheVariants.{Word, Dbyt, Addr, Dword}
-use Rattle.stmt65.specs.declared.directive.TheConstants.{ALL}
+use Rattle.stmt65.specs.Types.{ALL, Addr, Dbyt, Directive, Dword}
+use Rattle.stmt65.specs.declared.directive.Directive.TheVariants.{Word}
 use Rattle.stmt65.specs.Names.{same}
 
 -- what is written

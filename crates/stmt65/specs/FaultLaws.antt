@@ -1,10 +1,8 @@
 -- When a line has a fault of a kind, one rule a kind; of several faults of a line the one of the lowest kind counts.
 use Rattle.std.specs.Prelude.{◌≡◌, ◌↔◌, ◌⊎◌, ℕ, ◌+◌, ◌<◌, ◌≤◌, List, [], ◌∷◌, Option, Some, None, IsSome}
 use Rattle.std.specs.List.{Any, flat_map}
-use Rattle.isa65.specs.Cpu.{cpu_named}
-use Rattle.isa65.specs.declared.cpu.Cpu.{Cpu}
-use Rattle.stmt65.specs.declared.assembling.fault.AsmFaultKind.{AsmFaultKind}
-use Rattle.stmt65.specs.declared.assembling.fault.AsmFaultKind.TheVariants.{Syntax, UnknownCpu, NoSuchForm, Undefined, DefinedTwice, OutOfRange, PastStart, PastEnd, Memory}
+use Rattle.isa65.specs.Words.{cpu_named}
+use Rattle.stmt65.specs.Types.{AsmFaultKind, Cpu, DefinedTwice, Memory, NoSuchForm, OutOfRange, PastEnd, PastStart, Syntax, Undefined, UnknownCpu}
 use Rattle.stmt65.specs.SourceLine.{Value, NumberValue, NameValue, DifferenceValue, Datum, ValueDatum, HalfDatum, Operation, Instr, Data, Values, Segment, SetCpu, SourceLine}
 use Rattle.stmt65.specs.Symbols.{Definition, find_name, value_in}
 use Rattle.stmt65.specs.Coding.{entry_limit, Fragment, Fixed, Single, ZeroPage, Oversized, Entry, Distance, HalfOf, Fill, State}

@@ -1,12 +1,9 @@
 -- The written forms of an operand, each as a pattern: E stands for an expression, every other character for itself.
 use Rattle.std.specs.Prelude.{ℕ, Bool, true, false, List, [], ◌∷◌, codes}
-use Rattle.isa65.specs.Mode.{pattern_text}
-use Rattle.isa65.specs.declared.row.Pattern.{Pattern}
-use Rattle.isa65.specs.declared.row.Pattern.TheVariants.{Immediate, Direct, DirectX, DirectY}
-use Rattle.stmt65.specs.declared.source_line.AddressSize.{AddressSize}
+use Rattle.isa65.specs.Words.{pattern_text}
+use Rattle.stmt65.specs.Types.{AbsoluteX, AbsoluteY, AddressSize, Direct, DirectX, DirectY, Immediate, Notation, Pattern, Plain}
 use Rattle.stmt65.specs.declared.source_line.AddressSize.TheVariants as size
-use Rattle.stmt65.specs.declared.source_line.Notation.{Notation}
-use Rattle.stmt65.specs.declared.source_line.Notation.TheVariants.{Plain, Half, Absolute, AbsoluteX, AbsoluteY}
+use Rattle.stmt65.specs.declared.source_line.Notation.TheVariants.{Half, Absolute}
 use Rattle.stmt65.specs.SourceLine.{Value, Form, Empty, Accumulator, One, Two}
 
 -- the pattern of a notation, without `a:` and without the `<` or `>` of a half

@@ -3,7 +3,7 @@
 use Rattle.std.specs.Prelude.{ℕ, ◌&&◌, List, [], ◌∷◌, ◌++◌, codes, map, nat_lt, if◌then◌else◌}
 use Rattle.std.specs.List.{flat_map}
 use Rattle.text65.specs.Digits.{digits4}
-use Rattle.stmt65.specs.declared.printing.columns.Columns.{Columns}
+use Rattle.stmt65.specs.Types.{Columns}
 use Rattle.stmt65.specs.Digits.{digits2}
 use Rattle.stmt65.specs.Statements.{Field, has_bytes}
 use Rattle.stmt65.specs.Views.{StatementView, RemarksView}

@@ -8,8 +8,7 @@ use Rattle.std.specs.List.{prefix_len}
 use Rattle.std.specs.Char.{is_ascii_digit, is_ascii_hexdigit, is_ascii_alphabetic}
 use Rattle.text65.specs.Names.{is_blank, is_word_byte}
 use Rattle.stmt65.specs.Signs.{quote, dollar, percent, apostrophe, dot, colon, semicolon, equals, underscore}
-use Rattle.stmt65.specs.declared.language.Language.{Language}
-use Rattle.stmt65.specs.declared.language.Language.TheVariants.{Listing, Repair}
+use Rattle.stmt65.specs.Types.{Language, Listing, Repair}
 use Rattle.stmt65.specs.Parts.{Part, Word, Number, Text, Define, Mark, begins_with}
 
 -- a letter, `_` or `.`

@@ -33,3 +33,5 @@ pub mod ModeLaws
 pub mod FaultLaws
 pub mod Sources
 pub mod Code
+pub mod Types
+pub mod Words

@@ -1,6 +1,6 @@
 -- Numbers that keep the limits of their type.
 use Rattle.std.specs.Prelude.{◌≡◌, ℕ, ◌≤◌, Result, MatchResult}
-use Rattle.stmt65.specs.declared.printing.columns.LimitError.{LimitError}
+use Rattle.stmt65.specs.Types.{LimitError}
 
 -- the number becomes a value exactly when it is within the limits; else the error holds it
 abbrev pub ConvertsWithin : ℕ → ℕ → ℕ → Result ℕ LimitError → Type 0

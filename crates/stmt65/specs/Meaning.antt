@@ -5,20 +5,14 @@
 -- of tests, the lowest kind first; the first that holds counts.
 use Rattle.std.specs.Prelude.{ℕ, ◌+◌, Bool, true, false, ◌||◌, not, List, [], ◌∷◌, ◌++◌, map, nat_lt, if◌then◌else◌, Option, Some, None, is_some, unwrap_or, Result, Ok, Err}
 use Rattle.std.specs.List.{list_any, list_all, flat_map}
-use Rattle.isa65.specs.declared.cpu.Cpu.{Cpu}
-use Rattle.isa65.specs.declared.cpu.Cpu.TheVariants.{M6502}
-use Rattle.stmt65.specs.declared.assembling.fault.AsmFault.{AsmFault}
-use Rattle.stmt65.specs.declared.assembling.fault.AsmFaultKind.{AsmFaultKind}
-use Rattle.stmt65.specs.declared.assembling.fault.AsmFaultKind.TheVariants.{Syntax, UnknownCpu, NoSuchForm, Undefined, DefinedTwice, OutOfRange, PastStart, PastEnd}
+use Rattle.stmt65.specs.Types.{AsmFault, AsmFaultKind, Cpu, DefinedTwice, Language, Listing, M6502, NoSuchForm, OutOfRange, PastEnd, PastStart, Syntax, Undefined, UnknownCpu}
 use Rattle.stmt65.specs.SourceLine.{Operation, Nothing, Segment, SetCpu, SourceLine, Assignment, PlaceAssignment, Statement}
 use Rattle.text65.specs.Lines.{text_lines}
 use Rattle.stmt65.specs.Lexing.{parts}
 use Rattle.stmt65.specs.Reading.{reading_of}
 use Rattle.stmt65.specs.Symbols.{Definition, find_name}
-use Rattle.isa65.specs.Cpu.{cpu_named}
+use Rattle.isa65.specs.Words.{cpu_named}
 use Rattle.stmt65.specs.Layout.{Layout, free, start_of, is_before}
-use Rattle.stmt65.specs.declared.language.Language.{Language}
-use Rattle.stmt65.specs.declared.language.Language.TheVariants.{Listing}
 use Rattle.stmt65.specs.Coding.{State, Fragment, fragment_fits, fragment_bytes, is_fragment_known, coding, coding_len}
 
 -- ---- a line in its state

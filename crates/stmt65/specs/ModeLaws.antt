@@ -4,19 +4,12 @@
 use Rattle.std.specs.Prelude.{◌≡◌, ◌↔◌, ℕ, suc, Bool, true, false, List, [], ◌∷◌, Some, None, IsSome}
 use Rattle.std.specs.List.{list_any}
 use denote.Enum.Bare.{sameb}
-use Rattle.isa65.specs.declared.cpu.Cpu.{Cpu}
-use Rattle.isa65.specs.declared.mnemonic.Mnemonic.{Mnemonic}
-use Rattle.isa65.specs.declared.mode.Mode.{Mode}
-use Rattle.isa65.specs.declared.row.Row.{Row}
+use Rattle.stmt65.specs.Types.{Cpu, Direct, Mnemonic, Mode, Plain, Row}
 use Rattle.isa65.specs.declared.row.Row.TheVariants as row
-use Rattle.isa65.specs.Cpu.{table_of}
-use Rattle.isa65.specs.Mode.{len_of, row_of, written, zero_page_of, IsZeroPageOf}
+use Rattle.isa65.specs.Words.{IsZeroPageOf, encoded, len_of, row_of, table_of, written, zero_page_of}
 use Rattle.isa65.specs.contracts.mode.Mode as mode
-use Rattle.isa65.specs.Opcodes.{encoded}
 use Rattle.stmt65.specs.Forms.{form_text, has_prefix}
 use Rattle.stmt65.specs.SourceLine.{Form, One, Two, Instr}
-use Rattle.stmt65.specs.declared.source_line.Notation.TheVariants.{Plain}
-use Rattle.isa65.specs.declared.row.Pattern.TheVariants.{Direct}
 use Rattle.stmt65.specs.Symbols.{Definition}
 use Rattle.stmt65.specs.Coding.{Fragment, Fixed, State, is_short, kind_fragment, Way, ways, coding, coding_len}
 

@@ -1,15 +1,11 @@
 -- What a caller of `put_line` keeps: the limits within which a line has at most 512 bytes and reads as its statement.
 use Rattle.std.specs.Prelude.{◌≡◌, ℕ, ◌%◌, ◌<◌, ◌≤◌, Bool, true, not, List, length, ◌==◌, Option, Some, None, IsSome}
 use Rattle.std.specs.List.{list_all}
-use Rattle.isa65.specs.Mode.{row_of, zero_page_of}
-use Rattle.isa65.specs.declared.mode.Mode.{Mode}
-use Rattle.isa65.specs.declared.row.OperandKind.{OperandKind}
-use Rattle.isa65.specs.declared.row.OperandKind.TheVariants.{Byte, ZeroPage, Word, Distance}
-use Rattle.isa65.specs.declared.row.Row.{Row}
-use Rattle.isa65.specs.declared.row.Row.TheVariants.{Implied, Accumulator, One, Two}
-use Rattle.stmt65.specs.declared.printing.columns.Columns.{Columns}
+use Rattle.isa65.specs.Words.{row_of, zero_page_of}
+use Rattle.stmt65.specs.Types.{Byte, Columns, Directive, Implied, Mode, OperandKind, Row}
+use Rattle.isa65.specs.declared.row.OperandKind.TheVariants.{ZeroPage, Word, Distance}
+use Rattle.isa65.specs.declared.row.Row.TheVariants.{Accumulator, One, Two}
 use Rattle.stmt65.specs.Columns.{fits_label}
-use Rattle.stmt65.specs.declared.directive.Directive.{Directive}
 use Rattle.stmt65.specs.Tables.{entry_len}
 use Rattle.stmt65.specs.Statements.{has_bytes}
 use Rattle.stmt65.specs.Views.{ExprView, OperandsView, StatementView}

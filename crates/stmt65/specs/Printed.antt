@@ -1,20 +1,15 @@
 -- What the line of a statement says when it is read.
 use Rattle.std.specs.Prelude.{◌≡◌, ℕ, Bool, true, false, not, List, [], ◌∷◌, ◌++◌, map, Option, Some, None, ◌==◌}
 use Rattle.std.specs.List.{list_all}
-use Rattle.isa65.specs.Cpu.{cpu_text}
-use Rattle.isa65.specs.Mode.{row_of}
-use Rattle.isa65.specs.declared.mode.Mode.{Mode}
-use Rattle.isa65.specs.declared.row.Row.{Row}
+use Rattle.isa65.specs.Words.{cpu_text, row_of}
+use Rattle.stmt65.specs.Types.{Addr, AddressSize, Automatic, Directive, Listing, Mode, Row, Zero}
 use Rattle.isa65.specs.declared.row.Row.TheVariants as row
 use Rattle.text65.specs.Names.{has_name_form}
-use Rattle.stmt65.specs.declared.language.Language.TheVariants.{Listing}
 use Rattle.stmt65.specs.Forms.{sized}
 use Rattle.stmt65.specs.SourceLine.{Value, NumberValue, NameValue, Form, Empty, Accumulator, One, Two, NumberDatum, Nothing, Instr, Data, Values, Segment, Code, SetCpu, SourceLine, Assignment, PlaceAssignment, Statement}
-use Rattle.stmt65.specs.declared.directive.Directive.{Directive}
-use Rattle.stmt65.specs.declared.directive.Directive.TheVariants.{Word, Addr}
-use Rattle.stmt65.specs.declared.source_line.AddressSize.{AddressSize}
-use Rattle.stmt65.specs.declared.source_line.AddressSize.TheVariants.{Absolute, Automatic}
-use Rattle.stmt65.specs.declared.source_line.Minus.TheVariants.{Zero, One as MinusOne}
+use Rattle.stmt65.specs.declared.directive.Directive.TheVariants.{Word}
+use Rattle.stmt65.specs.declared.source_line.AddressSize.TheVariants.{Absolute}
+use Rattle.stmt65.specs.declared.source_line.Minus.TheVariants.{One as MinusOne}
 use Rattle.stmt65.specs.Tables.{entries, entry_number, cut_text}
 use Rattle.stmt65.specs.Names.{is_name}
 use Rattle.stmt65.specs.Lexing.{parts}

@@ -3,25 +3,18 @@
 -- A line of a repair can say all that one of a listing can, and more: each row that has more asks for the language.
 use Rattle.std.specs.Prelude.{ℕ, zero, suc, Bool, true, false, List, [], ◌∷◌, length, drop, codes, ◌==◌, if◌then◌else◌, Option, Some, None, option_and_then}
 use Rattle.std.specs.Str.{bytes_eq}
-use Rattle.isa65.specs.Mnemonic.{mnemonic_named}
-use Rattle.isa65.specs.declared.mnemonic.Mnemonic.{Mnemonic}
-use Rattle.isa65.specs.declared.mnemonic.Mnemonic.TheVariants.{Asl, Lsr, Rol, Ror, Inc, Dec}
+use Rattle.isa65.specs.Words.{mnemonic_named}
+use Rattle.stmt65.specs.Types.{AddressSize, Asl, Automatic, Dec, Direct, DirectX, DirectY, Directive, High, Immediate, Inc, Indirect, IndirectX, IndirectY, Language, Listing, Low, Lsr, Mnemonic, Repair, Rol, Ror, Zero}
 use Rattle.text65.specs.Names.{has_name_form}
 use Rattle.stmt65.specs.Signs.{hash, left_paren, right_paren, star, plus, comma, minus, colon, less, equals, greater}
-use Rattle.stmt65.specs.declared.language.Language.{Language}
-use Rattle.stmt65.specs.declared.language.Language.TheVariants.{Listing, Repair}
-use Rattle.isa65.specs.declared.row.Pattern.TheVariants.{Immediate, Direct, DirectX, DirectY, Indirect, IndirectX, IndirectY}
 use Rattle.stmt65.specs.Forms.{sized}
 use Rattle.stmt65.specs.SourceLine.{is_absolute, Value, NumberValue, NameValue, DifferenceValue, Form, Empty, Accumulator, One, Two, Datum, NumberDatum, StringDatum, ValueDatum, HalfDatum, Operation, Nothing, Instr, Data, Values, Reserve, Segment, Code, SetCpu, SourceLine, Assignment, PlaceAssignment, Statement}
-use Rattle.stmt65.specs.declared.source_line.AddressSize.{AddressSize}
-use Rattle.stmt65.specs.declared.source_line.AddressSize.TheVariants.{Absolute, Automatic}
+use Rattle.stmt65.specs.declared.source_line.AddressSize.TheVariants.{Absolute}
 use Rattle.stmt65.specs.declared.source_line.Half.{Half}
-use Rattle.stmt65.specs.declared.source_line.Half.TheVariants.{Low, High}
-use Rattle.stmt65.specs.declared.source_line.Minus.TheVariants.{Zero, One as MinusOne}
+use Rattle.stmt65.specs.declared.source_line.Minus.TheVariants.{One as MinusOne}
 use Rattle.stmt65.specs.declared.source_line.Notation.TheVariants as notation
 use Rattle.stmt65.specs.Parts.{Part, Word, Number, Text, Define, Mark, number_of}
 use Rattle.stmt65.specs.Names.{same, is_name}
-use Rattle.stmt65.specs.declared.directive.Directive.{Directive}
 use Rattle.stmt65.specs.Directives.{directive_named}
 
 infixl 10 ◌>>=◌

@@ -4,13 +4,9 @@
 -- expression is a number, a name with what is added to it, or a difference of two names. An operand after `#` and a datum of `.byte`
 -- may be half of an expression.
 use Rattle.std.specs.Prelude.{ℕ, Bool, true, false, List, Option}
-use Rattle.isa65.specs.declared.mnemonic.Mnemonic.{Mnemonic}
-use Rattle.stmt65.specs.declared.directive.Directive.{Directive}
-use Rattle.stmt65.specs.declared.source_line.AddressSize.{AddressSize}
-use Rattle.stmt65.specs.declared.source_line.AddressSize.TheVariants.{Absolute, Automatic}
+use Rattle.stmt65.specs.Types.{AddressSize, Automatic, Directive, Minus, Mnemonic, Notation}
+use Rattle.stmt65.specs.declared.source_line.AddressSize.TheVariants.{Absolute}
 use Rattle.stmt65.specs.declared.source_line.Half.{Half}
-use Rattle.stmt65.specs.declared.source_line.Minus.{Minus}
-use Rattle.stmt65.specs.declared.source_line.Notation.{Notation}
 
 -- whether `a:` stands before an expression
 abbrev pub is_absolute : AddressSize → Bool

@@ -1,7 +1,7 @@
 -- What the definitions of a text are for a source: a text, its language, and where it and its segments begin.
 use Rattle.std.specs.Prelude.{ℕ, List, Option, Result}
 use Rattle.stmt65.specs.declared.assembling.assembler.Source.{Source}
-use Rattle.stmt65.specs.declared.assembling.fault.AsmFault.{AsmFault}
+use Rattle.stmt65.specs.Types.{AsmFault}
 use Rattle.stmt65.specs.Coding.{State}
 use Rattle.stmt65.specs.Definitions.{definitions_of}
 use Rattle.stmt65.specs.LineAddresses.{line_addresses}

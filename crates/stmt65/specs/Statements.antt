@@ -6,13 +6,8 @@
 -- column 1.
 use Rattle.std.specs.Prelude.{ℕ, Bool, true, false, List, [], ◌∷◌, ◌++◌, reverse, codes, decimal, if◌then◌else◌, Option, Some, None}
 use Rattle.std.specs.List.{flat_map}
-use Rattle.isa65.specs.declared.mode.Mode.{Mode}
-use Rattle.isa65.specs.declared.mode.Mode.TheVariants.{Imp}
-use Rattle.isa65.specs.declared.op.Op.{Op}
-use Rattle.isa65.specs.Cpu.{cpu_text}
-use Rattle.isa65.specs.Mnemonic.{text_of}
-use Rattle.stmt65.specs.declared.directive.Directive.{Directive}
-use Rattle.stmt65.specs.declared.printing.columns.Columns.{Columns}
+use Rattle.stmt65.specs.Types.{Columns, Directive, Imp, Mode, Op}
+use Rattle.isa65.specs.Words.{cpu_text, text_of}
 use Rattle.stmt65.specs.Directives.{directive_text}
 use Rattle.stmt65.specs.Digits.{digits2, hex2, hex4}
 use Rattle.stmt65.specs.Operands.{named_text, operand_text}

@@ -6,8 +6,8 @@
 -- no `a:` stands before it, and each name in it is defined as `name := number` on an earlier line.
 use Rattle.std.specs.Prelude.{ℕ, ◌+◌, ◌-◌, Bool, true, false, ◌&&◌, List, [], ◌∷◌, nat_le, nat_lt, ◌==◌, if◌then◌else◌, Option, Some, None, is_some, option_and_then}
 use Rattle.std.specs.Str.{bytes_eq}
-use Rattle.stmt65.specs.declared.source_line.Minus.{Minus}
-use Rattle.stmt65.specs.declared.source_line.Minus.TheVariants.{Zero, One}
+use Rattle.stmt65.specs.Types.{Minus, Zero}
+use Rattle.stmt65.specs.declared.source_line.Minus.TheVariants.{One}
 use Rattle.stmt65.specs.SourceLine.{Value, NumberValue, NameValue, DifferenceValue}
 
 -- a name, its value, and whether a line `name := number` gives it

@@ -1,10 +1,8 @@
 -- How the bytes of a table are printed: as numbers, or as text with single bytes between. What a directive codes says `Coding`.
 use Rattle.std.specs.Prelude.{ℕ, zero, suc, ◌+◌, ◌*◌, ◌/◌, Bool, ◌&&◌, not, List, [], ◌∷◌, length, reverse, take, drop, nat_lt, ◌==◌, if◌then◌else◌}
 use Rattle.stmt65.specs.SourceLine.{Datum, NumberDatum, StringDatum}
-use Rattle.stmt65.specs.declared.directive.Directive.{Directive}
-use Rattle.stmt65.specs.declared.directive.Directive.TheVariants.{Word, Dbyt, Addr, Dword}
-use Rattle.isa65.specs.declared.byte_order.ByteOrder.{ByteOrder}
-use Rattle.isa65.specs.declared.byte_order.ByteOrder.TheVariants.{LittleEndian, BigEndian}
+use Rattle.stmt65.specs.Types.{Addr, BigEndian, ByteOrder, Dbyt, Directive, Dword, LittleEndian}
+use Rattle.stmt65.specs.declared.directive.Directive.TheVariants.{Word}
 
 -- ---- numbers
 

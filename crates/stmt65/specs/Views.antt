@@ -1,8 +1,6 @@
 -- A statement as the rules speak of it: its texts are lists of bytes.
 use Rattle.std.specs.Prelude.{ℕ, Bool, List, Option}
-use Rattle.isa65.specs.declared.cpu.Cpu.{Cpu}
-use Rattle.isa65.specs.declared.op.Op.{Op}
-use Rattle.stmt65.specs.declared.directive.Directive.{Directive}
+use Rattle.stmt65.specs.Types.{Cpu, Directive, Op}
 
 -- a number; or a name, and what is added to its value
 pub data ExprView : Type 0 where

@@ -5,7 +5,7 @@ use Rattle.std.specs.Str.{str_eq_ignore_ascii_case, str_to_ascii_lowercase}
 use Rattle.std.proofs.lemmas.Bool.{false_from_ne_true}
 use Rattle.std.proofs.lemmas.List.{length-map}
 use Rattle.std.proofs.lemmas.Slice.Eq.{bytes_eq-Decides}
-use Rattle.isa65.specs.Mnemonic.{mnemonic_named}
+use Rattle.isa65.specs.Words.{mnemonic_named}
 use Rattle.isa65.proofs.MnemonicLaws.{mnemonic_len, mnemonic_named-is}
 use Rattle.isa65.specs.declared.mnemonic.Mnemonic.{Mnemonic}
 use Rattle.text65.specs.Names.{is_reserved_word}

@@ -2,7 +2,7 @@
 use Rattle.std.proofs.Common.{◌≡◌, ℕ, zero, suc, true, false, List, [], ◌∷◌, ◌++◌, refl}
 use Rattle.std.specs.Prelude.{codes, map}
 use Rattle.std.specs.List.{filter}
-use Rattle.isa65.specs.Mnemonic.{mnemonic_named}
+use Rattle.isa65.specs.Words.{mnemonic_named}
 use Rattle.text65.specs.Digits.{digits4, hex_digit}
 use Rattle.text65.specs.Lines.{text_lines}
 use Rattle.text65.specs.Names.{has_name_form, is_blank, is_reserved_word, is_word_byte}

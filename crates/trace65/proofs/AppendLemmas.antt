@@ -4,7 +4,7 @@ use Rattle.std.specs.Prelude.{Result, Ok, Err, OnOk, is_ok, if◌then◌else◌}
 use Rattle.std.specs.List.{flat_map}
 use Rattle.std.proofs.lemmas.Grind.{flat_map-append}
 use Rattle.std.proofs.lemmas.List.{append-nil}
-use Rattle.reach65.specs.TextLaws.{comment_line}
+use Rattle.reach65.specs.Words.{comment_line}
 
 -- what is appended, if it is
 pub appended : {E : Type 0} (r : Result (Unit {0}) E) (now more old : List ℕ) → now ≡ (if is_ok r then more else old) → OnOk r (now ≡ more)

@@ -1,9 +1,8 @@
 -- The command is one of which `clap` says its matches and faults.
 use Rattle.std.proofs.Common.{refl}
 use Rattle.clap.proofs.OnLiterals.{clap_on_literals}
-use Rattle.usage65.specs.Command.{command_of}
-use Rattle.usage65.specs.Values.{IsPlain}
-use Rattle.trace65.specs.Command.{app}
+use Rattle.usage65.specs.Words.{IsPlain, command_of}
+use Rattle.trace65.specs.Words.{app}
 
 pub app_is_plain : IsPlain app
 unfolding clap_on_literals command_of

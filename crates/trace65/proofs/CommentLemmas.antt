@@ -12,18 +12,10 @@ use Rattle.std.proofs.lemmas.Str.Parse.{digit_from_value}
 use Rattle.text65.specs.Digits.{hex_digit}
 use Rattle.text65.specs.Names.{has_name_form, is_word_byte}
 use Rattle.info65.proofs.Public.{last_name}
-use Rattle.info65.specs.Names.{AreNames, blank_name, covering, name_at}
-use Rattle.info65.specs.Views.{NameView}
-use Rattle.info65.specs.declared.information.range.RangeSpec.{RangeSpec}
-use Rattle.info65.specs.declared.tags.tag.Tag.{Tag}
-use Rattle.trace65.specs.Said.{has_after}
-use Rattle.map65.specs.ImageView.{ImageView, end_of, is_inside}
-use Rattle.map65.specs.MapView.{MapView}
-use Rattle.reach65.specs.TextLaws.{AreLines, is_line}
-use Rattle.reach65.specs.declared.pairs.Pair.{Pair}
-use Rattle.trace65.specs.Misplaced.{entry_comments, holder_of, inside_comment, inside_comments, is_outside, misplaced_comments, outside_comment, range_comment, range_comments}
-use Rattle.trace65.specs.PairComments.{after_comments, name_text, new_after, offset_text, pair_comment, pair_comments}
-use Rattle.trace65.specs.Picture.{cell_character, counts_comment, part, picture_comments, row_at, row_comment}
+use Rattle.info65.specs.Words.{AreNames, NameView, blank_name, covering, name_at}
+use Rattle.trace65.specs.Words.{Pair, RangeSpec, Tag, after_comments, cell_character, counts_comment, entry_comments, has_after, holder_of, inside_comment, inside_comments, is_outside, misplaced_comments, name_text, new_after, offset_text, outside_comment, pair_comment, pair_comments, part, picture_comments, range_comment, range_comments, row_at, row_comment}
+use Rattle.map65.specs.Words.{ImageView, MapView, end_of, is_inside}
+use Rattle.reach65.specs.Words.{AreLines, is_line}
 
 abbrev in_line : ℕ → Bool
 in_line b = not (b == 10)

@@ -1,24 +1,13 @@
 -- Comments, held against published bytes.
 use Rattle.std.proofs.Common.{◌≡◌, Bool, true, false, ℕ, List, [], ◌∷◌, None, map, refl}
 use Rattle.std.specs.Prelude.{Some, codes, replicate}
-use Rattle.info65.specs.declared.tags.tag.Tag.{Tag}
+use Rattle.trace65.specs.Words.{Tag, after_comments, are_many, call_comment, call_comments, cell_character, comments_of_calls, entry_comments, fails, has_two_bytes, holder_of, holds, inside_comment, is_call, is_failing, is_meant, is_outside, last_wanted, name_text, offset_text, outside_comment, pair_comment, picture_comments, range_comment, range_comments, row_comment, word_comment, word_comments}
 use Rattle.info65.specs.declared.tags.tag.TagKind.TheVariants as kind
-use Rattle.info65.specs.Names.{covering, covering_below}
-use Rattle.info65.specs.Views.{default_settings}
+use Rattle.info65.specs.Words.{covering, covering_below, default_settings}
 use Rattle.info65.specs.declared.information.range.RangeType.TheVariants as role
-use Rattle.map65.specs.MapView.{MapView}
-use Rattle.map65.specs.Roles.{role_at, role_in}
-use Rattle.reach65.specs.Flow.{FlowView, end_after, goal_at, goal_of, instruction_at, next_at, text_of}
-use Rattle.reach65.specs.Inlines.{inline_of, is_inline}
-use Rattle.reach65.specs.Pieces.{is_free, is_plain}
-use Rattle.reach65.specs.Routines.{call_at}
-use Rattle.reach65.specs.Rows.{free_word}
-use Rattle.reach65.specs.Survey.{Survey, is_routine}
+use Rattle.map65.specs.Words.{MapView, role_at, role_in}
+use Rattle.reach65.specs.Words.{FlowView, Survey, call_at, end_after, free_word, goal_at, goal_of, inline_of, instruction_at, is_free, is_inline, is_plain, is_routine, next_at, text_of}
 use Rattle.reach65.specs.Taken.{has_byte}
-use Rattle.trace65.specs.Likely.{are_many, call_comment, call_comments, comments_of_calls, fails, has_two_bytes, is_call, is_failing, is_meant, word_comment, word_comments}
-use Rattle.trace65.specs.Misplaced.{entry_comments, holder_of, holds, inside_comment, is_outside, outside_comment, range_comment, range_comments}
-use Rattle.trace65.specs.PairComments.{after_comments, last_wanted, name_text, offset_text, pair_comment}
-use Rattle.trace65.specs.Picture.{cell_character, picture_comments, row_comment}
 
 abbrev a_map : MapView
 a_map = record {

@@ -7,13 +7,9 @@ use Rattle.std.proofs.lemmas.Grind.{flat_map-append}
 use Rattle.std.proofs.lemmas.List.{append-nil, get_or-replicate, get_or_past, length-replicate}
 use Rattle.std.proofs.lemmas.List.FromFn.{length-map-range_with_len, map-range_with_len_more}
 use Rattle.std.proofs.lemmas.List.Sums.{count_by-le-length, sum_by-append}
-use Rattle.isa65.specs.declared.op.Op.{Op}
-use Rattle.map65.specs.ImageView.{ImageView}
-use Rattle.map65.specs.MapView.{MapView}
-use Rattle.reach65.specs.Flow.{FlowView, instruction_at, next_at, next_of}
-use Rattle.reach65.specs.Pieces.{Ground}
-use Rattle.reach65.specs.TextLaws.{comment_line}
-use Rattle.trace65.specs.Likely.{AreCounts, Calls, fails, fails_by, first_of, is_call, is_end, is_failing, no_counts, with_one}
+use Rattle.trace65.specs.Words.{AreCounts, Calls, Op, fails, fails_by, first_of, is_call, is_end, is_failing, no_counts, with_one}
+use Rattle.map65.specs.Words.{ImageView, MapView}
+use Rattle.reach65.specs.Words.{FlowView, Ground, comment_line, instruction_at, next_at, next_of}
 
 -- ---- the addresses of an image
 

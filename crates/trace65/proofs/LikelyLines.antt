@@ -1,15 +1,10 @@
 -- No line ends within a comment on what is likely.
 use Rattle.std.proofs.Common.{append_assoc, ◌≡◌, ◌≤◌, ℕ, Bool, true, List, [], ◌∷◌, ◌++◌, arith, refl}
 use Rattle.std.specs.Prelude.{◌&&◌, Option, Some, None, codes}
-use Rattle.info65.specs.Names.{AreNames, covering}
-use Rattle.info65.specs.declared.tags.tag.Tag.{Tag}
-use Rattle.map65.specs.ImageView.{IsPlaced}
-use Rattle.map65.specs.MapView.{MapView}
-use Rattle.reach65.specs.Flow.{FlowView}
-use Rattle.reach65.specs.Survey.{Survey}
-use Rattle.reach65.specs.TextLaws.{AreLines, is_line}
-use Rattle.trace65.specs.Likely.{all_of, call_comment, call_comments, comments_of_calls, comments_of_word, has_two_bytes, is_meant, word_at, word_comment, word_comments}
-use Rattle.trace65.specs.PairComments.{name_text}
+use Rattle.info65.specs.Words.{AreNames, covering}
+use Rattle.trace65.specs.Words.{Tag, all_of, call_comment, call_comments, comments_of_calls, comments_of_word, has_two_bytes, is_meant, name_text, word_at, word_comment, word_comments}
+use Rattle.map65.specs.Words.{IsPlaced, MapView}
+use Rattle.reach65.specs.Words.{AreLines, FlowView, Survey, is_line}
 use Rattle.trace65.proofs.CommentLemmas.{all-lines, decimal-line, either-lines, hex, joined, lines-joined, name-line}
 use Rattle.trace65.proofs.LikelyLemmas.{few_counted}
 

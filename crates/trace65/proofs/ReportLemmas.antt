@@ -2,17 +2,9 @@
 use Rattle.std.proofs.Common.{◌≤◌, ℕ, Bool, List, ◌++◌, append_assoc, arith, drop, length, refl}
 use Rattle.std.specs.List.{flat_map}
 use Rattle.std.proofs.lemmas.List.{length-take}
-use Rattle.info65.specs.declared.tags.tag.Tag.{Tag}
-use Rattle.map65.specs.ImageView.{ImageView, IsPlaced}
-use Rattle.map65.specs.MapView.{IsSoundMap, MapView}
-use Rattle.reach65.specs.Labels.{label_lines}
-use Rattle.reach65.specs.RangeLines.{range_lines}
-use Rattle.reach65.specs.TextLaws.{IsProposal, TextLaw, comment_line}
-use Rattle.trace65.specs.Findings.{AreFindings, Findings}
-use Rattle.trace65.specs.PairComments.{last_wanted}
-use Rattle.trace65.specs.Misplaced.{misplaced_comments}
-use Rattle.trace65.specs.Picture.{image_marks}
-use Rattle.trace65.specs.Report.{IsAccepted, comments_before, found_comments, legend, likely_comments, move_comments, picture_and_counts, report_text}
+use Rattle.trace65.specs.Words.{AreFindings, Findings, IsAccepted, Tag, comments_before, found_comments, image_marks, last_wanted, legend, likely_comments, misplaced_comments, move_comments, picture_and_counts, report_text}
+use Rattle.map65.specs.Words.{ImageView, IsPlaced, IsSoundMap, MapView}
+use Rattle.reach65.specs.Words.{IsProposal, TextLaw, comment_line, label_lines, range_lines}
 use Rattle.trace65.proofs.LikelyLines.{likely-lines}
 use Rattle.trace65.proofs.CommentLemmas.{found-lines, lines-joined, misplaced-lines, picture-lines}
 

@@ -1,6 +1,6 @@
 -- What is appended to a text: comments, each as a line.
 use Rattle.std.specs.Prelude.{◌≡◌, ◌++◌, ℕ, List, OnOk, Result, flat_map}
-use Rattle.reach65.specs.TextLaws.{comment_line}
+use Rattle.reach65.specs.Words.{comment_line}
 
 -- the text has this comment after it, if the call succeeds
 abbrev pub PutsLine : {E : Type 0} → Result (Unit {0}) E → List ℕ → List ℕ → List ℕ → Type 0

@@ -1,8 +1,7 @@
 -- The program's command line.
 use Rattle.std.specs.Prelude.{[], ◌∷◌, None, Some, codes}
 use Rattle.clap.specs.Words.{App}
-use Rattle.usage65.specs.Choices.{ChoiceView, ProgramView, cpu_choice, help_choice, info_choice, output_choice, start_choice, version_choice}
-use Rattle.usage65.specs.Command.{command_of}
+use Rattle.usage65.specs.Words.{ChoiceView, ProgramView, command_of, cpu_choice, help_choice, info_choice, output_choice, start_choice, version_choice}
 
 abbrev pub new_file_choice : ChoiceView
 new_file_choice = record output_choice { purpose = codes "output file, which must not be there yet" }

@@ -3,22 +3,8 @@ use Rattle.std.specs.Prelude.{◌≡◌, ◌++◌, ◌||◌, ℕ, Bool, true, fa
 use Rattle.info65.specs.declared.information.range.RangeSpec.{RangeSpec}
 use Rattle.info65.specs.declared.information.range.RangeType.TheVariants as role
 use Rattle.info65.specs.declared.tags.tag.Tag.{Tag}
-use Rattle.map65.specs.ImageView.{ImageView}
-use Rattle.map65.specs.MapView.{MapView}
-use Rattle.reach65.specs.Entries.{entries_of, plain_entries_of}
-use Rattle.reach65.specs.Flow.{FlowView}
-use Rattle.reach65.specs.Growth.{AreFollowed}
-use Rattle.reach65.specs.Halves.{AreHalves}
-use Rattle.reach65.specs.Labels.{AreNewLabels, labels_of}
-use Rattle.reach65.specs.Pairs.{pairs_of}
-use Rattle.reach65.specs.Pieces.{ArePieces}
-use Rattle.reach65.specs.Reached.{AreReached, is_marked}
-use Rattle.reach65.specs.Rows.{AreRows, is_of_table}
-use Rattle.reach65.specs.Said.{is_said}
-use Rattle.reach65.specs.Survey.{AreSurvey, Survey}
-use Rattle.reach65.specs.Taken.{AreMarkedBy}
-use Rattle.reach65.specs.Variables.{variables_of}
-use Rattle.reach65.specs.Vectors.{is_of_vector}
+use Rattle.map65.specs.Words.{ImageView, MapView}
+use Rattle.reach65.specs.Words.{AreFollowed, AreHalves, AreMarkedBy, AreNewLabels, ArePieces, AreReached, AreRows, AreSurvey, FlowView, Survey, entries_of, is_marked, is_of_table, is_of_vector, is_said, labels_of, pairs_of, plain_entries_of, variables_of}
 use Rattle.reach65.specs.declared.pairs.Pair.{Pair}
 use Rattle.trace65.specs.Said.{entries_said}
 

@@ -8,3 +8,4 @@ pub mod PairComments
 pub mod Likely
 pub mod Report
 pub mod Request
+pub mod Words

@@ -5,17 +5,10 @@ use Rattle.isa65.specs.declared.mnemonic.Mnemonic.{Mnemonic}
 use Rattle.isa65.specs.declared.mnemonic.Mnemonic.TheVariants.{Bra, Jmp, Rti, Rts}
 use Rattle.isa65.specs.declared.op.Op.{Op}
 use Rattle.text65.specs.Digits.{digits4}
-use Rattle.info65.specs.Names.{covering}
-use Rattle.info65.specs.Views.{NameView}
+use Rattle.info65.specs.Words.{NameView, covering}
 use Rattle.info65.specs.declared.tags.tag.Tag.{Tag}
-use Rattle.map65.specs.ImageView.{is_inside}
-use Rattle.map65.specs.MapView.{MapView}
-use Rattle.reach65.specs.Flow.{FlowView, instruction_at, is, next_at}
-use Rattle.reach65.specs.Inlines.{inline_of}
-use Rattle.reach65.specs.Reached.{is_marked}
-use Rattle.reach65.specs.Routines.{call_at, is_it}
-use Rattle.reach65.specs.Rows.{free_word}
-use Rattle.reach65.specs.Survey.{Survey, is_routine}
+use Rattle.map65.specs.Words.{MapView, is_inside}
+use Rattle.reach65.specs.Words.{FlowView, Survey, call_at, free_word, inline_of, instruction_at, is, is_it, is_marked, is_routine, next_at}
 use Rattle.trace65.specs.PairComments.{name_text}
 
 -- the first so many addresses of the image

@@ -3,9 +3,8 @@ use Rattle.std.specs.Prelude.{ℕ, ◌-◌, ◌&&◌, ◌||◌, Bool, List, [], 
 use Rattle.std.specs.List.{flat_map}
 use Rattle.text65.specs.Digits.{digits4}
 use Rattle.info65.specs.declared.information.range.RangeSpec.{RangeSpec}
-use Rattle.map65.specs.ImageView.{ImageView, end_of, is_inside}
-use Rattle.map65.specs.MapView.{MapView}
-use Rattle.reach65.specs.Reached.{is_marked}
+use Rattle.map65.specs.Words.{ImageView, MapView, end_of, is_inside}
+use Rattle.reach65.specs.Words.{is_marked}
 use Rattle.reach65.specs.Taken.{has_byte}
 
 -- ---- entries

@@ -3,10 +3,8 @@
 use Rattle.std.specs.Prelude.{ℕ, ◌-◌, List, [], ◌∷◌, ◌++◌, codes, decimal, map, nat_le, nat_lt, ◌==◌, if◌then◌else◌, Option, Some, None}
 use Rattle.std.specs.List.{fold}
 use Rattle.text65.specs.Digits.{digits4}
-use Rattle.info65.specs.Names.{covering}
-use Rattle.info65.specs.Views.{NameView}
-use Rattle.map65.specs.ImageView.{ImageView, end_of}
-use Rattle.map65.specs.MapView.{MapView}
+use Rattle.info65.specs.Words.{NameView, covering}
+use Rattle.map65.specs.Words.{ImageView, MapView, end_of}
 use Rattle.info65.specs.declared.tags.tag.Tag.{Tag}
 use Rattle.reach65.specs.declared.pairs.Pair.{Pair}
 use Rattle.trace65.specs.Said.{has_after}

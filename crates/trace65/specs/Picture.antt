@@ -4,7 +4,7 @@
 use Rattle.std.specs.Prelude.{ℕ, ◌+◌, ◌-◌, ◌*◌, ◌/◌, Bool, List, ◌++◌, codes, decimal, drop, length, map, take, if◌then◌else◌}
 use Rattle.std.specs.List.{count_by, list_all, list_any, range_with_len}
 use Rattle.text65.specs.Digits.{digits4}
-use Rattle.map65.specs.ImageView.{ImageView}
+use Rattle.map65.specs.Words.{ImageView}
 
 -- this many elements, from one on
 abbrev pub part : {A : Type 0} → ℕ → ℕ → List A → List A

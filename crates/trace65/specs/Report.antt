@@ -1,13 +1,10 @@
 -- The text that is written: lines of an information file.
 use Rattle.std.specs.Prelude.{◌≡◌, ◌≤◌, ℕ, Bool, true, false, Ok, List, [], ◌∷◌, ◌++◌, codes, flat_map, length}
-use Rattle.info65.specs.Reader.{information}
-use Rattle.info65.specs.Views.{InfoView, OptionsView}
+use Rattle.info65.specs.Words.{InfoView, OptionsView, information}
 use Rattle.info65.specs.declared.information.range.RangeSpec.{RangeSpec}
 use Rattle.info65.specs.declared.tags.tag.Tag.{Tag}
-use Rattle.map65.specs.MapView.{MapView}
-use Rattle.reach65.specs.RangeLines.{range_lines}
-use Rattle.reach65.specs.Labels.{label_lines}
-use Rattle.reach65.specs.TextLaws.{AreAmong, comment_line, with_found}
+use Rattle.map65.specs.Words.{MapView}
+use Rattle.reach65.specs.Words.{AreAmong, comment_line, label_lines, range_lines, with_found}
 use Rattle.trace65.specs.Findings.{AreFindings, Findings}
 use Rattle.trace65.specs.Likely.{call_comments, word_comments}
 use Rattle.trace65.specs.Misplaced.{misplaced_comments}

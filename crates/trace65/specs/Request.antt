@@ -3,9 +3,8 @@ use Rattle.std.specs.Prelude.{◌==◌, ℕ, Bool, List, [], ◌∷◌, Option, 
 use Rattle.std.specs.List.{slice_split}
 use Rattle.std.specs.String.{string_bytes}
 use Rattle.clap.specs.Words.{Row, Text, first_of}
-use Rattle.info65.specs.Views.{OptionsView, no_options}
-use Rattle.usage65.specs.Number.{address_in}
-use Rattle.usage65.specs.Values.{◌>>=◌, accepted, cpu_in, given, is_set}
+use Rattle.info65.specs.Words.{OptionsView, no_options}
+use Rattle.usage65.specs.Words.{accepted, address_in, cpu_in, given, is_set, ◌>>=◌}
 use Rattle.usage65.specs.declared.fault.UsageFault.{UsageFault}
 use Rattle.trace65.specs.Command.{app}
 use Rattle.trace65.specs.declared.request.Request.{Request}

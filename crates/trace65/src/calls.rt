@@ -1,10 +1,8 @@
 //! Comments for calls after which nothing decodes: text that the called routine reads may follow them.
 
 ghost use Rattle.std.specs.Prelude.{◌≡◌, ◌<◌, ◌++◌, ℕ, IfOk, OnOk, Some, flat_map, get_or, length, replicate};
-ghost use Rattle.reach65.specs.Routines.{call_at, is_it};
-ghost use Rattle.reach65.specs.TextLaws.{comment_line};
-ghost use Rattle.trace65.specs.Appending.{Puts, PutsLine};
-ghost use Rattle.trace65.specs.Likely.{AreCounts, are_many, call_comment, call_comments, comments_at, comments_of_calls, fails, fails_at, is_call, is_end, is_failing, no_counts, with_one};
+ghost use Rattle.reach65.specs.Words.{call_at, comment_line, is_it};
+ghost use Rattle.trace65.specs.Words.{AreCounts, Puts, PutsLine, are_many, call_comment, call_comments, comments_at, comments_of_calls, fails, fails_at, is_call, is_end, is_failing, no_counts, with_one};
 
 use crate::digits::{put_address, put_decimal};
 use info65::Tag;

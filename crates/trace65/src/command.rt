@@ -1,8 +1,8 @@
 //! The program's command line.
 
 ghost use Rattle.std.specs.Prelude.{◌≡◌};
-ghost use Rattle.usage65.specs.Code.Rows.{program_of};
-ghost use Rattle.trace65.specs.Command.{this_program};
+ghost use Rattle.usage65.specs.Words.{program_of};
+ghost use Rattle.trace65.specs.Words.{this_program};
 
 use usage65::{CPU, Choice, HELP, INFO, OUTPUT, Program, START, VERSION};
 

@@ -1,7 +1,7 @@
 //! The lines of the labels that are proposed.
 
 ghost use Rattle.std.specs.Prelude.{◌≡◌, ◌++◌, OnOk};
-ghost use Rattle.reach65.specs.Labels.{label_line, label_lines};
+ghost use Rattle.reach65.specs.Words.{label_line, label_lines};
 
 use crate::digits::put_address;
 use std::alloc::AllocError;

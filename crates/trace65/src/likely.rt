@@ -1,10 +1,9 @@
 //! Comments for words in data that are likely addresses.
 
 ghost use Rattle.std.specs.Prelude.{◌≡◌, ◌<◌, ◌++◌, OnOk, flat_map, length, option_map};
-ghost use Rattle.info65.specs.Code.Names.{given_seen};
-ghost use Rattle.reach65.specs.TextLaws.{comment_line};
-ghost use Rattle.trace65.specs.Appending.{Puts, PutsLine};
-ghost use Rattle.trace65.specs.Likely.{comments_of_word, has_two_bytes, is_meant, is_own, word_comment, word_comments};
+ghost use Rattle.info65.specs.Words.{given_seen};
+ghost use Rattle.reach65.specs.Words.{comment_line};
+ghost use Rattle.trace65.specs.Words.{Puts, PutsLine, comments_of_word, has_two_bytes, is_meant, is_own, word_comment, word_comments};
 
 use crate::digits::put_address;
 use crate::pair_comments::put_name;

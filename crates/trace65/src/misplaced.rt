@@ -2,9 +2,8 @@
 
 ghost use Rattle.std.specs.Prelude.{◌≡◌, ◌++◌, OnOk, flat_map, length};
 ghost use Rattle.reach65.specs.Taken.{has_byte};
-ghost use Rattle.reach65.specs.TextLaws.{comment_line};
-ghost use Rattle.trace65.specs.Appending.{Puts, PutsLine};
-ghost use Rattle.trace65.specs.Misplaced.{entry_comments, holder_of, holds, inside_comment, is_outside, misplaced_comments, outside_comment, range_comment, range_comments};
+ghost use Rattle.reach65.specs.Words.{comment_line};
+ghost use Rattle.trace65.specs.Words.{Puts, PutsLine, entry_comments, holder_of, holds, inside_comment, is_outside, misplaced_comments, outside_comment, range_comment, range_comments};
 
 use crate::digits::put_address;
 use info65::RangeSpec;

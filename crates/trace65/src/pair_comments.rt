@@ -2,10 +2,9 @@
 
 ghost use Rattle.std.specs.Prelude.{◌≡◌, ◌++◌, OnOk, flat_map, option_map};
 ghost use Rattle.std.specs.List.{fold};
-ghost use Rattle.info65.specs.Code.Names.{given_seen};
-ghost use Rattle.reach65.specs.TextLaws.{comment_line};
-ghost use Rattle.trace65.specs.Appending.{Puts, PutsLine};
-ghost use Rattle.trace65.specs.PairComments.{after_comments, greater, last_wanted, name_text, new_after, offset_text, pair_comment, pair_comments};
+ghost use Rattle.info65.specs.Words.{given_seen};
+ghost use Rattle.reach65.specs.Words.{comment_line};
+ghost use Rattle.trace65.specs.Words.{Puts, PutsLine, after_comments, greater, last_wanted, name_text, new_after, offset_text, pair_comment, pair_comments};
 
 use crate::digits::{put_address, put_decimal};
 use crate::said::has_after;

@@ -1,7 +1,7 @@
 //! Parts of a list.
 
 ghost use Rattle.std.specs.Prelude.{◌≡◌, ◌≤◌, length, take};
-ghost use Rattle.trace65.specs.Picture.{part};
+ghost use Rattle.trace65.specs.Words.{part};
 
 /// The first elements, if there are more than this many.
 pub fn at_most<T>(items: &[T], most: usize) -> &[T]

@@ -2,9 +2,8 @@
 
 ghost use Rattle.std.specs.Prelude.{◌≡◌, ◌+◌, ◌/◌, ◌++◌, ◌≤◌, OnOk, flat_map, length, map};
 ghost use Rattle.std.specs.List.{list_all, list_any, range_with_len};
-ghost use Rattle.reach65.specs.TextLaws.{comment_line};
-ghost use Rattle.trace65.specs.Appending.{PutsLine};
-ghost use Rattle.trace65.specs.Picture.{cell_at, cell_character, counts_comment, image_marks, picture_comments, row_comment, set_count};
+ghost use Rattle.reach65.specs.Words.{comment_line};
+ghost use Rattle.trace65.specs.Words.{PutsLine, cell_at, cell_character, counts_comment, image_marks, picture_comments, row_comment, set_count};
 
 use crate::digits::{put_address, put_decimal};
 use crate::part::part;

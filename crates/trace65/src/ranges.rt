@@ -1,8 +1,7 @@
 //! The lines of the ranges that are proposed.
 
 ghost use Rattle.std.specs.Prelude.{◌≡◌, ◌<◌, ◌++◌, OnOk, codes, length, map};
-ghost use Rattle.reach65.specs.Pieces.{LieIn, LiesIn};
-ghost use Rattle.reach65.specs.RangeLines.{alphabet_of, dots_above, range_bytes, range_line, range_lines, shown_as, shown_byte, shown_bytes, shown_char, title, type_text};
+ghost use Rattle.reach65.specs.Words.{LieIn, LiesIn, alphabet_of, dots_above, range_bytes, range_line, range_lines, shown_as, shown_byte, shown_bytes, shown_char, title, type_text};
 
 use crate::digits::put_address;
 use crate::part::{at_most, part};

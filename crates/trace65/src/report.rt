@@ -1,14 +1,8 @@
 //! What is found of an image, as text of an information file.
 
 ghost use Rattle.std.specs.Prelude.{◌≡◌, ◌+◌, ◌++◌, ◌≤◌, IfOk, OnOk, flat_map, length};
-ghost use Rattle.reach65.specs.Pairs.{pairs_of};
-ghost use Rattle.reach65.specs.Pieces.{LieIn};
-ghost use Rattle.reach65.specs.TextLaws.{comment_line};
-ghost use Rattle.trace65.specs.Appending.{Puts};
-ghost use Rattle.trace65.specs.Findings.{AreFindings, ArePairs, AreTraced, AreWordMarks};
-ghost use Rattle.trace65.specs.Misplaced.{misplaced_comments};
-ghost use Rattle.trace65.specs.Picture.{image_marks};
-ghost use Rattle.trace65.specs.Report.{IsWritten, comments_before, file_before, found_comments, legend, legend_more, likely_comments, move_comments, picture_and_counts, report_text};
+ghost use Rattle.reach65.specs.Words.{LieIn, comment_line, pairs_of};
+ghost use Rattle.trace65.specs.Words.{AreFindings, ArePairs, AreTraced, AreWordMarks, IsWritten, Puts, comments_before, file_before, found_comments, image_marks, legend, legend_more, likely_comments, misplaced_comments, move_comments, picture_and_counts, report_text};
 
 use crate::calls::put_calls;
 use crate::labels::put_labels;

@@ -4,9 +4,9 @@ ghost use Rattle.std.specs.Prelude.{◌≡◌, IfOk, map, option_map};
 ghost use Rattle.std.specs.List.{slice_split};
 ghost use Rattle.std.specs.String.{string_bytes};
 ghost use Rattle.clap.specs.Words.{found_of, rows_of};
-ghost use Rattle.info65.specs.Views.{name_seen, no_options};
+ghost use Rattle.info65.specs.Words.{name_seen, no_options};
 ghost use Rattle.usage65.specs.Values.{Gives};
-ghost use Rattle.trace65.specs.Request.{addresses_in, asked, asked_in, asked_of, entries_given, entries_in, is_comma, traced_in};
+ghost use Rattle.trace65.specs.Words.{addresses_in, asked, asked_in, asked_of, entries_given, entries_in, is_comma, traced_in};
 
 use crate::command::this_program;
 use clap::ArgMatches;

@@ -1,7 +1,7 @@
 //! What the lines `#: ..` of an information file say.
 
 ghost use Rattle.std.specs.Prelude.{◌≡◌, ◌++◌, IfOk, OnOk};
-ghost use Rattle.trace65.specs.Said.{entries_said, entry_said, has_after, is_after};
+ghost use Rattle.trace65.specs.Words.{entries_said, entry_said, has_after, is_after};
 
 use info65::{Tag, TagKind};
 use std::alloc::{AllocError, Global};

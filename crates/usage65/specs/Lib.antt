@@ -6,3 +6,4 @@ pub mod Number
 pub mod Values
 pub mod FileNames
 pub mod Requests
+pub mod Words

@@ -5,7 +5,7 @@
 use Rattle.std.specs.Prelude.{ℕ, List, Result, Ok, Err, ◌||◌, drop, codes, nat_eq, nat_le, length, ◌==◌, if◌then◌else◌}
 use Rattle.std.specs.List.{starts_with}
 use Rattle.std.specs.Str.Parse.{digits_value}
-use Rattle.info65.specs.Lexemes.{are_digits}
+use Rattle.info65.specs.Words.{are_digits}
 use Rattle.usage65.specs.declared.fault.UsageFault.{UsageFault}
 use Rattle.usage65.specs.declared.fault.UsageFault.TheVariants.{BadNumber, OutOfRange}
 

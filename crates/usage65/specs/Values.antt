@@ -4,7 +4,7 @@ use Rattle.std.specs.Str.{bytes_eq}
 use Rattle.std.specs.Option.{option_map_or}
 use Rattle.clap.specs.Words.{App, Row, Text, fault_of, first_of, is_simple, is_simple_and_free, matches_of, new_app}
 use Rattle.clap.specs.Simple.{on_top}
-use Rattle.isa65.specs.Cpu.{cpu_named}
+use Rattle.isa65.specs.Words.{cpu_named}
 use Rattle.isa65.specs.declared.cpu.Cpu.{Cpu}
 use Rattle.usage65.specs.declared.fault.UsageFault.{UsageFault}
 use Rattle.usage65.specs.declared.fault.UsageFault.TheVariants.{Memory, OutOfRange, Words}

@@ -2,9 +2,7 @@
 
 ghost use Rattle.std.specs.Prelude.{IfOk, OnOk, ◌≡◌, ◌++◌, option_map};
 ghost use Rattle.clap.specs.Words.{new_rule};
-ghost use Rattle.usage65.specs.Code.Rows.{HasRule, choice_of};
-ghost use Rattle.usage65.specs.Command.{rule_for};
-ghost use Rattle.usage65.specs.Help.{help_line, names, names_and_value, with_value};
+ghost use Rattle.usage65.specs.Words.{HasRule, choice_of, help_line, names, names_and_value, rule_for, with_value};
 
 use clap::{Arg, ArgAction};
 use std::alloc::{AllocError, Global};

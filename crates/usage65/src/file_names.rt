@@ -1,7 +1,7 @@
 //! The names of files on a command line: `-` stands for a standard stream.
 
 ghost use Rattle.std.specs.Prelude.{◌≡◌, option_map};
-ghost use Rattle.usage65.specs.FileNames.{info_named, input_named, is_name, is_taken, output_named};
+ghost use Rattle.usage65.specs.Words.{info_named, input_named, is_name, is_taken, output_named};
 
 /// What an input without a name is read from.
 const STANDARD_INPUT: &str = "/dev/stdin";

@@ -1,8 +1,8 @@
 //! The files that a command line names.
 
 ghost use Rattle.std.specs.Prelude.{◌≡◌, option_map};
-ghost use Rattle.usage65.specs.Code.Names.{names_seen};
-ghost use Rattle.usage65.specs.Requests.{Gives, names_apart};
+ghost use Rattle.usage65.specs.Words.{names_apart, names_seen};
+ghost use Rattle.usage65.specs.Requests.{Gives};
 
 use crate::file_names::{is_name, is_taken};
 use crate::request_fault::RequestFault;

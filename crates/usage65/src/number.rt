@@ -1,7 +1,7 @@
 //! Numbers of a command line.
 
 ghost use Rattle.std.specs.Prelude.{IfOk, ◌≡◌, ◌≤◌};
-ghost use Rattle.usage65.specs.Number.{address_in, byte_in, decimal_in, number_in, numeral_in};
+ghost use Rattle.usage65.specs.Words.{address_in, byte_in, decimal_in, number_in, numeral_in};
 
 use crate::fault::UsageFault;
 use info65::number_of_digits;

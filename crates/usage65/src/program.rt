@@ -4,10 +4,8 @@ ghost use Rattle.std.specs.Prelude.{IfOk, OnOk, map, ◌≡◌, ◌++◌};
 ghost use Rattle.std.specs.List.{flat_map};
 ghost use Rattle.std.specs.String.{string_bytes};
 ghost use Rattle.clap.specs.Words.{FailsBy, app_of, fault_of, found_of, matches_of, rows_of};
-ghost use Rattle.usage65.specs.Code.Rows.{choice_of, program_of};
-ghost use Rattle.usage65.specs.Command.{command_of, with_choices};
-ghost use Rattle.usage65.specs.Help.{help_line, help_of, version_of};
-ghost use Rattle.usage65.specs.Values.{Gives, IsPlain, accepted, bare};
+ghost use Rattle.usage65.specs.Words.{IsPlain, accepted, bare, choice_of, command_of, help_line, help_of, program_of, version_of, with_choices};
+ghost use Rattle.usage65.specs.Values.{Gives};
 
 use crate::choice::Choice;
 use crate::fault::UsageFault;

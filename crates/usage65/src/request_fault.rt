@@ -1,7 +1,7 @@
 //! Why a command line that names files is refused.
 
 ghost use Rattle.std.specs.Prelude.{◌≡◌};
-ghost use Rattle.usage65.specs.Requests.{fault_for};
+ghost use Rattle.usage65.specs.Words.{fault_for};
 ghost use Rattle.usage65.specs.declared.request_fault.RequestFault.TheVariants.{Memory};
 
 use crate::fault::UsageFault;

@@ -2,9 +2,8 @@
 
 ghost use Rattle.std.specs.Prelude.{IfOk, option_map, ◌≡◌};
 ghost use Rattle.clap.specs.Words.{first_of, found_of, rows_of};
-ghost use Rattle.info65.specs.Views.{name_seen};
-ghost use Rattle.usage65.specs.Number.{address_in, byte_in};
-ghost use Rattle.usage65.specs.Values.{cpu_in, given, is_set};
+ghost use Rattle.info65.specs.Words.{name_seen};
+ghost use Rattle.usage65.specs.Words.{address_in, byte_in, cpu_in, given, is_set};
 
 use crate::fault::UsageFault;
 use crate::number::{address_in, byte_in};

@@ -1,10 +1,10 @@
 -- The lines are passed over once, as the stretches rise.
 use Rattle.std.specs.Prelude.{◌≡◌, ℕ, ◌+◌, ◌<◌, ◌≤◌, ◌^◌, List, [], ◌∷◌, get_or, length, nat_le}
 use Rattle.std.specs.List.{prefix_len}
-use Rattle.map65.specs.ImageView.{ImageView}
+use Rattle.map65.specs.Words.{ImageView}
 use Rattle.as65.specs.Differences.{Compared, stretch_bytes, stretch_line, trimmed}
 use Rattle.as65.specs.Origins.{OriginsView}
-use Rattle.as65.specs.declared.stretches.Stretch.{Stretch}
+use Rattle.as65.specs.Types.{Stretch}
 
 -- the first line that is left is kept as it is shown, and the lines can be counted
 pub record IsAtLine (lines : List (List ℕ)) (ends first : List ℕ) (passed : ℕ) : Type 0 where

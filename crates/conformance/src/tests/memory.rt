@@ -1,6 +1,6 @@
 // Worked rows through `run`, over memory that is counted and over memory that is refused.
 ghost use Rattle.std.specs.Prelude.{IfOk};
-ghost use Rattle.info65.specs.Names.{AreNames};
+ghost use Rattle.info65.specs.Words.{AreNames};
 
 use crate::heap::Refusing;
 use crate::tests::asserts::{

@@ -4,15 +4,8 @@ pub use Rattle.std.specs.List.{AllByRecursion as Each}
 use Rattle.std.specs.List.{filter, flat_map}
 use Rattle.std.proofs.lemmas.Bool.{cond_both}
 use Rattle.stmt65.specs.Views as view
-use Rattle.map65.specs.MapView.{MapView}
-use Rattle.map65.specs.Segments.{segment_at}
-use Rattle.map65.specs.Spans.{addresses}
-use Rattle.da65.specs.Comments.{comment_at}
-use Rattle.da65.specs.Groups.{group_len}
-use Rattle.da65.specs.Listing.{ListingLine, comment_line, comment_lines, ending_lines, has_empty_line, has_separator, opening_lines, plain, segment_lines, separator, separator_lines}
-use Rattle.da65.specs.Segments.{segment_statement}
-use Rattle.da65.specs.Statements.{statement_at}
-use Rattle.da65.specs.Style.{style_of}
+use Rattle.map65.specs.Words.{MapView, addresses, segment_at}
+use Rattle.da65.specs.Words.{ListingLine, comment_at, comment_line, comment_lines, ending_lines, group_len, has_empty_line, has_separator, opening_lines, plain, segment_lines, segment_statement, separator, separator_lines, statement_at, style_of}
 
 pub each_append : (P : ListingLine → Type 0) (xs ys : List ListingLine) → Each P xs → Each P ys → Each P (xs ++ ys)
 each_append P [] ys h g = g

@@ -6,24 +6,10 @@ use Rattle.std.proofs.lemmas.Bool.{cases_lt, eqb-true, le-ltb}
 use Rattle.std.proofs.lemmas.Bool.Decides.{nat_tests}
 use Rattle.std.proofs.lemmas.List.{append-nil, drop-drop, drop_all, take-append-drop}
 use Rattle.std.proofs.lemmas.List.Elements.{All-drop, All-take}
-use Rattle.isa65.specs.declared.cpu.Cpu.{Cpu}
-use Rattle.stmt65.specs.Columns.{fits_label}
-use Rattle.stmt65.specs.Meaning.{defined_by, operation_in}
-use Rattle.stmt65.specs.Printable.{TakesLabel}
-use Rattle.stmt65.specs.Printed.{source_line}
-use Rattle.stmt65.specs.SourceLine.{Nothing, Operation, Statement}
-use Rattle.stmt65.specs.Symbols.{Definition}
+use Rattle.da65.specs.Words.{AreSound, Cpu, IsGroup, IsGroupPlace, Knows, KnowsAll, ListingLine, Names, base_name, begins, ending_lines, forwards, group_bytes, group_len, group_line, group_lines, groups_from, is_base, labelled, names_of, opening_lines, plain, skips, statement_at, statement_lines, style_of}
+use Rattle.stmt65.specs.Words.{Definition, Nothing, Operation, Statement, TakesLabel, defined_by, fits_label, operation_in, source_line}
 use Rattle.stmt65.specs.Views as view
-use Rattle.map65.specs.ImageView.{AreBytes, IsPlaced, bytes_from, end_of}
-use Rattle.map65.specs.MapView.{MapView, opcodes}
-use Rattle.map65.specs.Roles.{role_of}
-use Rattle.da65.specs.BaseNames.{AreSound, Names, base_name, is_base, names_of}
-use Rattle.da65.specs.Groups.{IsGroupPlace, begins, group_bytes, group_len, groups_from, skips}
-use Rattle.da65.specs.KnownNames.{Knows, KnowsAll}
-use Rattle.da65.specs.Listing.{ListingLine, ending_lines, forwards, group_line, group_lines, labelled, opening_lines, plain, statement_lines}
-use Rattle.da65.specs.ReassemblyLaw.{IsGroup}
-use Rattle.da65.specs.Statements.{statement_at}
-use Rattle.da65.specs.Style.{style_of}
+use Rattle.map65.specs.Words.{AreBytes, IsPlaced, MapView, bytes_from, end_of, opcodes, role_of}
 use Rattle.da65.proofs.Blocks.EachLine.{each_ending, each_opening}
 use Rattle.da65.proofs.Blocks.LineBlocks.{IsQuiet, Says, base_gives, defines_nothing, line_gives, nothing_stands, quiet_beside, quiet_gives}
 use Rattle.da65.proofs.Blocks.LineLaws.{Gives, gives_append, gives_from, gives_none, gives_to, point, state}

@@ -5,10 +5,9 @@ use Rattle.std.specs.Str.{bytes_eq}
 use Rattle.std.proofs.lemmas.Slice.Eq.{bytes_eq-Decides}
 use Rattle.std.proofs.lemmas.Bool.{eqb-true}
 use Rattle.std.proofs.lemmas.List.Elements.{filter-append}
-use Rattle.stmt65.specs.Symbols.{Definition, find_name}
-use Rattle.map65.specs.ImageView.{ImageView}
-use Rattle.da65.specs.BaseNames.{AreSound, Names, base_name, is_base}
-use Rattle.da65.specs.KnownNames.{Knows, definition_of, definitions_of}
+use Rattle.stmt65.specs.Words.{Definition, find_name}
+use Rattle.map65.specs.Words.{ImageView}
+use Rattle.da65.specs.Words.{AreSound, Knows, Names, base_name, definition_of, definitions_of, is_base}
 
 -- ---- the first definition
 

@@ -4,22 +4,12 @@ use Rattle.std.specs.Prelude.{◌||◌, nat_lt}
 use Rattle.std.specs.List.{list_any}
 use Rattle.std.proofs.lemmas.Bool.{le-ltb}
 use Rattle.std.proofs.lemmas.List.{append-nil}
-use Rattle.isa65.specs.Cpu.{cpu_text}
+use Rattle.isa65.specs.Words.{cpu_text}
 use Rattle.isa65.proofs.CpuNames.{cpu_name}
-use Rattle.isa65.specs.declared.cpu.Cpu.{Cpu}
+use Rattle.da65.specs.Words.{AreSound, Cpu, Knows, KnowsAll, ListingLine, Names, definition_of, is_base, plain, segment_statement, separator, with_empty_line}
 use Rattle.stmt65.specs.Views as view
-use Rattle.stmt65.specs.Printed.{source_line, with_label}
-use Rattle.stmt65.specs.SourceLine.{Operation, Nothing, Segment, Code, SetCpu, SourceLine, Statement}
-use Rattle.stmt65.specs.Symbols.{Definition, find_name}
-use Rattle.stmt65.specs.Coding.{State, coding}
-use Rattle.stmt65.specs.Meaning.{final, coded, cpu_after, defined_by, has_unknown_cpu, is_past_start, is_twice, operation_in}
-use Rattle.map65.specs.ImageView.{ImageView}
-use Rattle.map65.specs.MapView.{MapView}
-use Rattle.map65.specs.Segments.{segment_at}
-use Rattle.da65.specs.BaseNames.{AreSound, Names, is_base}
-use Rattle.da65.specs.KnownNames.{Knows, KnowsAll, definition_of}
-use Rattle.da65.specs.Listing.{ListingLine, plain, separator, with_empty_line}
-use Rattle.da65.specs.Segments.{segment_statement}
+use Rattle.stmt65.specs.Words.{Code, Definition, Nothing, Operation, Segment, SetCpu, SourceLine, State, Statement, coded, coding, cpu_after, defined_by, final, find_name, has_unknown_cpu, is_past_start, is_twice, operation_in, source_line, with_label}
+use Rattle.map65.specs.Words.{ImageView, MapView, segment_at}
 use Rattle.da65.proofs.Blocks.EachLine.{Each, HoldsBeside}
 use Rattle.da65.proofs.Blocks.Knowledge.{knows_found, knows_more}
 use Rattle.da65.proofs.Blocks.LineLaws.{Gives, Point, gives_append, gives_none, point, state}

@@ -2,18 +2,8 @@
 use Rattle.std.proofs.Common.{arith, ◌≡◌, ℕ, ◌+◌, Bool, true, List, ◌∷◌, ◌++◌, map, Option, Some, None, refl, append_assoc, []}
 use Rattle.std.specs.Prelude.{Result, Ok, Err}
 use Rattle.std.proofs.lemmas.List.{map-append}
-use Rattle.isa65.specs.declared.cpu.Cpu.{Cpu}
-use Rattle.stmt65.specs.declared.assembling.fault.AsmFault.{AsmFault}
-use Rattle.stmt65.specs.declared.assembling.fault.AsmFaultKind.{AsmFaultKind}
-use Rattle.stmt65.specs.SourceLine.{SourceLine}
-use Rattle.stmt65.specs.Symbols.{Definition}
-use Rattle.stmt65.specs.Layout.{free}
-use Rattle.stmt65.specs.Coding.{State}
-use Rattle.stmt65.specs.Meaning.{final, after, coded, unless, with_front, fault_of, bytes_of}
-use Rattle.da65.specs.BaseNames.{Names, is_base}
-use Rattle.da65.specs.KnownNames.{Knows, KnowsAll}
-use Rattle.da65.specs.Listing.{ListingLine}
-use Rattle.da65.specs.ReassemblyLaw.{reading_of_line}
+use Rattle.da65.specs.Words.{AsmFault, AsmFaultKind, Cpu, Knows, KnowsAll, ListingLine, Names, is_base, reading_of_line}
+use Rattle.stmt65.specs.Words.{Definition, SourceLine, State, after, bytes_of, coded, fault_of, final, free, unless, with_front}
 use Rattle.da65.proofs.Blocks.Knowledge.{knows_same}
 
 -- the address and the CPU before a line, and the bases that are known there

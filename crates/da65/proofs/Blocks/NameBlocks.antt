@@ -4,14 +4,9 @@ use Rattle.std.specs.Prelude.{◌||◌, ◌&&◌, nat_lt, if◌then◌else◌}
 use Rattle.std.proofs.Math.Bool.{or-false}
 use Rattle.std.proofs.lemmas.Bool.{and_parts, eqb-true, false_from_ne_true, le-ltb, le-leb, lt-ltb}
 use Rattle.std.proofs.lemmas.Bool.Decides.{nat_tests}
-use Rattle.isa65.specs.declared.cpu.Cpu.{Cpu}
-use Rattle.stmt65.specs.SourceLine.{Assignment, PlaceAssignment}
-use Rattle.stmt65.specs.Meaning.{defined_by}
-use Rattle.map65.specs.ImageView.{ImageView, end_of}
-use Rattle.map65.specs.MapView.{MapView}
-use Rattle.map65.specs.Spans.{addresses}
-use Rattle.da65.specs.BaseNames.{AreSound, Names, base_name, is_base, names_of}
-use Rattle.da65.specs.Listing.{assignment_line, comment_lines, constant_lines, constants, forward_line, forward_lines, forwards, has_constant_line}
+use Rattle.da65.specs.Words.{AreSound, Cpu, Names, assignment_line, base_name, comment_lines, constant_lines, constants, forward_line, forward_lines, forwards, has_constant_line, is_base, names_of}
+use Rattle.stmt65.specs.Words.{Assignment, PlaceAssignment, defined_by}
+use Rattle.map65.specs.Words.{ImageView, MapView, addresses, end_of}
 use Rattle.da65.proofs.Blocks.EachLine.{each_comment}
 use Rattle.da65.proofs.Blocks.LineBlocks.{IsQuiet, base_gives, nothing_stands, quiet_beside, quiet_gives}
 use Rattle.da65.proofs.Blocks.LineLaws.{Gives, gives_append, gives_from, gives_none, gives_to, point}

@@ -5,32 +5,12 @@ use Rattle.std.specs.List.{flat_map, list_all}
 use Rattle.std.proofs.lemmas.Bool.{and_parts, cond_both, not-true}
 use Rattle.std.proofs.lemmas.List.Elements.{All-drop, All-take}
 use Rattle.info65.specs.Names as given
-use Rattle.info65.specs.Segments.{AreSegments}
+use Rattle.info65.specs.Words.{AreSegments}
 use Rattle.stmt65.specs.Views as view
-use Rattle.stmt65.specs.Views.{StatementView}
-use Rattle.stmt65.specs.Columns.{fits_label}
-use Rattle.stmt65.specs.SourceLine.{SourceLine}
-use Rattle.stmt65.specs.Printable.{IsPrintable, TakesLabel}
-use Rattle.stmt65.specs.Printed.{PrintsAs, source_line, with_label}
-use Rattle.stmt65.specs.Lexing.{parts}
-use Rattle.stmt65.specs.Reading.{reading_of}
+use Rattle.stmt65.specs.Words.{IsPrintable, PrintsAs, SourceLine, StatementView, TakesLabel, fits_label, free, meaning_in, meaning_of, parts, reading_of, readings, source_line, with_label}
 use Rattle.text65.specs.Lines.{onto_first, text_lines}
-use Rattle.stmt65.specs.declared.language.Language.TheVariants.{Listing}
-use Rattle.stmt65.specs.Layout.{free}
-use Rattle.stmt65.specs.Meaning.{meaning_in, meaning_of, readings}
-use Rattle.map65.specs.ImageView.{AreBytes, IsPlaced, bytes_from}
-use Rattle.map65.specs.MapView.{MapView, opcodes}
-use Rattle.map65.specs.Roles.{role_of}
-use Rattle.map65.specs.Spans.{addresses}
-use Rattle.da65.specs.BaseNames.{base_name, is_base, names_of}
-use Rattle.da65.specs.Groups.{begins, group_addresses, group_bytes, group_len}
-use Rattle.da65.specs.Listing.{ListingLine, assignment_line, comment_lines, constant_lines, constants, ending_lines, forward_lines, forwards, group_line, group_lines, has_constant_line, label_at, labelled, line_text, lines_of, listing, listing_below, opening_lines, plain, separator, statement_lines, text_of, with_empty_line}
-use Rattle.da65.specs.Segments.{segment_statement}
-use Rattle.map65.specs.Segments.{segment_at}
-use Rattle.da65.specs.Statements.{statement_at}
-use Rattle.da65.specs.Style.{style_of}
-use Rattle.da65.specs.declared.listing.style.Style.{Style}
-use Rattle.da65.specs.ReassemblyLaw.{TextGivesImage, reading_of_line}
+use Rattle.da65.specs.Words.{Listing, ListingLine, Style, TextGivesImage, assignment_line, base_name, begins, comment_lines, constant_lines, constants, ending_lines, forward_lines, forwards, group_addresses, group_bytes, group_len, group_line, group_lines, has_constant_line, is_base, label_at, labelled, line_text, lines_of, listing, listing_below, names_of, opening_lines, plain, reading_of_line, segment_statement, separator, statement_at, statement_lines, style_of, text_of, with_empty_line}
+use Rattle.map65.specs.Words.{AreBytes, IsPlaced, MapView, addresses, bytes_from, opcodes, role_of, segment_at}
 use Rattle.da65.proofs.Blocks.EachLine.{Each, HoldsBeside, each_append, each_comment, each_ending, each_filtered, each_flat, each_opening}
 use Rattle.da65.proofs.NextLine.CommentLemmas.{comment-printable, segment-printable}
 use Rattle.da65.proofs.Groups.DefinedLemmas.{Defined, defined-base}

@@ -5,18 +5,11 @@ use Rattle.std.specs.List.{flat_map}
 use Rattle.std.proofs.Math.Bool.{and-false}
 use Rattle.std.proofs.lemmas.Bool.{le-ltb}
 use Rattle.std.proofs.lemmas.Bool.Decides.{nat_tests}
-use Rattle.isa65.specs.declared.cpu.Cpu.{Cpu}
-use Rattle.isa65.specs.declared.cpu.Cpu.TheVariants.{M6502}
+use Rattle.da65.specs.Words.{AreSound, Cpu, ListingGivesImage, ListingLine, M6502, Names, NamesAreDefinedOnce, constants, group_addresses, group_lines, is_base, listing, listing_below, names_of, plain, readings_of, skips, with_empty_line}
 use Rattle.info65.specs.Names as given
 use Rattle.stmt65.specs.Views as view
-use Rattle.stmt65.specs.Layout.{free}
-use Rattle.stmt65.specs.Meaning.{final, initial, meaning_of}
-use Rattle.map65.specs.ImageView.{AreBytes, ImageView, IsPlaced, end_of}
-use Rattle.map65.specs.MapView.{MapView}
-use Rattle.da65.specs.BaseNames.{AreSound, Names, is_base, names_of}
-use Rattle.da65.specs.Groups.{group_addresses, skips}
-use Rattle.da65.specs.Listing.{ListingLine, constants, group_lines, listing, listing_below, plain, with_empty_line}
-use Rattle.da65.specs.ReassemblyLaw.{ListingGivesImage, NamesAreDefinedOnce, readings_of}
+use Rattle.stmt65.specs.Words.{final, free, initial, meaning_of}
+use Rattle.map65.specs.Words.{AreBytes, ImageView, IsPlaced, MapView, end_of}
 use Rattle.da65.proofs.Blocks.GroupBlocks.{groups_give}
 use Rattle.da65.proofs.Blocks.Knowledge.{knows_nothing}
 use Rattle.da65.proofs.Blocks.LineBlocks.{cpu_gives, empty_line_gives, quiet_blank, quiet_gives, quiet_remark}

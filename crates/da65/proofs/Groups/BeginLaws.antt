@@ -1,15 +1,10 @@
 -- Where groups begin, in terms of items and pieces.
 use Rattle.std.proofs.Common.{◌≡◌, ◌∙◌, ◌⊎◌, inl, inr, ℕ, suc, ◌+◌, ◌-◌, ◌*◌, ◌%◌, ◌<◌, Bool, true, false, length, refl, sym, ap, subst, arith, ⊎_elim}
 use Rattle.std.proofs.lemmas.Bool.{cond-false, cond-true, cases_eq, eq-eqb, eqb-true, true≢false}
-use Rattle.info65.specs.declared.information.range.RangeType.{RangeType}
+use Rattle.da65.specs.Words.{BeginsFullLine, BeginsItem, BeginsLine, GroupLaw, IsGroupPlace, RangeType, begins, group_len, is_whole, limit_at, limit_of, stride_at}
 use Rattle.info65.specs.declared.information.range.RangeType.TheVariants as role
-use Rattle.map65.specs.Items.{item_len}
-use Rattle.map65.specs.MapView.{MapView}
-use Rattle.map65.specs.Pieces.{AreOnePiece}
-use Rattle.map65.specs.Roles.{is_skip, role_of, unit_of}
-use Rattle.map65.specs.Spans.{left_at}
+use Rattle.map65.specs.Words.{AreOnePiece, MapView, is_skip, item_len, left_at, role_of, unit_of}
 use Rattle.map65.proofs.Public.{begun as item-begun, one-role}
-use Rattle.da65.specs.Groups.{BeginsFullLine, BeginsItem, BeginsLine, GroupLaw, IsGroupPlace, begins, group_len, is_whole, limit_at, limit_of, stride_at}
 use Rattle.da65.proofs.Groups.DefinedLemmas.{IsTable, group-unnamed}
 use Rattle.da65.proofs.Groups.GroupLemmas.{begins-true, group-begun, holder, item-begins, item-goes-on, place-of, stride-group, stride-skip}
 use Rattle.da65.proofs.Groups.InsideLemmas.{Further, group-piece, item-inside}

@@ -1,19 +1,11 @@
 -- Which addresses of a group are defined by name.
 use Rattle.std.proofs.Common.{◌≡◌, ◌∙◌, inl, inr, ℕ, ◌+◌, ◌-◌, ◌<◌, true, false, length, Option, Some, None, refl, sym, ap, subst, arith}
 use Rattle.std.proofs.lemmas.Bool.{eqb-true, false_from_ne_true, true≢false}
-use Rattle.info65.specs.declared.information.range.RangeType.{RangeType}
+use Rattle.da65.specs.Words.{IsGroupPlace, Place, RangeType, group_len, is_defined, is_own}
 use Rattle.info65.specs.declared.information.range.RangeType.TheVariants as role
-use Rattle.map65.specs.Bases.{IsInCode, IsOutside, LiesBy}
-use Rattle.map65.specs.ImageView.{is_inside}
-use Rattle.map65.specs.Items.{item_len, size_for}
-use Rattle.map65.specs.MapView.{MapView}
-use Rattle.map65.specs.Names.{Base, base_at, place_of}
-use Rattle.map65.specs.Roles.{is_skip, role_of, unit_of}
-use Rattle.map65.specs.declared.name.Place.{Place}
+use Rattle.map65.specs.Words.{Base, IsInCode, IsOutside, LiesBy, MapView, base_at, is_inside, is_skip, item_len, place_of, role_of, size_for, unit_of}
 use Rattle.map65.specs.declared.name.Place.TheVariants as defined
 use Rattle.map65.proofs.Public.{begun as item-begun, one-role, place_law, inside-index}
-use Rattle.da65.specs.BaseNames.{is_own}
-use Rattle.da65.specs.Groups.{IsGroupPlace, group_len, is_defined}
 use Rattle.da65.proofs.Groups.GroupLemmas.{group-fits, item-goes-on}
 use Rattle.da65.proofs.Groups.InsideLemmas.{Further, group-piece, item-inside}
 

@@ -1,14 +1,9 @@
 -- Groups, byte by byte.
 use Rattle.std.proofs.Common.{◌≡◌, ◌≢◌, ◌∙◌, ℕ, zero, suc, ◌+◌, ◌-◌, ◌<◌, ◌≤◌, ◌&&◌, ◌==◌, not, Bool, true, false, List, ◌∷◌, length, refl, ap, sym, subst, arith, ⊎_elim, if◌then◌else◌, []}
 use Rattle.std.proofs.lemmas.Bool.{and_right, cond-true, cond-false, cases_eq, cases_lt, ne_eqb}
-use Rattle.map65.specs.ImageView.{end_of, is_inside}
-use Rattle.map65.specs.Items.{item_len, size_at}
-use Rattle.map65.specs.MapView.{MapView}
-use Rattle.map65.specs.Pieces.{is_joined}
-use Rattle.map65.specs.Roles.{is_skip, role_of, unit_of}
-use Rattle.map65.specs.Spans.{addresses, left_at}
+use Rattle.map65.specs.Words.{MapView, addresses, end_of, is_inside, is_joined, is_skip, item_len, left_at, role_of, size_at, unit_of}
 use Rattle.map65.proofs.Public.{begun as item-begun, inside-index, item-len-at, item_start-after, item_start-within, left-begun, left-first, left-going, left-inside, size-fits, size-positive, skip-size, start-own}
-use Rattle.da65.specs.Groups.{BeginsItem, IsGroupPlace, begins, goes_on, group_addresses, group_len, groups_from, is_defined, limit_at, more_at, stride_at}
+use Rattle.da65.specs.Words.{BeginsItem, IsGroupPlace, begins, goes_on, group_addresses, group_len, groups_from, is_defined, limit_at, more_at, stride_at}
 
 -- ---- the items that go on
 

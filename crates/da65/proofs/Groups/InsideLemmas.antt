@@ -1,13 +1,9 @@
 -- The items within a group.
 use Rattle.std.proofs.Common.{◌≡◌, ◌∙◌, ℕ, zero, suc, ◌+◌, ◌-◌, ◌*◌, ◌<◌, ◌≤◌, Bool, true, false, length, refl, sym, ap, subst, arith, ⊎_elim}
 use Rattle.std.proofs.lemmas.Bool.{cases_eq, cases_lt, true≢false}
-use Rattle.info65.specs.declared.information.range.RangeType.{RangeType}
-use Rattle.map65.specs.Items.{item_len, size_at}
-use Rattle.map65.specs.MapView.{MapView}
-use Rattle.map65.specs.Pieces.{AreOnePiece, is_joined}
-use Rattle.map65.specs.Roles.{is_skip, role_of, unit_of}
+use Rattle.da65.specs.Words.{BeginsItem, IsGroupPlace, RangeType, goes_on, group_len, limit_at, more_at}
+use Rattle.map65.specs.Words.{AreOnePiece, MapView, is_joined, is_skip, item_len, role_of, size_at, unit_of}
 use Rattle.map65.proofs.Public.{begun as item-begun, item-len-at, size-one-piece, size-positive}
-use Rattle.da65.specs.Groups.{BeginsItem, IsGroupPlace, goes_on, group_len, limit_at, more_at}
 use Rattle.da65.proofs.Groups.GroupLemmas.{item-apart, item-goes-on, more-false, more-none, more-true, next-item}
 use Rattle.da65.proofs.Groups.ShapeLemmas.{role-past, one-more}
 

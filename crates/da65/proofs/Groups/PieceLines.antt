@@ -3,13 +3,9 @@ use Rattle.std.proofs.Common.{◌≡◌, ◌∙◌, inl, inr, ℕ, suc, ◌+◌,
 use Rattle.std.proofs.Math.Nat.{add-mod_right}
 use Rattle.std.proofs.lemmas.Bool.{and_from, cond-false, cond-true, cases_eq, cases_lt, eq-eqb, eqb-true, true≢false}
 use Rattle.info65.proofs.Public.{layout_line, layout_some}
-use Rattle.info65.specs.declared.information.range.RangeType.{RangeType}
-use Rattle.map65.specs.Items.{item_len, size_at, full_len_at}
-use Rattle.map65.specs.MapView.{MapView}
-use Rattle.map65.specs.Pieces.{AreOnePiece, is_joined}
-use Rattle.map65.specs.Roles.{is_skip, role_of, unit_of}
+use Rattle.da65.specs.Words.{IsGroupPlace, IsItemOf, IsStart, RangeType, goes_on, group_len, is_defined, is_whole, limit_at, limit_of, more_at, stride_at}
+use Rattle.map65.specs.Words.{AreOnePiece, MapView, full_len_at, is_joined, is_skip, item_len, role_of, size_at, unit_of}
 use Rattle.map65.proofs.Public.{begun as item-begun, item-len-at, item_law, joined-in, one-role, size-one-piece}
-use Rattle.da65.specs.Groups.{IsGroupPlace, IsItemOf, IsStart, goes_on, group_len, is_defined, is_whole, limit_at, limit_of, more_at, stride_at}
 use Rattle.da65.proofs.Groups.GroupLemmas.{group-some, stride-group, stride-skip}
 use Rattle.da65.proofs.Groups.InsideLemmas.{full-more, group-piece}
 use Rattle.da65.proofs.Groups.DefinedLemmas.{IsTable, group-unnamed}

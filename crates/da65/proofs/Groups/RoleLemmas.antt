@@ -4,18 +4,11 @@ use Rattle.std.proofs.lemmas.List.{get_or_default}
 use Rattle.std.proofs.lemmas.List.Folds.{Any-from_list_any}
 use Rattle.std.proofs.lemmas.Bool.{both_ways, cond-false, cond-true, eq-eqb, eqb-true, false_from_ne_true}
 use Rattle.info65.proofs.Public.{own_address_wins}
-use Rattle.info65.specs.Names.{AreNames, blank_name, covering, name_at}
-use Rattle.info65.specs.Views.{NameView}
-use Rattle.info65.specs.declared.information.range.RangeType.{RangeType}
-use Rattle.map65.specs.ImageView.{IsPlaced, is_inside}
-use Rattle.map65.specs.Items.{item_len}
-use Rattle.map65.specs.MapView.{MapView}
-use Rattle.map65.specs.Names.{Base}
-use Rattle.map65.specs.Pieces.{is_in_run, is_joined, is_own}
+use Rattle.info65.specs.Words.{AreNames, NameView, blank_name, covering, name_at}
+use Rattle.da65.specs.Words.{RangeType, goes_on, is_defined, is_whole}
+use Rattle.map65.specs.Words.{Base, IsPlaced, MapView, is_in_run, is_inside, is_joined, is_own, is_wide, item_len, role_at, role_of}
 use Rattle.map65.proofs.Public.{base-covered, has-role, in-run, inside-if, within}
-use Rattle.map65.specs.Roles.{is_wide, role_at, role_of}
 use Rattle.da65.specs.BaseNames as base_names
-use Rattle.da65.specs.Groups.{goes_on, is_defined, is_whole}
 
 -- ---- inside the image
 

@@ -4,23 +4,13 @@ use Rattle.std.specs.Prelude.{slice_index}
 use Rattle.std.proofs.lemmas.Bool.{cond-true, cond-false, cond_both, eqb-true, leb-true, leb-false, eq-eqb, true≢false}
 use Rattle.std.proofs.Math.Nat.{mul-le-mul_right, mul-mod_left}
 use Rattle.std.proofs.lemmas.List.{get_or-drop, get_or-take, length-take-le}
-use Rattle.isa65.specs.Mode.{len_of}
+use Rattle.isa65.specs.Words.{Table, decoded, len_of}
 use Rattle.isa65.proofs.ModeLaws.{len-positive}
-use Rattle.isa65.specs.Opcodes.{Table, decoded}
-use Rattle.isa65.specs.declared.op.Op.{Op}
+use Rattle.da65.specs.Words.{AreEntries, GroupsAreGroups, IsGroup, IsGroupOf, IsGroupPlace, Op, RangeType, goes_on, group_bytes, group_len, instruction_in, is_whole, limit_at, limit_of, more_at, whole_in}
 use Rattle.info65.proofs.Public.{layout_line}
-use Rattle.info65.specs.declared.information.range.RangeType.{RangeType}
 use Rattle.info65.specs.declared.information.range.RangeType.TheVariants as role
-use Rattle.map65.specs.ImageView.{byte_at, bytes_from}
-use Rattle.map65.specs.Items.{code_size, item_len, size_at, size_for, full_len_at}
-use Rattle.map65.specs.MapView.{MapView, opcodes}
-use Rattle.map65.specs.Pieces.{is_joined}
-use Rattle.map65.specs.Roles.{is_skip, role_of, unit_of}
+use Rattle.map65.specs.Words.{MapView, byte_at, bytes_from, code_size, full_len_at, is_joined, is_skip, item_len, opcodes, role_of, size_at, size_for, unit_of}
 use Rattle.map65.proofs.Public.{begun as item-begun, item-len-at, joined-in, one-role, size-one-piece, size-positive}
-use Rattle.da65.specs.Groups.{IsGroupPlace, goes_on, group_bytes, group_len, is_whole, limit_at, limit_of, more_at}
-use Rattle.da65.specs.Instructions.{instruction_in, whole_in}
-use Rattle.da65.specs.ReassemblyLaw.{GroupsAreGroups, IsGroup}
-use Rattle.da65.specs.Shapes.{AreEntries, IsGroupOf}
 use Rattle.da65.proofs.Groups.GroupLemmas.{group-begun, group-fits, group-some, item-goes-on, more-false, more-none, more-true, place-of}
 use Rattle.da65.proofs.Groups.StepLemmas.{group_one}
 

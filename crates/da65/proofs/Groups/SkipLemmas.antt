@@ -4,12 +4,9 @@ use Rattle.std.specs.Prelude.{if◌then◌else◌}
 use Rattle.std.specs.List.{list_any}
 use Rattle.std.proofs.lemmas.Bool.{or_parts}
 use Rattle.std.proofs.lemmas.List.Folds.{list_any_none}
-use Rattle.info65.specs.Ranges.{has_address}
-use Rattle.info65.specs.declared.information.range.RangeSpec.{RangeSpec}
-use Rattle.map65.specs.MapView.{MapView}
-use Rattle.map65.specs.Roles.{is_skip, role_in, role_of}
-use Rattle.map65.specs.Spans.{addresses}
-use Rattle.da65.specs.Groups.{is_skip_range, skips}
+use Rattle.info65.specs.Words.{has_address}
+use Rattle.da65.specs.Words.{RangeSpec, is_skip_range, skips}
+use Rattle.map65.specs.Words.{MapView, addresses, is_skip, role_in, role_of}
 
 pub skip-in : (ranges : List RangeSpec) (a : ℕ) → list_any is_skip_range ranges ≡ false → is_skip (role_in ranges a) ≡ false
 unfolding role_in

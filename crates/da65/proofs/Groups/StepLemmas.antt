@@ -1,10 +1,8 @@
 -- Items that go on, addresses, and places of groups, one after the other.
 use Rattle.std.proofs.Common.{◌≡◌, ◌∙◌, ℕ, zero, suc, ◌+◌, ◌-◌, ◌<◌, ◌≤◌, true, ◌∷◌, length, refl, ap, sym, subst, arith, ⊎_elim, []}
 use Rattle.std.proofs.lemmas.Bool.{cases_eq, cases_lt}
-use Rattle.map65.specs.Items.{item_len}
-use Rattle.map65.specs.MapView.{MapView}
-use Rattle.map65.specs.Spans.{addresses}
-use Rattle.da65.specs.Groups.{IsGroupPlace, goes_on, group_len, limit_at, more_at, stride_at}
+use Rattle.map65.specs.Words.{MapView, addresses, item_len}
+use Rattle.da65.specs.Words.{IsGroupPlace, goes_on, group_len, limit_at, more_at, stride_at}
 use Rattle.da65.proofs.Groups.GroupLemmas.{first_place, left-within, more-true, place-step}
 
 -- ---- the items that go on

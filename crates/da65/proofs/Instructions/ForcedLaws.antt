@@ -2,28 +2,11 @@
 use Rattle.std.proofs.Common.{◌≡◌, ℕ, ◌+◌, Bool, true, false, cond, List, ◌∷◌, Option, Some, None, refl, sym, ap, subst, ◌∙◌}
 use Rattle.std.specs.Prelude.{IsSome, is_some, nat_lt, option_and_then}
 use Rattle.std.proofs.lemmas.Bool.{and_parts, false_from_ne_true}
-use Rattle.isa65.specs.Cpu.{table_of}
-use Rattle.isa65.specs.CpuLaws.{table_of-sound}
-use Rattle.isa65.specs.Mode.{len_of, row_of, row_text, written, zero_page_of}
-use Rattle.isa65.specs.Opcodes.{Table, encoded, sibling_in}
-use Rattle.isa65.specs.OpcodeLaws.{encoded-decoded}
-use Rattle.isa65.specs.declared.cpu.Cpu.{Cpu}
-use Rattle.isa65.specs.declared.mode.Mode.{Mode}
-use Rattle.isa65.specs.declared.op.Op.{Op}
-use Rattle.isa65.specs.declared.row.Row.{Row}
-use Rattle.stmt65.specs.Views.{OperandsView}
-use Rattle.stmt65.specs.ModeLaws.{IsModeOf}
-use Rattle.stmt65.specs.Printed.{address_size, row_form, source_form, source_value}
-use Rattle.stmt65.specs.Symbols.{has_zero_page_size}
-use Rattle.stmt65.specs.Coding.{State, Fixed}
+use Rattle.isa65.specs.Words.{Table, encoded, encoded-decoded, len_of, row_of, row_text, sibling_in, table_of, table_of-sound, written, zero_page_of}
+use Rattle.da65.specs.Words.{AreSound, CodesInMode, Cpu, ForcedWhereNeeded, HasKnownSize, IsWritten, KnowsConstants, Mode, Names, Op, Row, address_expr, constant_base, expr_from, fragments_in, is_forced, operands_of, zero_page_expr}
+use Rattle.stmt65.specs.Words.{Fixed, IsModeOf, OperandsView, State, address_size, has_zero_page_size, row_form, source_form, source_value}
 use Rattle.stmt65.proofs.Public.{takes_modes}
-use Rattle.map65.specs.ImageView.{ImageView}
-use Rattle.map65.specs.Names.{Base}
-use Rattle.map65.specs.Targets.{word_of}
-use Rattle.da65.specs.BaseNames.{AreSound, Names}
-use Rattle.da65.specs.KnownNames.{KnowsConstants}
-use Rattle.da65.specs.ReassemblyLaw.{CodesInMode, ForcedWhereNeeded, HasKnownSize, IsWritten, fragments_in}
-use Rattle.da65.specs.Statements.{address_expr, constant_base, expr_from, is_forced, operands_of, zero_page_expr}
+use Rattle.map65.specs.Words.{Base, ImageView, word_of}
 use Rattle.da65.proofs.Instructions.ModeLaws.{of_form, pair, row_prefix, word_size}
 use Rattle.da65.proofs.Statements.GroupStands.{mode_is_chosen_back}
 use Rattle.da65.proofs.Statements.StandsLaws.{begins_with}

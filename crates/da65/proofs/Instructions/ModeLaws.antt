@@ -3,40 +3,16 @@ use Rattle.std.proofs.Common.{◌≡◌, ℕ, ◌+◌, ◌≤◌, Bool, true, fa
 use Rattle.std.specs.Prelude.{IfSome, IsSome, is_some, nat_lt, slice_index}
 use Rattle.std.specs.Option.{option_map}
 use Rattle.std.proofs.lemmas.Bool.{false_from_ne_true, lt-ltb}
-use Rattle.isa65.specs.Cpu.{table_of}
-use Rattle.isa65.specs.CpuLaws.{table_of-sound}
-use Rattle.isa65.specs.Mode.{len_of, pattern_text, row_of, row_text, size_of, zero_page_of, zero_page_row, IsZeroPageOf}
-use Rattle.isa65.specs.Opcodes.{encoded}
-use Rattle.isa65.specs.OpcodeLaws.{written_alike}
-use Rattle.isa65.specs.declared.cpu.Cpu.{Cpu}
-use Rattle.isa65.specs.declared.mnemonic.Mnemonic.{Mnemonic}
-use Rattle.isa65.specs.declared.mode.Mode.{Mode}
-use Rattle.isa65.specs.declared.mode.Mode.TheVariants.{Zprel}
-use Rattle.isa65.specs.declared.row.OperandKind.{OperandKind}
+use Rattle.isa65.specs.Words.{IsZeroPageOf, encoded, len_of, pattern_text, row_of, row_text, size_of, table_of, table_of-sound, written_alike, zero_page_of, zero_page_row}
+use Rattle.da65.specs.Words.{Absolute, AddressSize, AreSound, Automatic, Cpu, KnowsConstants, Mnemonic, Mode, Names, OperandKind, Pattern, Row, Zprel, address_expr, fragments_in, operand_expr, operand_fragment, operands_of, row_fragments, row_operands}
 use Rattle.isa65.specs.declared.row.OperandKind.TheVariants as kind
-use Rattle.isa65.specs.declared.row.Pattern.{Pattern}
 use Rattle.isa65.specs.declared.row.Pattern.TheVariants as pattern
-use Rattle.isa65.specs.declared.row.Row.{Row}
 use Rattle.isa65.specs.declared.row.Row.TheVariants as row
-use Rattle.stmt65.specs.Views.{ExprView, OperandsView}
+use Rattle.stmt65.specs.Words.{Definition, ExprView, Fixed, Form, Fragment, Instr, IsModeOf, Layout, One, OperandsView, Single, State, TakesMode, Value, address_size, byte_fragment, coding, form_text, has_prefix, has_zero_page_size, is_short, kind_fragment, row_form, sized, source_form, source_value}
 use Rattle.stmt65.specs.Views as view
-use Rattle.stmt65.specs.SourceLine.{Form, One, Value, Instr}
-use Rattle.stmt65.specs.declared.source_line.AddressSize.{AddressSize}
-use Rattle.stmt65.specs.declared.source_line.AddressSize.TheVariants.{Absolute, Automatic}
-use Rattle.stmt65.specs.Printed.{address_size, row_form, source_form, source_value}
-use Rattle.stmt65.specs.Forms.{form_text, has_prefix, sized}
-use Rattle.stmt65.specs.Symbols.{Definition, has_zero_page_size}
-use Rattle.stmt65.specs.Coding.{State, Fragment, Fixed, Single, byte_fragment, is_short, kind_fragment, coding}
-use Rattle.stmt65.specs.Layout.{Layout}
 use Rattle.stmt65.specs.ModeLaws as mode
-use Rattle.stmt65.specs.ModeLaws.{IsModeOf, TakesMode}
 use Rattle.stmt65.proofs.Public.{needs_mode, takes_modes}
-use Rattle.map65.specs.ImageView.{AreBytes, ImageView}
-use Rattle.map65.specs.Targets.{target_of, word_of}
-use Rattle.da65.specs.BaseNames.{AreSound, Names}
-use Rattle.da65.specs.KnownNames.{KnowsConstants}
-use Rattle.da65.specs.ReassemblyLaw.{fragments_in, operand_fragment, row_fragments}
-use Rattle.da65.specs.Statements.{address_expr, operand_expr, operands_of, row_operands}
+use Rattle.map65.specs.Words.{AreBytes, ImageView, target_of, word_of}
 use Rattle.da65.proofs.Statements.StandsLaws.{at_some}
 use Rattle.da65.proofs.Names.TargetBounds.{byte-small}
 use Rattle.da65.proofs.Instructions.ValueLaws.{address_large, zero_page_small}

@@ -4,24 +4,13 @@ use Rattle.std.proofs.Common.{◌≡◌, ℕ, ◌+◌, ◌*◌, ◌≤◌, List,
 use Rattle.std.specs.Prelude.{IfSome, slice_index}
 use Rattle.std.specs.Option.{option_map}
 use Rattle.std.proofs.lemmas.List.{append-nil, drop-drop, drop-take, drop_more}
-use Rattle.isa65.specs.Mode.{len_of, row_len, row_of, size_of}
-use Rattle.isa65.specs.declared.mode.Mode.{Mode}
-use Rattle.isa65.specs.declared.row.OperandKind.{OperandKind}
+use Rattle.isa65.specs.Words.{len_of, row_len, row_of, size_of}
+use Rattle.da65.specs.Words.{Addr, AreSound, KnowsAll, Mode, Names, OperandKind, Row, address_expr, fragments_in, operand_expr, operand_fragment, operands_of, row_fragments, row_operands, zero_page_expr}
 use Rattle.isa65.specs.declared.row.OperandKind.TheVariants as kind
-use Rattle.isa65.specs.declared.row.Row.{Row}
 use Rattle.isa65.specs.declared.row.Row.TheVariants as row
-use Rattle.stmt65.specs.Views.{ExprView, OperandsView}
+use Rattle.stmt65.specs.Words.{Definition, ExprView, Fragment, OperandsView, source_value}
 use Rattle.stmt65.specs.Views as view
-use Rattle.stmt65.specs.Printed.{source_value}
-use Rattle.stmt65.specs.Symbols.{Definition}
-use Rattle.stmt65.specs.declared.directive.Directive.TheVariants.{Addr}
-use Rattle.stmt65.specs.Coding.{Fragment}
-use Rattle.map65.specs.ImageView.{AreBytes, ImageView}
-use Rattle.map65.specs.Targets.{target_of}
-use Rattle.da65.specs.BaseNames.{AreSound, Names}
-use Rattle.da65.specs.KnownNames.{KnowsAll}
-use Rattle.da65.specs.ReassemblyLaw.{fragments_in, operand_fragment, row_fragments}
-use Rattle.da65.specs.Statements.{address_expr, operand_expr, operands_of, row_operands, zero_page_expr}
+use Rattle.map65.specs.Words.{AreBytes, ImageView, target_of}
 use Rattle.da65.proofs.Statements.FragmentLaws.{FragmentsGive, no_fragments, single_gives, target_is}
 use Rattle.da65.proofs.Instructions.WorthLaws.{distance_worth_gives, word_worth_gives, zero_page_worth_gives}
 use Rattle.da65.proofs.Instructions.ValueLaws.{address_worth, zero_page_worth}

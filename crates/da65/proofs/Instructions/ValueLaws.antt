@@ -3,16 +3,10 @@ use Rattle.std.proofs.Common.{◌≡◌, ℕ, Bool, true, false, cond, eqb, ◌+
 use Rattle.std.specs.Prelude.{nat_lt, IfSome}
 use Rattle.std.proofs.Math.Bool.{and-false}
 use Rattle.std.proofs.lemmas.Bool.{ne_eqb}
-use Rattle.stmt65.specs.SourceLine.{Value, NumberValue, NameValue}
-use Rattle.stmt65.specs.declared.source_line.Minus.TheVariants.{Zero, One}
-use Rattle.stmt65.specs.Printed.{source_value}
-use Rattle.stmt65.specs.Symbols.{Definition, find_name, has_zero_page_size, is_known, value_in}
-use Rattle.map65.specs.ImageView.{ImageView}
-use Rattle.map65.specs.Names.{Base}
-use Rattle.da65.specs.BaseNames.{AreSound, IsBaseOf, Names}
-use Rattle.da65.specs.Statements.{address_expr, constant_base, expr_from, zero_page_expr}
-use Rattle.da65.specs.KnownNames.{Knows, KnowsAll, KnowsConstants, definition_of}
-use Rattle.da65.specs.ReassemblyLaw.{ExpressionsHaveTheirValues}
+use Rattle.stmt65.specs.Words.{Definition, NameValue, NumberValue, Value, find_name, has_zero_page_size, is_known, source_value, value_in}
+use Rattle.da65.specs.Words.{AreSound, ExpressionsHaveTheirValues, IsBaseOf, Knows, KnowsAll, KnowsConstants, Names, Zero, address_expr, constant_base, definition_of, expr_from, zero_page_expr}
+use Rattle.stmt65.specs.declared.source_line.Minus.TheVariants.{One}
+use Rattle.map65.specs.Words.{Base, ImageView}
 use Rattle.da65.proofs.Blocks.Knowledge.{first_of, knows_found}
 
 -- ---- bases

@@ -2,14 +2,10 @@
 use Rattle.std.proofs.Common.{◌≡◌, ℕ, ◌+◌, ◌*◌, ◌<◌, List, ◌∷◌, Some, refl, sym, ap, ◌∙◌, subst, length, ◌++◌, arith, []}
 use Rattle.std.proofs.lemmas.Bool.{lt-ltb}
 use Rattle.std.proofs.lemmas.List.Elements.{All-cons, All-nil}
-use Rattle.isa65.specs.declared.byte_order.ByteOrder.TheVariants.{LittleEndian}
-use Rattle.stmt65.specs.declared.directive.Directive.{Directive}
-use Rattle.stmt65.specs.Tables.{entry_len, order_of, low_number, entry_number}
+use Rattle.da65.specs.Words.{Directive, LittleEndian}
+use Rattle.stmt65.specs.Words.{Definition, Distance, Entry, Fragment, Value, ZeroPage, entry_in, entry_len, entry_limit, entry_number, fragment_bytes, fragment_fits, low_number, order_of, word_in}
 use Rattle.stmt65.proofs.Public.{entry_size, bytes_back, number_fits}
-use Rattle.map65.specs.ImageView.{AreBytes}
-use Rattle.stmt65.specs.SourceLine.{Value}
-use Rattle.stmt65.specs.Symbols.{Definition, word_in}
-use Rattle.stmt65.specs.Coding.{entry_limit, Fragment, ZeroPage, Entry, Distance, entry_in, fragment_fits, fragment_bytes}
+use Rattle.map65.specs.Words.{AreBytes}
 use Rattle.da65.proofs.Statements.FragmentLaws.{FragmentsGive, IsTarget, more_fragments, low_byte}
 use Rattle.da65.proofs.Instructions.ValueLaws.{IsWorth}
 

@@ -4,22 +4,12 @@ use Rattle.std.specs.Prelude.{IfSome, is_some, nat_lt, option_and_then}
 use Rattle.std.specs.Option.{option_map}
 use Rattle.std.proofs.lemmas.Bool.{and_parts}
 use Rattle.std.proofs.lemmas.List.Elements.{All-head, All-tail}
-use Rattle.isa65.specs.Cpu.{table_of}
-use Rattle.isa65.specs.Mode.{row_len, size_of, zero_page_of}
-use Rattle.isa65.specs.Opcodes.{Table, encoded, sibling_in}
-use Rattle.isa65.specs.declared.cpu.Cpu.{Cpu}
-use Rattle.isa65.specs.declared.mnemonic.Mnemonic.{Mnemonic}
-use Rattle.isa65.specs.declared.mode.Mode.{Mode}
-use Rattle.isa65.specs.declared.row.OperandKind.{OperandKind}
-use Rattle.isa65.specs.declared.row.Row.{Row}
+use Rattle.isa65.specs.Words.{Table, encoded, row_len, sibling_in, size_of, table_of, zero_page_of}
+use Rattle.da65.specs.Words.{Cpu, Mnemonic, Mode, Names, OperandKind, Row, both, is_forced, operand_expr, row_operands}
 use Rattle.isa65.specs.declared.row.Row.TheVariants as row
-use Rattle.stmt65.specs.Views.{ExprView, OperandsView}
+use Rattle.stmt65.specs.Words.{ExprView, MayBeForced, OperandsView}
 use Rattle.stmt65.specs.Views as view
-use Rattle.stmt65.specs.Printable.{MayBeForced}
-use Rattle.map65.specs.ImageView.{AreBytes}
-use Rattle.map65.specs.Targets.{word_of}
-use Rattle.da65.specs.BaseNames.{Names}
-use Rattle.da65.specs.Statements.{both, is_forced, operand_expr, row_operands}
+use Rattle.map65.specs.Words.{AreBytes, word_of}
 
 -- ---- bytes
 

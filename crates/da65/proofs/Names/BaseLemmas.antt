@@ -4,20 +4,13 @@ use Rattle.std.specs.Bool.{OnTrue}
 use Rattle.std.specs.Prelude.{if◌then◌else◌}
 use Rattle.std.specs.Option.{option_map}
 use Rattle.std.proofs.lemmas.Bool.{cases_eq, eq-eqb, ne_eqb}
-use Rattle.info65.specs.Names.{AreNames}
-use Rattle.info65.specs.declared.information.range.RangeType.{RangeType}
+use Rattle.info65.specs.Words.{AreNames}
+use Rattle.da65.specs.Words.{NameKind, RangeType, address_expr, base_name, constant_base, constant_offset, expr_from, is_base, is_constant, is_own, is_own_name, names_of, target_by, zero_page_expr}
 use Rattle.map65.proofs.Public.{base-none, base_law}
-use Rattle.map65.specs.MapView.{MapView}
-use Rattle.map65.specs.Names.{Base, base_at, has_name, kind_at, kind_by, place_in, place_of, text_at, text_by}
-use Rattle.map65.specs.Roles.{is_skip, role_at}
-use Rattle.map65.specs.declared.name.NameKind.{NameKind}
+use Rattle.map65.specs.Words.{Base, MapView, base_at, has_name, is_skip, kind_at, kind_by, place_in, place_of, role_at, text_at, text_by}
 use Rattle.map65.specs.declared.name.Place.TheVariants as place
-use Rattle.stmt65.specs.Printable.{IsNameLong}
+use Rattle.stmt65.specs.Words.{IsNameLong, TargetView}
 use Rattle.stmt65.specs.Views as view
-use Rattle.stmt65.specs.Views.{TargetView}
-use Rattle.da65.specs.BaseNames.{base_name, is_base, is_constant, is_own, names_of}
-use Rattle.da65.specs.Code.Bases.{constant_offset, is_own_name}
-use Rattle.da65.specs.Statements.{address_expr, constant_base, expr_from, target_by, zero_page_expr}
 use Rattle.da65.proofs.Names.NameTexts.{base-text}
 
 -- ---- the base of an address's name

@@ -2,19 +2,10 @@
 use Rattle.std.proofs.Common.{◌≡◌, ◌∙◌, inl, inr, ℕ, ◌+◌, ◌-◌, ◌<◌, Bool, true, false, not, length, Some, refl, sym, ap, subst, arith}
 use Rattle.std.proofs.lemmas.Bool.{false_from_ne_true, true≢false}
 use Rattle.std.proofs.lemmas.List.Folds.{list_any_at}
-use Rattle.map65.specs.Bases.{BaseLaw, IsInCode, IsOutside, LiesBy}
-use Rattle.map65.specs.ImageView.{is_inside}
-use Rattle.map65.specs.Items.{item_len, size_at}
-use Rattle.map65.specs.MapView.{MapView}
-use Rattle.map65.specs.Names.{Base, base_at, place_of, text_by}
-use Rattle.map65.specs.Roles.{is_skip, role_of}
-use Rattle.map65.specs.Spans.{addresses}
-use Rattle.map65.specs.declared.name.Place.{Place}
+use Rattle.map65.specs.Words.{Base, BaseLaw, IsInCode, IsOutside, LiesBy, MapView, addresses, base_at, is_inside, is_skip, item_len, place_of, role_of, size_at, text_by}
+use Rattle.da65.specs.Words.{NamesAreSound, Place, base_name, is_constant, names_of, skips}
 use Rattle.map65.specs.declared.name.Place.TheVariants as place
 use Rattle.map65.proofs.Public.{address-at, address-count, base_law, begun, inside-if, place_law, size-fits, within}
-use Rattle.da65.specs.BaseNames.{base_name, is_constant, names_of}
-use Rattle.da65.specs.Groups.{skips}
-use Rattle.da65.specs.ReassemblyLaw.{NamesAreSound}
 use Rattle.da65.proofs.Groups.DefinedLemmas.{Defined, defined-base}
 use Rattle.da65.proofs.Names.TargetBounds.{base-small}
 

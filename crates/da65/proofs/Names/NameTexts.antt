@@ -5,13 +5,10 @@ use Rattle.std.proofs.lemmas.Bool.Decides.{nat_tests}
 use Rattle.text65.specs.Digits.{hex_digit}
 use Rattle.text65.specs.Names.{has_name_form, is_reserved_word, is_word_byte}
 use Rattle.text65.proofs.Public.{long_word}
-use Rattle.info65.specs.Names.{AreNames, IsName, blank_name, covering, default_name, is_reserved, name_at}
-use Rattle.info65.specs.Views.{NameView}
-use Rattle.stmt65.specs.Names.{is_name}
-use Rattle.stmt65.specs.Printable.{IsNameLong}
+use Rattle.info65.specs.Words.{AreNames, IsName, NameView, blank_name, covering, default_name, is_reserved, name_at}
+use Rattle.stmt65.specs.Words.{IsNameLong, is_name}
 use Rattle.info65.proofs.Public.{last_name}
-use Rattle.map65.specs.MapView.{MapView}
-use Rattle.map65.specs.Names.{Base, base_at, base_by, given_base, entry_start, entry_base, is_referenced}
+use Rattle.map65.specs.Words.{Base, MapView, base_at, base_by, entry_base, entry_start, given_base, is_referenced}
 use Rattle.map65.proofs.Public.{entry_start-default, entry_start-given}
 
 -- a text that can be printed, and that reads as a name

@@ -3,27 +3,14 @@ use Rattle.std.proofs.Common.{◌≡◌, ◌∙◌, ℕ, zero, suc, ◌+◌, ◌
 use Rattle.std.specs.Prelude.{IfSome, slice_index}
 use Rattle.std.proofs.lemmas.Bool.{and_parts, cond_both, eqb-true, eqb-false, ltb-true}
 use Rattle.std.proofs.lemmas.List.Elements.{All-drop, All-head, All-tail}
-use Rattle.isa65.specs.Mode.{size_of}
-use Rattle.isa65.specs.Opcodes.{decoded}
-use Rattle.isa65.specs.declared.mnemonic.Mnemonic.{Mnemonic}
-use Rattle.isa65.specs.declared.op.Op.{Op}
+use Rattle.isa65.specs.Words.{decoded, size_of}
+use Rattle.da65.specs.Words.{Address, Direct, Instruction, Mnemonic, Op, Pattern, Return, Row, Two}
 use Rattle.isa65.specs.declared.row.OperandKind.TheVariants.{Word, Distance}
-use Rattle.isa65.specs.declared.row.Pattern.{Pattern}
-use Rattle.isa65.specs.declared.row.Pattern.TheVariants.{Direct}
-use Rattle.isa65.specs.declared.row.Row.{Row}
-use Rattle.isa65.specs.declared.row.Row.TheVariants.{One, Two}
-use Rattle.info65.specs.Names.{AreNames, blank_name, covering, name_at}
-use Rattle.info65.specs.Views.{NameView}
-use Rattle.info65.specs.Layouts.{layout_of}
+use Rattle.isa65.specs.declared.row.Row.TheVariants.{One}
+use Rattle.info65.specs.Words.{AreNames, NameView, blank_name, covering, layout_of, name_at}
 use Rattle.info65.specs.declared.information.range.Entry.{Entry}
-use Rattle.info65.specs.declared.information.range.Entry.TheVariants.{Instruction, Address, Return}
 use Rattle.info65.proofs.Public.{last_name}
-use Rattle.map65.specs.ImageView.{AreBytes, ImageView, IsPlaced, bytes_from, is_inside}
-use Rattle.map65.specs.Items.{item_len, size_at}
-use Rattle.map65.specs.MapView.{MapView, opcodes}
-use Rattle.map65.specs.Names.{Base, IsReferenced, base_at, is_referenced}
-use Rattle.map65.specs.Roles.{role_of}
-use Rattle.map65.specs.Targets.{byte_of, code_target, entry_of, entry_target, is_jump, only_inside, operand_target, return_target, row_target, target_at, target_for, word_of, word_target, target_of}
+use Rattle.map65.specs.Words.{AreBytes, Base, ImageView, IsPlaced, IsReferenced, MapView, base_at, byte_of, bytes_from, code_target, entry_of, entry_target, is_inside, is_jump, is_referenced, item_len, only_inside, opcodes, operand_target, return_target, role_of, row_target, size_at, target_at, target_for, target_of, word_of, word_target}
 use Rattle.map65.proofs.Public.{begun, size-fits, reference_law}
 use Rattle.da65.proofs.Names.NameTexts.{base-cases}
 use Rattle.da65.proofs.Statements.FragmentLaws.{target_is}

@@ -5,16 +5,13 @@ use Rattle.std.specs.List.{find, list_all}
 use Rattle.std.proofs.lemmas.Bool.{and_from, and_parts}
 use Rattle.std.proofs.lemmas.Bool.Decides.{nat_tests}
 use Rattle.text65.specs.Names.{has_name_form}
-use Rattle.info65.specs.Names.{AreNames, IsComment, blank_name, covering, has_comment_form, is_comment_byte}
-use Rattle.info65.specs.Segments.{AreSegments, IsSegment, segment_covering}
-use Rattle.info65.specs.Views.{InfoView, NameView, SegmentView}
-use Rattle.stmt65.specs.Printable.{IsNameLong, IsPrintable}
+use Rattle.info65.specs.Words.{AreNames, AreSegments, InfoView, IsComment, IsSegment, NameView, SegmentView, blank_name, covering, has_comment_form, is_comment_byte, segment_covering}
+use Rattle.stmt65.specs.Words.{IsNameLong, IsPrintable}
 use Rattle.stmt65.specs.Views as view
 use Rattle.std.proofs.lemmas.List.Elements.{All-head, All-tail}
 use Rattle.info65.proofs.Public.{last_name}
-use Rattle.map65.specs.MapView.{MapView}
-use Rattle.da65.specs.Comments.{comment_at, comment_by}
-use Rattle.map65.specs.Segments.{segment_at}
+use Rattle.map65.specs.Words.{MapView, segment_at}
+use Rattle.da65.specs.Words.{comment_at, comment_by}
 use Rattle.da65.proofs.Names.NameTexts.{text_long}
 use Rattle.da65.proofs.Statements.StandsLaws.{at_some}
 

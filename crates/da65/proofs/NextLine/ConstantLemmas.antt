@@ -5,15 +5,8 @@ use Rattle.std.proofs.lemmas.List.{get_or-drop, get_or-take, length-drop, length
 use Rattle.std.proofs.lemmas.List.Sums.{prefix_len-le-length, prefix_len_passes}
 use Rattle.std.specs.List.{list_all, list_any, prefix_len}
 use Rattle.std.specs.Prelude.{◌/◌, ◌%◌, ◌==◌, MatchOption, slice_index}
-use Rattle.map65.specs.Cells.{AreCellsOf, bit}
-use Rattle.map65.specs.ImageView.{end_of}
-use Rattle.map65.specs.MapView.{MapView}
-use Rattle.map65.specs.Names.{has_name}
-use Rattle.map65.specs.Roles.{role_of}
-use Rattle.da65.specs.BaseNames.{names_of}
-use Rattle.da65.specs.Code.NamedCells.{is_unnamed}
-use Rattle.da65.specs.Groups.{is_skip_range}
-use Rattle.da65.specs.Listing.{constant_lines, constants, has_constant_line}
+use Rattle.map65.specs.Words.{AreCellsOf, MapView, bit, end_of, has_name, role_of}
+use Rattle.da65.specs.Words.{constant_lines, constants, has_constant_line, is_skip_range, is_unnamed, names_of}
 use Rattle.da65.proofs.Names.BaseLemmas.{base_unnamed, constant_some}
 use Rattle.da65.proofs.NextLine.NextLemmas.{line_none, lines-here, lines-none}
 use Rattle.da65.proofs.Groups.SkipLemmas.{skip-in}

@@ -4,18 +4,8 @@ use Rattle.std.specs.List.{flat_map}
 use Rattle.std.specs.Prelude.{nat_lt, not}
 use Rattle.std.proofs.lemmas.Bool.{and_right, cases_lt, cond-false, cond-true}
 use Rattle.std.proofs.lemmas.Bool.Decides.{nat_tests}
-use Rattle.map65.specs.MapView.{MapView}
-use Rattle.map65.specs.Pieces.{is_in_run}
-use Rattle.map65.specs.Segments.{segment_at}
-use Rattle.map65.specs.Spans.{addresses}
-use Rattle.da65.specs.BaseNames.{names_of}
-use Rattle.da65.specs.Groups.{group_len}
-use Rattle.da65.specs.Lines.{IsFirstOf, IsGroupStart, after_group, group_left, groups_left, heading_count, heading_lines, headings_from, AreUnnamed}
-use Rattle.da65.specs.Listing.{ListingLine, comment_line, comment_lines, comments, forward_lines, forwards, group_lines, has_separator, opening_lines, plain, segment_lines, separator_lines, statement_lines}
-use Rattle.da65.specs.Marks.{has_marks}
-use Rattle.da65.specs.Segments.{is_same_segment, segment_before, segment_statement}
-use Rattle.da65.specs.Style.{style_of}
-use Rattle.da65.specs.declared.listing.style.Style.{Style}
+use Rattle.map65.specs.Words.{MapView, addresses, is_in_run, segment_at}
+use Rattle.da65.specs.Words.{AreUnnamed, IsFirstOf, IsGroupStart, ListingLine, Style, after_group, comment_line, comment_lines, comments, forward_lines, forwards, group_left, group_len, group_lines, groups_left, has_marks, has_separator, heading_count, heading_lines, headings_from, is_same_segment, names_of, opening_lines, plain, segment_before, segment_lines, segment_statement, separator_lines, statement_lines, style_of}
 use Rattle.da65.proofs.Groups.GroupLemmas.{group-some, groups-next}
 use Rattle.da65.proofs.Names.BaseLemmas.{base_unnamed}
 use Rattle.da65.proofs.NextLine.MarkLemmas.{unmarked, unnamed-comment}

@@ -2,24 +2,14 @@
 use Rattle.std.proofs.Common.{◌≡◌, ◌∙◌, ◌⊎◌, inl, inr, ℕ, ◌<◌, ◌≤◌, List, length, Some, None, true, refl, ap, sym, subst, arith}
 use Rattle.std.specs.Prelude.{is_some}
 use Rattle.std.proofs.lemmas.List.{length-take}
-use Rattle.isa65.specs.Mode.{len_of}
-use Rattle.isa65.specs.declared.op.Op.{Op}
-use Rattle.isa65.specs.declared.row.Row.{Row}
+use Rattle.isa65.specs.Words.{len_of}
+use Rattle.da65.specs.Words.{IsGroupIn, IsGroupOf, IsInstructionIn, IsStatementOf, Names, Op, RangeType, Row, instruction_in, is_forced, names_of, operands_of, row_operands, statement_for, statement_in}
 use Rattle.isa65.specs.declared.row.Row.TheVariants as row
-use Rattle.info65.specs.declared.information.range.RangeType.{RangeType}
 use Rattle.info65.specs.declared.information.range.RangeType.TheVariants.{Code}
-use Rattle.map65.specs.ImageView.{is_inside}
+use Rattle.map65.specs.Words.{MapView, code_size, is_inside, opcodes, role_of}
 use Rattle.map65.proofs.Public.{inside-if}
-use Rattle.map65.specs.MapView.{MapView, opcodes}
-use Rattle.map65.specs.Roles.{role_of}
 use Rattle.stmt65.specs.Views as view
-use Rattle.stmt65.specs.Views.{OperandsView, StatementView}
-use Rattle.da65.specs.BaseNames.{Names, names_of}
-use Rattle.da65.specs.Code.ListedGroups.{IsGroupIn, IsInstructionIn}
-use Rattle.da65.specs.Instructions.{instruction_in}
-use Rattle.da65.specs.Lines.{IsStatementOf}
-use Rattle.da65.specs.Shapes.{IsGroupOf}
-use Rattle.da65.specs.Statements.{is_forced, operands_of, row_operands, statement_for, statement_in}
+use Rattle.stmt65.specs.Words.{OperandsView, StatementView}
 use Rattle.da65.specs.declared.listing.group.Group.{Group}
 use Rattle.da65.proofs.Groups.GroupLemmas.{group-some}
 use Rattle.da65.proofs.Groups.ShapeLemmas.{group-shape}
@@ -27,7 +17,6 @@ use Rattle.isa65.proofs.ModeLaws.{len-small}
 use Rattle.da65.proofs.Statements.EachStatement.{of_group}
 use Rattle.da65.proofs.Statements.Reassembly.{as-instruction, undefined, unreached}
 use Rattle.da65.proofs.Statements.StandsLaws.{begins_with}
-use Rattle.map65.specs.Items.{code_size}
 
 pub has-bytes : (m : MapView) (g : Group) → IsGroupIn m g → 0 < length g.bytes.now
 has-bytes m g is = omega (arith, is.len_is, group-some m g.index is.start.place is.start.inside is.start.shown)

@@ -6,18 +6,11 @@ use Rattle.std.proofs.lemmas.Bool.{eqb-true, not-false, or_parts, true≢false}
 use Rattle.std.proofs.lemmas.List.{nil_from_length}
 use Rattle.std.proofs.lemmas.List.Folds.{list_any_at}
 use denote.Bor.{Bor}
-use Rattle.info65.specs.Code.Names.{given_seen}
-use Rattle.info65.specs.declared.information.name.Given.{Given}
-use Rattle.info65.specs.Names.{blank_name, covering}
-use Rattle.info65.specs.Views.{NameView}
+use Rattle.info65.specs.Words.{NameView, blank_name, covering, given_seen}
+use Rattle.da65.specs.Words.{Given, IsUnmarked, comment_at, comment_by, has_comment, has_marks, style_of}
 use Rattle.info65.proofs.Public.{last_name}
-use Rattle.map65.specs.MapView.{MapView}
-use Rattle.map65.specs.Names.{Base, given_base, has_name}
+use Rattle.map65.specs.Words.{Base, MapView, given_base, has_name}
 use Rattle.map65.proofs.Public.{base-covered, base-none}
-use Rattle.da65.specs.Comments.{comment_at, comment_by}
-use Rattle.da65.specs.Lines.{IsUnmarked}
-use Rattle.da65.specs.Marks.{has_comment, has_marks}
-use Rattle.da65.specs.Style.{style_of}
 use Rattle.da65.proofs.NextLine.SegmentLemmas.{bare-segment}
 
 bare-comment : (m : MapView) (a : ℕ) → list_any has_comment m.info.names ≡ false → comment_at m a ≡ None

@@ -2,31 +2,17 @@
 use Rattle.std.proofs.Common.{◌≡◌, ◌≢◌, ◌∙◌, ℕ, zero, suc, ◌+◌, ◌-◌, ◌<◌, ◌≤◌, ◌∷◌, ◌++◌, Bool, true, false, List, Option, Some, None, drop, length, refl, ap, sym, subst, arith, append_assoc, []}
 use Rattle.std.specs.List.{flat_map}
 use Rattle.std.proofs.lemmas.Bool.{and_parts, cond-true}
-use Rattle.isa65.specs.declared.cpu.Cpu.{Cpu}
-use Rattle.info65.specs.Views.{SettingsView}
-use Rattle.map65.specs.Items.{item_len}
-use Rattle.map65.specs.MapView.{MapView, opcodes}
+use Rattle.da65.specs.Words.{Constant, Cpu, Ending, Header, IsConstant, IsFirstOf, IsGroupPlace, IsGroupStart, IsLabelNext, IsNext, IsPlace, ListingLine, ListingPlace, MayBeNext, Style, after_group, assignment_line, base_name, comment_at, comment_line, comment_lines, constant_lines, constants, constants_left, ending_lines, group_bytes, group_len, group_line, group_lines, groups_left, has_constant_line, has_empty_line, header_lines, is_base, left_from, line_text, lines_from, listing, listing_below, names_of, plain, statement_at, statement_lines, style_of, with_blank_after}
+use Rattle.info65.specs.Words.{SettingsView}
+use Rattle.map65.specs.Words.{MapView, addresses, is_skip, item_len, opcodes, role_of}
 use Rattle.map65.proofs.Public.{begun}
-use Rattle.map65.specs.Roles.{is_skip, role_of}
-use Rattle.map65.specs.Spans.{addresses}
-use Rattle.da65.specs.BaseNames.{base_name, is_base, names_of}
-use Rattle.da65.specs.Comments.{comment_at}
-use Rattle.da65.specs.Groups.{IsGroupPlace, group_bytes, group_len}
-use Rattle.da65.specs.Lines.{IsConstant, IsFirstOf, IsGroupStart, IsLabelNext, IsNext, IsPlace, MayBeNext, after_group, constants_left, groups_left, left_from, lines_from, with_blank_after}
-use Rattle.da65.specs.Listing.{ListingLine, assignment_line, comment_line, comment_lines, constant_lines, constants, ending_lines, group_line, group_lines, has_constant_line, has_empty_line, header_lines, line_text, listing, listing_below, plain, statement_lines}
-use Rattle.da65.specs.Statements.{statement_at}
-use Rattle.da65.specs.Style.{style_of}
-use Rattle.da65.specs.declared.listing.place.ListingPlace.{ListingPlace}
-use Rattle.da65.specs.declared.listing.place.ListingPlace.TheVariants.{Constant, Ending, Group, Header}
-use Rattle.da65.specs.declared.listing.style.Style.{Style}
+use Rattle.da65.specs.declared.listing.place.ListingPlace.TheVariants.{Group}
 use Rattle.da65.proofs.Groups.GroupLemmas.{groups-end, groups-first, groups-skip, place-next}
 use Rattle.da65.proofs.Groups.ShapeLemmas.{group-shape}
 use Rattle.da65.proofs.Groups.StepLemmas.{addresses-end, addresses-here}
 use Rattle.da65.proofs.Statements.LabelLaws.{group_takes}
-use Rattle.stmt65.specs.Columns.{fits_label}
-use Rattle.stmt65.specs.Printable.{TakesLabel}
+use Rattle.stmt65.specs.Words.{StatementView, TakesLabel, fits_label}
 use Rattle.stmt65.specs.Views as view
-use Rattle.stmt65.specs.Views.{StatementView}
 
 -- ---- one line after the other
 

@@ -2,17 +2,12 @@
 use Rattle.std.proofs.Common.{◌≡◌, ◌∙◌, ℕ, zero, suc, ◌+◌, ◌-◌, ◌<◌, true, false, List, length, Option, Some, None, refl, ap, arith, sym, []}
 use Rattle.std.proofs.lemmas.Bool.{cond-true, cond-false, cond_both, false_from_ne_true, true≢false}
 use Rattle.std.proofs.lemmas.Slice.Eq.{bytes_eq-Decides}
-use Rattle.map65.specs.MapView.{MapView}
-use Rattle.map65.specs.Pieces.{AreOneRun, is_in_run}
-use Rattle.map65.specs.Roles.{is_skip, role_of}
+use Rattle.map65.specs.Words.{AreOneRun, MapView, is_in_run, is_skip, role_of, segment_at}
 use Rattle.map65.proofs.Public.{in-run, joined-run, run_law}
-use Rattle.da65.specs.Groups.{begins, group_len, stride_at}
-use Rattle.da65.specs.Lines.{IsGroupStart}
-use Rattle.da65.specs.Segments.{is_same_segment, segment_before}
-use Rattle.map65.specs.Segments.{segment_at}
+use Rattle.da65.specs.Words.{IsGroupStart, begins, group_len, is_same_segment, segment_before, stride_at}
 use Rattle.da65.proofs.Groups.GroupLemmas.{begins-inside, begins-skip, begins-true, group-fits, group-some, holder, left-within, stride-group, stride-skip}
 use Rattle.da65.proofs.Groups.InsideLemmas.{group-piece}
-use Rattle.info65.specs.Segments.{segment_covering}
+use Rattle.info65.specs.Words.{segment_covering}
 
 segment-here : (m : MapView) (k : ℕ) → begins m (m.image.start + k) ≡ true → segment_before m (suc k) ≡ segment_at m (m.image.start + k)
 unfolding segment_before

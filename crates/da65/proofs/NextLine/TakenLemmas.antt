@@ -2,8 +2,8 @@
 use Rattle.std.proofs.Common.{arith, ◌∷◌, ◌≡◌, ℕ, List, Option, append_assoc}
 use Rattle.std.specs.Io.KnownBytes.{Appends}
 use Rattle.std.proofs.KnownBytes.{Appends-trans}
-use Rattle.da65.specs.Listing.{text_of}
-use Rattle.map65.specs.Device.{HasTaken, AppendsFront}
+use Rattle.da65.specs.Words.{text_of}
+use Rattle.map65.specs.Words.{AppendsFront, HasTaken}
 
 -- the first of the lines that were left is taken
 pub line_taken : {old mid new : Option (List ℕ)} {text : List ℕ} (lines rest : List (List ℕ)) (line : List ℕ) → HasTaken old mid text (text_of lines) → lines ≡ line ∷ rest → Appends mid new line → HasTaken old new text (text_of rest)

@@ -2,14 +2,8 @@
 use Rattle.std.proofs.Common.{◌≡◌, ◌<◌, ◌≤◌, ℕ, List, true, ap, get_or, length, arith, subst, sym, []}
 use Rattle.std.proofs.lemmas.Bool.Decides.{nat_tests}
 use Rattle.std.specs.Prelude.{Ok, Err, None, Option, Result, Some}
-use Rattle.info65.specs.Faults.{◌>>=◌}
-use Rattle.info65.specs.IncludeGroups.{AreIncludes}
-use Rattle.info65.specs.Includes.{blank_include, included, names_included, with_names}
-use Rattle.info65.specs.Values.{is_file_name}
-use Rattle.info65.specs.Views.{IncludeView, InfoView, NameView}
-use Rattle.info65.specs.declared.fault.InfoFault.{InfoFault}
-use Rattle.da65.specs.Files.{FileView, file_named}
-use Rattle.da65.specs.Outcome.{include_message, or_message, with_file, with_include}
+use Rattle.info65.specs.Words.{AreIncludes, IncludeView, InfoView, NameView, blank_include, included, is_file_name, names_included, with_names, ◌>>=◌}
+use Rattle.da65.specs.Words.{FileView, InfoFault, file_named, include_message, or_message, with_file, with_include}
 
 short_of : (name : List ℕ) → is_file_name name ≡ true → length name ≤ 255
 unfolding is_file_name

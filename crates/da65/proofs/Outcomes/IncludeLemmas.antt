@@ -2,14 +2,8 @@
 use Rattle.std.proofs.Common.{arith, ◌≡◌, ◌∙◌, ◌<◌, ◌≤◌, ◌+◌, ℕ, List, get_or, length, ap, drop, drop-cons, refl}
 use Rattle.std.proofs.lemmas.List.{drop_all, get_or_default}
 use Rattle.std.specs.Prelude.{None, Ok, Option, Result, Some, String, is_some, true}
-use Rattle.info65.specs.Code.Results.{Gives}
-use Rattle.info65.specs.Includes.{blank_include}
-use Rattle.info65.specs.Views.{IncludeView, InfoView, name_seen}
-use Rattle.info65.specs.declared.fault.InfoFault.{InfoFault}
-use Rattle.da65.specs.Code.Preparing.{Stops, listed_by}
-use Rattle.da65.specs.Files.{FileView}
-use Rattle.da65.specs.Outcome.{◌>>=◌, info_message, or_message, prepared_by, with_all_includes, with_file, with_includes, with_input}
-use Rattle.da65.specs.declared.runs.preparing.Stop.{Stop}
+use Rattle.info65.specs.Words.{Gives, IncludeView, InfoView, blank_include, name_seen}
+use Rattle.da65.specs.Words.{FileView, InfoFault, Stop, Stops, info_message, listed_by, or_message, prepared_by, with_all_includes, with_file, with_includes, with_input, ◌>>=◌}
 use Rattle.da65.specs.declared.runs.preparing.Stop.TheVariants.{Memory, Refused}
 
 -- ---- one include file after the other

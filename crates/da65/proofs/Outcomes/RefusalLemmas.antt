@@ -2,12 +2,8 @@
 use Rattle.std.proofs.Common.{ℕ, List, Option}
 use Rattle.std.specs.Prelude.{IfSome, None, Some, Result, Ok, Err}
 use Rattle.std.proofs.KnownBytes.{Appends-nil}
-use Rattle.da65.specs.Code.Refusals.{Tells}
-use Rattle.da65.specs.Outcome.{refusal_with}
-use Rattle.da65.specs.Running.{Writes}
-use Rattle.da65.specs.declared.runs.outcome.RunFault.{RunFault}
-use Rattle.da65.specs.declared.runs.outcome.RunFault.TheVariants.{Memory, Write, Messages}
-use Rattle.da65.specs.declared.runs.outcome.Status.{Status}
+use Rattle.da65.specs.Words.{Messages, RunFault, Status, Tells, Write, Writes, refusal_with}
+use Rattle.da65.specs.declared.runs.outcome.RunFault.TheVariants.{Memory}
 use Rattle.da65.specs.declared.runs.outcome.Status.TheVariants.{Refused}
 
 message_alone : (result : Result Status RunFault) (message : List ℕ) (out old new : Option (List ℕ)) → Tells result Refused message old new → Writes result (refusal_with message) out out old new

@@ -2,13 +2,8 @@
 use Rattle.std.proofs.Common.{arith, ◌≡◌, ℕ, false, List, Option}
 use Rattle.std.specs.Prelude.{IfOk, Result, Ok, Err}
 use Rattle.std.specs.Io.KnownBytes.{Appends}
-use Rattle.map65.specs.ImageView.{AreBytes}
-use Rattle.map65.specs.MapView.{IsSoundMap, MapView}
-use Rattle.da65.specs.Groups.{skips}
-use Rattle.da65.specs.Listing.{lines_of, text_of}
-use Rattle.da65.specs.RunLaw.{Took}
-use Rattle.da65.specs.declared.runs.outcome.RunFault.{RunFault}
-use Rattle.da65.specs.declared.runs.outcome.Status.{Status}
+use Rattle.map65.specs.Words.{AreBytes, IsSoundMap, MapView}
+use Rattle.da65.specs.Words.{RunFault, Status, Took, lines_of, skips, text_of}
 use Rattle.da65.proofs.Blocks.TextLaws.{text_gives_image}
 
 -- the lines of a map without skipped bytes were written, so the image is meant

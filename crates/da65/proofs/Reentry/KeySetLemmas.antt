@@ -5,7 +5,7 @@ use Rattle.std.proofs.lemmas.Bool.Decides.{eqb_tells}
 use Rattle.std.proofs.lemmas.List.{get_or-replicate, get_or_past, length-replicate, get_or-set_same, get_or-set_other}
 use Rattle.std.proofs.lemmas.Nat.Bits.{bit_at-zero, bit_at_set_other, bit_at_set_same, shr_and_one}
 use Rattle.std.proofs.Math.ListN.{replicate}
-use Rattle.da65.specs.Code.KeySet.{has_bit}
+use Rattle.da65.specs.Words.{has_bit}
 
 no_word : (n i : ℕ) → ◌≡◌ {A = ℕ} (get_or (replicate n 0) i 0) 0
 no_word n i = grind (arith, get_or-replicate, get_or_past, length-replicate)

@@ -6,22 +6,10 @@ use Rattle.std.specs.Str.{bytes_eq}
 use Rattle.std.proofs.Math.Bool.{and-or_distrib_right}
 use Rattle.std.proofs.lemmas.Bool.{cases_Bool, false≢true, false_from_ne_true}
 use Rattle.std.proofs.lemmas.Slice.Eq.{bytes_eq-Decides}
-use Rattle.info65.specs.Code.Segments.{segment_seen}
-use Rattle.info65.specs.Segments.{AreSegments, first_named, segment_covering, segment_key}
-use Rattle.info65.specs.Views.{InfoView, SegmentView}
-use Rattle.info65.specs.declared.information.segment.SegmentSpec.{SegmentSpec}
+use Rattle.info65.specs.Words.{AreSegments, InfoView, SegmentView, first_named, segment_covering, segment_key, segment_seen}
+use Rattle.da65.specs.Words.{Entered, IsAfter, IsGroupPlace, IsGroupStart, IsKeyed, IsKnownFrom, IsNew, SegmentSpec, by_key, enters_again, group_addresses, group_len, groups_from, has_had, is_back, is_entered_again, is_same_key, is_same_segment, leads_back, of_name, segment_before, segment_name}
 use Rattle.info65.proofs.Public.{covering_keyed, none_keyed, one_key, some_keyed}
-use Rattle.map65.specs.ImageView.{ImageView}
-use Rattle.map65.specs.MapView.{MapView}
-use Rattle.map65.specs.Pieces.{is_in_run}
-use Rattle.map65.specs.Roles.{is_skip, role_of}
-use Rattle.da65.specs.SegmentReentry.{enters_again, is_entered_again, leads_back, segment_name}
-use Rattle.da65.specs.Code.SegmentReentry.{IsAfter, IsKeyed, IsKnownFrom, IsNew, by_key, has_had, is_back, is_same_key, of_name}
-use Rattle.da65.specs.declared.runs.segment_reentry.Entered.{Entered}
-use Rattle.da65.specs.Groups.{IsGroupPlace, group_addresses, group_len, groups_from}
-use Rattle.da65.specs.Lines.{IsGroupStart}
-use Rattle.da65.specs.Segments.{is_same_segment, segment_before}
-use Rattle.map65.specs.Segments.{segment_at}
+use Rattle.map65.specs.Words.{ImageView, MapView, is_in_run, is_skip, role_of, segment_at}
 use Rattle.da65.proofs.Groups.GroupLemmas.{groups-end, groups-first, groups-next, groups-skip}
 use Rattle.da65.proofs.NextLine.SegmentLemmas.{bare-segment, segment-first, segment-next, segment-run, segment-skip}
 

@@ -4,30 +4,17 @@ use Rattle.std.specs.Prelude.{nat_lt}
 use Rattle.std.specs.Option.{option_map}
 use Rattle.std.proofs.lemmas.Bool.{cond_both, eqb-false, eqb-true, ltb-false, ltb-true}
 use Rattle.std.proofs.lemmas.List.{take_all}
-use Rattle.isa65.specs.Mode.{len_of}
+use Rattle.isa65.specs.Words.{Table, len_of}
 use Rattle.isa65.proofs.ModeLaws.{len-positive, len-small}
-use Rattle.isa65.specs.Opcodes.{Table}
-use Rattle.isa65.specs.declared.op.Op.{Op}
+use Rattle.da65.specs.Words.{Address, Character, Directive, Instruction, IsGroupOf, Names, Number, Op, RangeType, Return, Skipped, address_entry, bytes_statement, directive_of, entries_or_byte, entry_by, instruction_in, is_forced, item_in, limit_of, operands_of, return_entry, rts_to, statement_by, statement_for, statement_in, statement_of, target_by, written}
 use Rattle.info65.proofs.Public.{layout_entry}
-use Rattle.info65.specs.Layouts.{IsEntry, layout_of}
+use Rattle.info65.specs.Words.{IsEntry, layout_of}
 use Rattle.info65.specs.declared.information.range.Entry.{Entry}
-use Rattle.info65.specs.declared.information.range.Entry.TheVariants.{Instruction, Number, Address, Return, Character, Skipped}
-use Rattle.info65.specs.declared.information.range.RangeType.{RangeType}
-use Rattle.stmt65.specs.declared.directive.Directive.{Directive}
 use Rattle.stmt65.specs.declared.directive.Directive.TheVariants.{Word}
-use Rattle.stmt65.specs.Printable.{IsTable}
+use Rattle.stmt65.specs.Words.{IsTable, OperandsView, StatementView}
 use Rattle.stmt65.specs.Views as view
-use Rattle.stmt65.specs.Views.{OperandsView, StatementView}
-use Rattle.map65.specs.Items.{code_size}
-use Rattle.map65.specs.Names.{Base}
-use Rattle.map65.specs.Roles.{unit_of}
-use Rattle.map65.specs.Targets.{entry_of}
-use Rattle.da65.specs.BaseNames.{Names}
-use Rattle.da65.specs.Groups.{limit_of}
-use Rattle.da65.specs.Instructions.{instruction_in}
-use Rattle.da65.specs.ReassemblyLaw.{item_in}
-use Rattle.da65.specs.Shapes.{IsGroupOf, IsLineOf}
-use Rattle.da65.specs.Statements.{address_entry, bytes_statement, directive_of, entries_or_byte, entry_by, is_forced, operands_of, return_entry, rts_to, statement_by, statement_for, statement_in, statement_of, target_by, written}
+use Rattle.map65.specs.Words.{Base, code_size, entry_of, unit_of}
+use Rattle.da65.specs.Shapes.{IsLineOf}
 use Rattle.da65.proofs.Statements.EntryLemmas.{address_bytes, are_table, directive_is, few_entries, number_small}
 use Rattle.da65.proofs.Statements.StandsLaws.{begins_with}
 

@@ -1,20 +1,12 @@
 -- Entries of tables, by the bytes of a line.
 use Rattle.std.proofs.Common.{◌≡◌, ◌≢◌, ◌∙◌, inl, inr, ℕ, ◌==◌, ◌*◌, ◌%◌, ◌<◌, ◌≤◌, false, List, length, refl, sym, ap, arith}
 use Rattle.std.proofs.lemmas.Bool.{cond-true, eqb-false, lt-ltb}
-use Rattle.isa65.specs.declared.byte_order.ByteOrder.{ByteOrder}
-use Rattle.isa65.specs.declared.byte_order.ByteOrder.TheVariants.{LittleEndian, BigEndian}
-use Rattle.isa65.specs.Opcodes.{Table}
-use Rattle.info65.specs.Layouts.{IsNumber, layout_of}
-use Rattle.info65.specs.declared.information.range.Entry.TheVariants.{Instruction, Address, Return, Skipped}
-use Rattle.info65.specs.declared.information.range.RangeType.{RangeType}
-use Rattle.info65.specs.declared.information.range.RangeType.TheVariants.{AddrTable, Code, RtsTable, Skip, TextTable}
-use Rattle.stmt65.specs.declared.directive.Directive.{Directive}
-use Rattle.stmt65.specs.Tables.{entry_len}
-use Rattle.stmt65.specs.Printable.{IsTable}
+use Rattle.da65.specs.Words.{AddrTable, Address, AreEntries, BigEndian, ByteOrder, Directive, Instruction, IsGroupOf, LittleEndian, Names, RangeType, Return, RtsTable, Skip, Skipped, TextTable, directive_of, statement_for}
+use Rattle.isa65.specs.Words.{Table}
+use Rattle.info65.specs.Words.{IsNumber, layout_of}
+use Rattle.info65.specs.declared.information.range.RangeType.TheVariants.{Code}
+use Rattle.stmt65.specs.Words.{IsTable, entry_len}
 use Rattle.stmt65.specs.Views as view
-use Rattle.da65.specs.BaseNames.{Names}
-use Rattle.da65.specs.Shapes.{AreEntries, IsGroupOf}
-use Rattle.da65.specs.Statements.{directive_of, statement_for}
 
 -- an entry of a directive has so many bytes, more than one
 pub record IsEntryOf (unit : ℕ) (d : Directive) : Type 0 where

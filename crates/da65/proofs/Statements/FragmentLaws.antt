@@ -3,11 +3,8 @@ use Rattle.std.proofs.Common.{◌≡◌, ℕ, true, ◌%◌, ◌<◌, ◌≤◌,
 use Rattle.std.specs.List.{list_all, flat_map}
 use Rattle.std.proofs.lemmas.Bool.{lt-ltb}
 use Rattle.std.proofs.lemmas.List.Elements.{All-head, All-tail}
-use Rattle.stmt65.specs.SourceLine.{NumberValue, NumberDatum}
-use Rattle.stmt65.specs.Symbols.{Definition, value_in, is_known, word_in}
-use Rattle.stmt65.specs.Coding.{Fragment, Fixed, Single, is_fragment_known, fragment_fits, fragment_bytes, fragment_len, coding_len, datum_fragments, is_near, distance}
-use Rattle.map65.specs.ImageView.{AreBytes}
-use Rattle.map65.specs.Targets.{target_of}
+use Rattle.stmt65.specs.Words.{Definition, Fixed, Fragment, NumberDatum, NumberValue, Single, coding_len, datum_fragments, distance, fragment_bytes, fragment_fits, fragment_len, is_fragment_known, is_known, is_near, value_in, word_in}
+use Rattle.map65.specs.Words.{AreBytes, target_of}
 
 -- ---- numbers
 

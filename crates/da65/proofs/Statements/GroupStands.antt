@@ -3,31 +3,12 @@ use Rattle.std.proofs.Common.{◌≡◌, ℕ, zero, suc, Bool, ◌+◌, ◌-◌,
 use Rattle.std.specs.List.{flat_map}
 use Rattle.std.proofs.lemmas.List.{append-nil, length-take, length-take-le}
 use Rattle.std.proofs.lemmas.List.Elements.{All-take}
-use Rattle.isa65.specs.Cpu.{table_of}
-use Rattle.isa65.specs.CpuLaws.{table_of-sound}
-use Rattle.isa65.specs.Mode.{len_of}
-use Rattle.isa65.specs.OpcodeLaws.{encoded-decoded}
-use Rattle.isa65.specs.declared.op.Op.{Op}
-use Rattle.isa65.specs.declared.byte_order.ByteOrder.TheVariants.{LittleEndian}
-use Rattle.info65.specs.declared.information.range.RangeType.{RangeType}
-use Rattle.stmt65.specs.Views.{OperandsView, StatementView}
-use Rattle.stmt65.specs.SourceLine.{Value, NumberValue, NameValue, Operation, Instr, Data, SourceLine, Statement, Values}
-use Rattle.stmt65.specs.Printed.{entry_value, source_form, source_line}
-use Rattle.stmt65.specs.declared.source_line.Minus.TheVariants.{Zero, One}
-use Rattle.stmt65.specs.Symbols.{Definition}
-use Rattle.stmt65.specs.declared.directive.Directive.{Directive}
-use Rattle.stmt65.specs.declared.directive.Directive.TheVariants.{Word, Addr}
-use Rattle.stmt65.specs.Coding.{State, Fixed, Entry, coding, datum_fragments}
-use Rattle.stmt65.specs.Tables.{entry_len, order_of, entries, cut_text}
-use Rattle.stmt65.specs.Meaning.{has_unknown_cpu, cpu_after, defined_by, is_past_start, is_twice, operation_in}
-use Rattle.map65.specs.ImageView.{AreBytes, ImageView}
-use Rattle.map65.specs.Targets.{entry_of}
-use Rattle.da65.specs.BaseNames.{AreSound, Names}
-use Rattle.da65.specs.Instructions.{instruction_in}
-use Rattle.da65.specs.KnownNames.{KnowsAll, KnowsConstants}
-use Rattle.da65.specs.ReassemblyLaw.{GivesBytes, GroupGivesItsBytes, IsWritten, ItemGivesItsBytes, ModeIsChosenBack, fragments_in, item_in}
-use Rattle.da65.specs.Shapes.{IsGroupOf}
-use Rattle.da65.specs.Statements.{is_forced, statement_for, statement_in}
+use Rattle.isa65.specs.Words.{encoded-decoded, len_of, table_of, table_of-sound}
+use Rattle.da65.specs.Words.{Addr, AreSound, Directive, GivesBytes, GroupGivesItsBytes, IsGroupOf, IsWritten, ItemGivesItsBytes, KnowsAll, KnowsConstants, LittleEndian, ModeIsChosenBack, Names, Op, RangeType, Zero, fragments_in, instruction_in, is_forced, item_in, statement_for, statement_in}
+use Rattle.stmt65.specs.Words.{Data, Definition, Entry, Fixed, Instr, NameValue, NumberValue, OperandsView, Operation, SourceLine, State, Statement, StatementView, Value, Values, coding, cpu_after, cut_text, datum_fragments, defined_by, entries, entry_len, entry_value, has_unknown_cpu, is_past_start, is_twice, operation_in, order_of, source_form, source_line}
+use Rattle.stmt65.specs.declared.source_line.Minus.TheVariants.{One}
+use Rattle.stmt65.specs.declared.directive.Directive.TheVariants.{Word}
+use Rattle.map65.specs.Words.{AreBytes, ImageView, code_size, entry_of}
 use Rattle.da65.proofs.Statements.EachStatement.{OfCode, OfTable, of_group, of_item}
 use Rattle.da65.proofs.Statements.FragmentLaws.{FragmentsGive, fixed_gives, no_fragments}
 use Rattle.da65.proofs.Statements.LabelLaws.{group_takes, item_takes, label_read}
@@ -39,7 +20,6 @@ use Rattle.da65.proofs.Statements.StandsLaws.{Stands, after_is, begins_with, byt
 use Rattle.da65.proofs.Instructions.WrittenLaws.{first_byte, other_bytes}
 use Rattle.da65.proofs.Statements.TableLaws.{entries_give, text_give}
 use Rattle.isa65.proofs.ModeLaws.{len-positive}
-use Rattle.map65.specs.Items.{code_size}
 
 -- ---- instructions
 

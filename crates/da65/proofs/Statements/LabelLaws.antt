@@ -1,16 +1,9 @@
 -- The statement of a group may stand after a label.
 use Rattle.std.proofs.Common.{◌≡◌, ℕ, List, Option, Some, None, refl}
-use Rattle.isa65.specs.Opcodes.{Table}
-use Rattle.info65.specs.declared.information.range.RangeType.{RangeType}
+use Rattle.isa65.specs.Words.{Table}
+use Rattle.da65.specs.Words.{IsGroupOf, Names, RangeType, statement_for, statement_in}
 use Rattle.stmt65.specs.Views as view
-use Rattle.stmt65.specs.Views.{StatementView}
-use Rattle.stmt65.specs.SourceLine.{Statement}
-use Rattle.stmt65.specs.Printable.{TakesLabel}
-use Rattle.stmt65.specs.Printed.{source_line, with_label}
-use Rattle.stmt65.specs.Meaning.{operation_in}
-use Rattle.da65.specs.BaseNames.{Names}
-use Rattle.da65.specs.Shapes.{IsGroupOf}
-use Rattle.da65.specs.Statements.{statement_for, statement_in}
+use Rattle.stmt65.specs.Words.{Statement, StatementView, TakesLabel, operation_in, source_line, with_label}
 use Rattle.da65.proofs.Statements.EachStatement.{OfCode, of_group, of_item}
 
 -- what is read of it is an operation, with the label before it if there is one

@@ -6,32 +6,15 @@ use Rattle.std.specs.Option.{option_map}
 use Rattle.std.proofs.lemmas.Bool.{and_from, cond_both, lt-ltb}
 use Rattle.std.proofs.lemmas.List.{length-take-le}
 use Rattle.std.proofs.lemmas.List.Elements.{All-head, All-tail, All-take}
-use Rattle.isa65.specs.Mode.{len_of, row_of, size_of}
-use Rattle.isa65.specs.Opcodes.{Table}
-use Rattle.isa65.specs.declared.mode.Mode.{Mode}
-use Rattle.isa65.specs.declared.row.OperandKind.{OperandKind}
+use Rattle.isa65.specs.Words.{Table, len_of, row_of, size_of}
+use Rattle.da65.specs.Words.{IsGroupOf, ListingLine, Mode, Names, OperandKind, RangeType, Row, Style, address_expr, begins, constant_base, expr_from, group_bytes, line_text, names_of, operand_expr, operands_of, statement_at, statement_for, zero_page_expr}
 use Rattle.isa65.specs.declared.row.OperandKind.TheVariants as kind
-use Rattle.isa65.specs.declared.row.Row.{Row}
 use Rattle.isa65.specs.declared.row.Row.TheVariants as row
-use Rattle.info65.specs.Names.{AreNames}
-use Rattle.info65.specs.declared.information.range.RangeType.{RangeType}
+use Rattle.info65.specs.Words.{AreNames}
 use Rattle.stmt65.specs.Views as view
-use Rattle.stmt65.specs.Views.{ExprView, OperandsView, StatementView}
-use Rattle.stmt65.specs.Printable.{AreOperands, IsOperand, IsPrintable, MayBeLabelled}
-use Rattle.stmt65.specs.Printed.{HasLabelName, HasName, HasNames, HasNamesIn, PrintsAs, source_line, with_label}
-use Rattle.stmt65.specs.Code.Widths.{AreWordWide, IsInWidth, IsWordWide}
+use Rattle.stmt65.specs.Words.{AreOperands, AreWordWide, ExprView, HasLabelName, HasName, HasNames, HasNamesIn, IsInWidth, IsOperand, IsPrintable, IsWordWide, MayBeLabelled, OperandsView, PrintsAs, StatementView, source_line, with_label}
 use Rattle.stmt65.proofs.Public.{one_line, reads_back}
-use Rattle.map65.specs.ImageView.{AreBytes, IsPlaced}
-use Rattle.map65.specs.MapView.{MapView, opcodes}
-use Rattle.map65.specs.Names.{Base}
-use Rattle.map65.specs.Roles.{role_of}
-use Rattle.map65.specs.Targets.{entry_of, target_of}
-use Rattle.da65.specs.BaseNames.{Names, names_of}
-use Rattle.da65.specs.Groups.{begins, group_bytes}
-use Rattle.da65.specs.Listing.{ListingLine, line_text}
-use Rattle.da65.specs.Statements.{address_expr, constant_base, expr_from, operand_expr, operands_of, statement_at, statement_for, zero_page_expr}
-use Rattle.da65.specs.Shapes.{IsGroupOf}
-use Rattle.da65.specs.declared.listing.style.Style.{Style}
+use Rattle.map65.specs.Words.{AreBytes, Base, IsPlaced, MapView, entry_of, opcodes, role_of, target_of}
 use Rattle.da65.proofs.Statements.EachStatement.{of_group}
 use Rattle.da65.proofs.Statements.FragmentLaws.{target_is}
 use Rattle.da65.proofs.Groups.ShapeLemmas.{groups_are_groups}

@@ -2,17 +2,12 @@
 use Rattle.std.proofs.Common.{◌≡◌, ◌∙◌, ℕ, false, List, length, Option, Some, None, ap, refl, sym, take, arith}
 use Rattle.std.specs.Prelude.{is_some}
 use Rattle.std.proofs.lemmas.List.{take_all}
-use Rattle.isa65.specs.Mode.{len_of}
-use Rattle.isa65.specs.Opcodes.{Table}
-use Rattle.isa65.specs.declared.op.Op.{Op}
+use Rattle.isa65.specs.Words.{Table, len_of}
+use Rattle.da65.specs.Words.{Names, Op, TargetIsInRange, UnwrittenIsBytes, WrittenIsInstruction, bytes_statement, instruction_in, is_forced, operands_of, statement_in, statement_of, written}
 use Rattle.stmt65.specs.Views as view
-use Rattle.stmt65.specs.Views.{OperandsView}
-use Rattle.da65.specs.BaseNames.{Names}
-use Rattle.da65.specs.Instructions.{instruction_in}
-use Rattle.da65.specs.ReassemblyLaw.{TargetIsInRange, UnwrittenIsBytes, WrittenIsInstruction}
-use Rattle.da65.specs.Statements.{bytes_statement, is_forced, operands_of, statement_in, statement_of, written}
+use Rattle.stmt65.specs.Words.{OperandsView}
 use Rattle.da65.proofs.Statements.FragmentLaws.{target_is}
-use Rattle.map65.specs.Items.{code_size}
+use Rattle.map65.specs.Words.{code_size}
 
 -- all bytes of an item, if there are that many
 whole-item : (count : ℕ) (bytes : List ℕ) → count ≡ length bytes → bytes_statement count bytes ≡ view.bytes bytes

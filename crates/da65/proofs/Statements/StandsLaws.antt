@@ -3,16 +3,10 @@ use Rattle.std.proofs.Common.{arith, ◌≡◌, ℕ, false, ◌+◌, ◌≤◌, 
 use Rattle.std.specs.Prelude.{nat_lt, IfSome}
 use Rattle.std.specs.List.{flat_map, list_any}
 use Rattle.std.proofs.lemmas.Bool.{le-ltb}
-use Rattle.isa65.specs.Mode.{len_of}
-use Rattle.isa65.specs.Opcodes.{Table, decoded}
-use Rattle.isa65.specs.declared.cpu.Cpu.{Cpu}
-use Rattle.isa65.specs.declared.op.Op.{Op}
-use Rattle.stmt65.specs.SourceLine.{NumberDatum, Operation, Data, SourceLine}
-use Rattle.stmt65.specs.Symbols.{Definition}
-use Rattle.stmt65.specs.Coding.{State, Fragment, coding, datum_fragments}
-use Rattle.stmt65.specs.Meaning.{fragments_of, next_of, defined_by, has_unknown_cpu, has_no_form, is_undefined, is_twice, is_out_of_range, is_past_start, is_past_end, fault_of, bytes_of, cpu_after, after, operation_in}
-use Rattle.map65.specs.ImageView.{AreBytes}
-use Rattle.da65.specs.Instructions.{instruction_in}
+use Rattle.isa65.specs.Words.{Table, decoded, len_of}
+use Rattle.da65.specs.Words.{Cpu, Op, instruction_in}
+use Rattle.stmt65.specs.Words.{Data, Definition, Fragment, NumberDatum, Operation, SourceLine, State, after, bytes_of, coding, cpu_after, datum_fragments, defined_by, fault_of, fragments_of, has_no_form, has_unknown_cpu, is_out_of_range, is_past_end, is_past_start, is_twice, is_undefined, next_of, operation_in}
+use Rattle.map65.specs.Words.{AreBytes}
 use Rattle.da65.proofs.Statements.FragmentLaws.{FragmentsGive, data_give}
 
 -- The operation is coded by fragments that give these bytes, and leads to the CPU.

@@ -5,14 +5,10 @@ use Rattle.std.proofs.Math.Nat.{suc-mul}
 use Rattle.std.proofs.lemmas.Bool.{cond_both}
 use Rattle.std.proofs.lemmas.List.{length-drop, length-take-le, take-append-drop}
 use Rattle.std.proofs.lemmas.List.Elements.{All-drop, All-head, All-tail, All-take}
-use Rattle.stmt65.specs.SourceLine.{Datum, NumberDatum, StringDatum}
-use Rattle.stmt65.specs.Symbols.{Definition}
-use Rattle.stmt65.specs.Coding.{Fixed, Entry, datum_fragments}
-use Rattle.stmt65.specs.declared.directive.Directive.{Directive}
+use Rattle.stmt65.specs.Words.{Datum, Definition, Entry, Fixed, NumberDatum, StringDatum, cut_text, datum_fragments, entries, entry_len, entry_value, is_plain, onto_stretch, pieces}
+use Rattle.da65.specs.Words.{Directive}
 use Rattle.stmt65.specs.declared.directive.Directive.TheVariants.{Word}
-use Rattle.stmt65.specs.Printed.{entry_value}
-use Rattle.stmt65.specs.Tables.{entry_len, pieces, entries, is_plain, onto_stretch, cut_text}
-use Rattle.map65.specs.ImageView.{AreBytes}
+use Rattle.map65.specs.Words.{AreBytes}
 use Rattle.da65.proofs.Statements.FragmentLaws.{FragmentsGive, fixed_gives, no_fragments, single_gives}
 use Rattle.da65.proofs.Instructions.ValueLaws.{number_worth}
 use Rattle.da65.proofs.Instructions.WorthLaws.{entry_worth_gives}

@@ -1,18 +1,11 @@
 -- The definition of what a run lists its input by, held against small include files.
 use Rattle.std.proofs.Common.{◌≡◌, ℕ, Bool, List, ◌∷◌, Some, true, false, codes, refl, []}
 use Rattle.std.specs.Prelude.{Ok, Err, Result}
-use Rattle.isa65.specs.Mnemonic.{mnemonic_named}
+use Rattle.isa65.specs.Words.{mnemonic_named}
 use Rattle.text65.specs.Lines.{text_lines}
 use Rattle.text65.specs.Names.{is_reserved_word}
-use Rattle.info65.specs.Faults.{fault}
-use Rattle.info65.specs.Includes.{address_written, assignment_in, included, is_identifier, line_adds, line_in, name_adds, names_included, names_with, plain_name, trimmed, without_comment}
-use Rattle.info65.specs.Labels.{by_address}
-use Rattle.info65.specs.Lexemes.{number_in}
-use Rattle.info65.specs.Names.{default_name, is_like_default, is_reserved}
-use Rattle.info65.specs.Views.{IncludeView, InfoView, NameView, default_settings}
-use Rattle.info65.specs.declared.fault.InfoFaultKind.TheVariants.{BadInclude}
-use Rattle.da65.specs.Files.{FileView, file_named}
-use Rattle.da65.specs.Outcome.{include_message, missing_message, with_all_includes, with_includes}
+use Rattle.info65.specs.Words.{IncludeView, InfoView, NameView, address_written, assignment_in, by_address, default_name, default_settings, fault, included, is_identifier, is_like_default, is_reserved, line_adds, line_in, name_adds, names_included, names_with, number_in, plain_name, trimmed, without_comment}
+use Rattle.da65.specs.Words.{BadInclude, FileView, file_named, include_message, missing_message, with_all_includes, with_includes}
 
 -- an information file with these names and these include files
 abbrev info : List NameView → List IncludeView → InfoView

@@ -1,29 +1,13 @@
 -- The definition of the listing, held against worked examples.
 use Rattle.std.proofs.Common.{◌≡◌, refl, arith, subst, ℕ, List, ◌∷◌, []}
 use Rattle.std.specs.Prelude.{codes, decimal, ◌++◌}
-use Rattle.stmt65.specs.Tables.{entries, pieces, cut_text}
+use Rattle.stmt65.specs.Words.{comma_list, cut_text, entries, filled, line_of, operand_text, pieces}
 use Rattle.std.proofs.lemmas.Fmt.{decimal-digits_of}
-use Rattle.info65.specs.Names.{covering, covering_below, default_name}
+use Rattle.info65.specs.Words.{covering, covering_below, default_name, segment_covering}
 use Rattle.info65.specs.declared.information.range.RangeType.TheVariants as role
-use Rattle.info65.specs.Segments.{segment_covering}
-use Rattle.stmt65.specs.Line.{filled, line_of}
-use Rattle.stmt65.specs.Operands.{operand_text}
-use Rattle.stmt65.specs.Statements.{comma_list}
-use Rattle.map65.specs.Items.{item_len, item_start, size_at, full_len_at}
-use Rattle.map65.specs.Names.{base_at, has_name, entry_start, entry_base, is_referenced, place_of, refers}
-use Rattle.map65.specs.Pieces.{are_joined, is_in_run, is_joined, is_own}
-use Rattle.map65.specs.Roles.{role_at, role_in}
-use Rattle.map65.specs.Segments.{is_border, segment_at}
-use Rattle.map65.specs.Spans.{addresses, left_at}
-use Rattle.map65.specs.Targets.{operand_target, target_at, target_for, target_of}
-use Rattle.da65.specs.Comments.{comment_at}
-use Rattle.da65.specs.Groups.{begins, goes_on, group_addresses, group_len, more_at, stride_at}
-use Rattle.da65.specs.Instructions.{instruction_in}
-use Rattle.da65.specs.Listing.{ending_lines, group_lines, line_text, listing_below, opening_lines, segment_lines, separator, statement_lines, text_of}
-use Rattle.da65.specs.ListingRows.{WorkedListings, Example, IsListed, code_at, label, range, with_labels, with_ranges}
-use Rattle.da65.specs.Segments.{segment_before}
-use Rattle.da65.specs.Style.{style_of}
-use Rattle.da65.specs.Statements.{address_entry, address_expr, operands_of, return_entry, statement_for, statement_in, zero_page_expr}
+use Rattle.map65.specs.Words.{addresses, are_joined, base_at, entry_base, entry_start, full_len_at, has_name, is_border, is_in_run, is_joined, is_own, is_referenced, item_len, item_start, left_at, operand_target, place_of, refers, role_at, role_in, segment_at, size_at, target_at, target_for, target_of}
+use Rattle.da65.specs.Words.{Example, WorkedListings, address_entry, address_expr, begins, code_at, comment_at, ending_lines, goes_on, group_addresses, group_len, group_lines, instruction_in, label, line_text, listing_below, more_at, opening_lines, operands_of, range, return_entry, segment_before, segment_lines, separator, statement_for, statement_in, statement_lines, stride_at, style_of, text_of, with_labels, with_ranges, zero_page_expr}
+use Rattle.da65.specs.ListingRows.{IsListed}
 
 one_digit : decimal 1 ≡ codes "1"
 one_digit = decimal-digits_of 1 (omega arith) (omega arith)

@@ -1,10 +1,9 @@
 -- The definitions of a run's result, held against small inputs.
 use Rattle.std.proofs.Common.{◌≡◌, ℕ, List, Option, ◌∷◌, None, Some, Bool, true, false, codes, refl, []}
 use Rattle.std.specs.Prelude.{Ok}
-use Rattle.info65.specs.Views.{InfoView, SettingsView, default_settings}
-use Rattle.map65.specs.Image.{image_by, image_of}
-use Rattle.da65.specs.Files.{FileView}
-use Rattle.da65.specs.Outcome.{image_message, no_input_message, outcome_by, with_all_includes, with_input, with_includes, Outcome, ◌>>=◌}
+use Rattle.info65.specs.Words.{InfoView, SettingsView, default_settings}
+use Rattle.map65.specs.Words.{image_by, image_of}
+use Rattle.da65.specs.Words.{FileView, Outcome, image_message, no_input_message, outcome_by, with_all_includes, with_includes, with_input, ◌>>=◌}
 use Rattle.da65.specs.declared.runs.outcome.Status.TheVariants.{Refused}
 
 abbrev without_ranges : SettingsView → InfoView

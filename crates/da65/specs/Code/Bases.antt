@@ -1,11 +1,10 @@
 -- What a name says of its base.
 use Rattle.std.specs.Prelude.{ℕ, ◌==◌, Bool, false, Option, Some, None, if◌then◌else◌, option_map}
-use Rattle.map65.specs.MapView.{MapView}
-use Rattle.map65.specs.Names.{base_at}
-use Rattle.map65.specs.declared.name.NameKind.{NameKind}
+use Rattle.map65.specs.Words.{MapView, base_at}
+use Rattle.da65.specs.Types.{NameKind}
 use Rattle.da65.specs.BaseNames.{is_constant}
 use Rattle.da65.specs.Statements.{target_by}
-use Rattle.stmt65.specs.Views.{TargetView}
+use Rattle.stmt65.specs.Words.{TargetView}
 
 -- the name has no offset
 abbrev pub is_own_name : Option NameKind → Bool

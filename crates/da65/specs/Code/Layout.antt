@@ -1,6 +1,6 @@
 -- The limits of what the options say of a listing's layout.
 use Rattle.std.specs.Prelude.{◌≤◌, IfSome}
-use Rattle.info65.specs.Views.{IsColumn}
+use Rattle.info65.specs.Words.{IsColumn}
 use Rattle.da65.specs.declared.command_line.usage.Layout.{Layout}
 
 -- each number keeps the limits of its option

@@ -2,21 +2,18 @@
 use Rattle.std.specs.Prelude.{◌≡◌, ℕ, ◌+◌, ◌≤◌, Bool, List, Option, Some, length}
 use Rattle.std.specs.Borrow.{Bor}
 use Rattle.std.specs.Option.{option_copied}
-use Rattle.isa65.specs.declared.op.Op.{Op}
+use Rattle.da65.specs.Types.{ListingPlace, Op}
 use Rattle.info65.specs.declared.information.range.RangeType.TheVariants.{Code}
-use Rattle.map65.specs.MapView.{MapView, opcodes}
-use Rattle.map65.specs.Roles.{role_of}
+use Rattle.map65.specs.Words.{MapView, opcodes, role_of}
 use Rattle.da65.specs.BaseNames.{names_of}
 use Rattle.da65.specs.Groups.{group_bytes, group_len}
-use Rattle.stmt65.specs.Printable.{IsPrintable}
-use Rattle.stmt65.specs.Views.{OperandsView}
+use Rattle.stmt65.specs.Words.{IsPrintable, OperandsView}
 use Rattle.da65.specs.Instructions.{instruction_in}
 use Rattle.da65.specs.Lines.{IsGroupStart, AreUnnamed, IsLineOf, IsNext, MayFollow, group_left, groups_left, heading_lines, labelled_left, statement_line}
 use Rattle.da65.specs.Listing.{has_empty_line, line_text, segment_lines}
 use Rattle.da65.specs.Statements.{operands_of, statement_at}
 use Rattle.da65.specs.Style.{style_of}
 use Rattle.da65.specs.declared.listing.group.Group.{Group}
-use Rattle.da65.specs.declared.listing.place.ListingPlace.{ListingPlace}
 
 -- the group of the map that begins with its first byte; its statement can be printed, after its label if it has one
 pub record IsGroupIn (m : MapView) (g : Group) : Type 0 where

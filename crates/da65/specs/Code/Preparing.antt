@@ -1,13 +1,9 @@
 -- What the preparation of a run returns: what the run lists its input by, or why there is nothing to list.
 use Rattle.std.specs.Prelude.{◌≡◌, ℕ, List, Result, Ok, Err, get_or}
-use Rattle.info65.specs.Includes.{with_names}
-use Rattle.info65.specs.Names.{AreNames}
-use Rattle.info65.specs.Views.{IncludeView, InfoView, NameView}
-use Rattle.info65.specs.Code.Results.{Fails, Gives}
-use Rattle.info65.specs.declared.fault.InfoFault.{InfoFault}
+use Rattle.info65.specs.Words.{AreNames, Fails, Gives, IncludeView, InfoView, NameView, with_names}
+use Rattle.da65.specs.Types.{InfoFault, Stop}
 use Rattle.da65.specs.Files.{FileView}
 use Rattle.da65.specs.Outcome.{◌>>=◌, or_message, prepared_by, with_all_includes, with_file, with_input}
-use Rattle.da65.specs.declared.runs.preparing.Stop.{Stop}
 use Rattle.da65.specs.declared.runs.preparing.Stop.TheVariants.{Memory, Refused}
 
 -- a refusal is the one that is expected, unless memory ran out

@@ -1,11 +1,10 @@
 -- What the parts of a run that write a message have written, for each of their results.
 use Rattle.std.specs.Prelude.{◌≡◌, ℕ, ◌<◌, List, length, Option, Result, Ok, Err}
 use Rattle.std.specs.Io.KnownBytes.{Keeps, Appends}
-use Rattle.map65.specs.Device.{AppendsFront}
-use Rattle.da65.specs.declared.runs.outcome.Status.{Status}
+use Rattle.map65.specs.Words.{AppendsFront}
+use Rattle.da65.specs.Types.{Messages, RunFault, Status, Write}
 use Rattle.da65.specs.declared.runs.outcome.Status.TheVariants.{Refused}
-use Rattle.da65.specs.declared.runs.outcome.RunFault.{RunFault}
-use Rattle.da65.specs.declared.runs.outcome.RunFault.TheVariants.{Memory, Write, Messages}
+use Rattle.da65.specs.declared.runs.outcome.RunFault.TheVariants.{Memory}
 
 -- the messages were written whole, or the write failed and a prefix of them was written
 abbrev pub Tells : Result Status RunFault → Status → List ℕ → Option (List ℕ) → Option (List ℕ) → Type 0

@@ -2,15 +2,13 @@
 use Rattle.std.specs.Prelude.{◌≡◌, ℕ, ◌&&◌, ◌||◌, nat_eq, not, Bool, false, List, Option, None, Some, codes, map}
 use Rattle.std.specs.Option.{option_eq}
 use Rattle.std.specs.Str.{bytes_eq}
-use Rattle.info65.specs.Segments.{first_named}
-use Rattle.info65.specs.Views.{SegmentView}
-use Rattle.map65.specs.MapView.{MapView}
+use Rattle.info65.specs.Words.{SegmentView, first_named}
+use Rattle.map65.specs.Words.{MapView, segment_at}
 use Rattle.da65.specs.Code.KeySet.{has_bit}
 use Rattle.da65.specs.SegmentReentry.{enters_again, is_among, is_entered_again}
 use Rattle.da65.specs.Groups.{groups_from}
-use Rattle.map65.specs.Segments.{segment_at}
 use Rattle.da65.specs.Segments.{segment_before}
-use Rattle.da65.specs.declared.runs.segment_reentry.Entered.{Entered}
+use Rattle.da65.specs.Types.{Entered}
 
 -- the key is that of the segment's name; the default has none
 abbrev pub IsKeyed : List SegmentView → Option (List ℕ) → Option ℕ → Type 0

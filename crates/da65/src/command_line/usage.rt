@@ -3,10 +3,9 @@
 ghost use Rattle.std.specs.Prelude.{IfOk, IfSome, map, ◌≡◌, ◌≤◌};
 ghost use Rattle.std.specs.String.{string_bytes};
 ghost use Rattle.clap.specs.Words.{first_of, found_of, rows_of};
-ghost use Rattle.usage65.specs.Number.{decimal_in};
-ghost use Rattle.usage65.specs.Values.{Gives, given};
-ghost use Rattle.da65.specs.Code.Layout.{IsLayout};
-ghost use Rattle.da65.specs.Usage.{layout_in, options_in, usage_of};
+ghost use Rattle.usage65.specs.Words.{decimal_in, given};
+ghost use Rattle.usage65.specs.Values.{Gives};
+ghost use Rattle.da65.specs.Words.{IsLayout, layout_in, options_in, usage_of};
 
 use crate::command_line::command::this_program;
 use clap::ArgMatches;

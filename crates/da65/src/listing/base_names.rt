@@ -2,13 +2,9 @@
 
 ghost use Rattle.std.specs.Prelude.{◌≡◌, option_map};
 ghost use Rattle.std.specs.Bool.{OnTrue};
-ghost use Rattle.info65.specs.Names.{AreNames};
-ghost use Rattle.stmt65.specs.Printable.{IsNameLong};
-ghost use Rattle.stmt65.specs.Code.StatementViews.{expr_seen, target_seen};
-ghost use Rattle.da65.specs.BaseNames.{base_name, is_base, names_of};
-ghost use Rattle.da65.specs.Code.Bases.{constant_offset, is_own_name, target_at};
-ghost use Rattle.da65.specs.Groups.{is_defined};
-ghost use Rattle.da65.specs.Statements.{address_expr, zero_page_expr};
+ghost use Rattle.info65.specs.Words.{AreNames};
+ghost use Rattle.stmt65.specs.Words.{IsNameLong, expr_seen, target_seen};
+ghost use Rattle.da65.specs.Words.{address_expr, base_name, constant_offset, is_base, is_defined, is_own_name, names_of, target_at, zero_page_expr};
 
 use map65::{Map, NameBuf, NameKind, Place};
 use std::alloc::Allocator;

@@ -2,10 +2,10 @@
 
 ghost use Rattle.std.specs.Prelude.{◌≡◌, IfSome};
 ghost use Rattle.std.specs.Option.{option_copied};
-ghost use Rattle.stmt65.specs.Printable.{IsPrintable};
+ghost use Rattle.stmt65.specs.Words.{IsPrintable};
 ghost use Rattle.stmt65.specs.Views as view;
-ghost use Rattle.da65.specs.Comments.{comment_at, comment_by};
-ghost use Rattle.info65.specs.Names.{covering};
+ghost use Rattle.da65.specs.Words.{comment_at, comment_by};
+ghost use Rattle.info65.specs.Words.{covering};
 
 use crate::listing::listed_image::ListedImage;
 use info65::Info;

@@ -3,12 +3,9 @@
 ghost use Rattle.std.specs.Prelude.{◌≡◌, ◌+◌, ◌-◌, ◌<◌, ◌≤◌, ℕ, IfSome, false, length};
 ghost use Rattle.std.specs.Bool.{OnTrue};
 ghost use Rattle.std.specs.List.{list_all};
-ghost use Rattle.stmt65.specs.Printable.{IsNameLong};
-ghost use Rattle.map65.specs.Names.{has_name, place_of};
-ghost use Rattle.da65.specs.BaseNames.{base_name, is_constant, names_of};
-ghost use Rattle.da65.specs.Code.NamedCells.{is_unnamed, unnamed_len};
-ghost use Rattle.da65.specs.Lines.{IsAssignmentNext, IsConstant, IsConstantNext, MayBeConstantNext, PassesAll, PassesOver, PassesTo};
-ghost use Rattle.da65.specs.Listing.{has_constant_line};
+ghost use Rattle.stmt65.specs.Words.{IsNameLong};
+ghost use Rattle.map65.specs.Words.{has_name, place_of};
+ghost use Rattle.da65.specs.Words.{IsAssignmentNext, IsConstant, IsConstantNext, MayBeConstantNext, PassesAll, PassesOver, PassesTo, base_name, has_constant_line, is_constant, is_unnamed, names_of, unnamed_len};
 
 use crate::listing::base_names::put_base;
 use crate::listing::comment_lines::comment_at;

@@ -1,7 +1,7 @@
 //! The group that a line lists.
 
 ghost use Rattle.std.specs.Prelude.{◌≡◌};
-ghost use Rattle.da65.specs.Code.ListedGroups.{labelled_group};
+ghost use Rattle.da65.specs.Words.{labelled_group};
 
 /// The group that a line lists: bytes of one role that follow each other.
 #[derive(Clone, Copy)]

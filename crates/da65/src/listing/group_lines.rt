@@ -1,12 +1,10 @@
 //! The lines of a group: what stands before its label, its label and its statement.
 
 ghost use Rattle.std.specs.Prelude.{◌≡◌, ◌≢◌, ◌+◌, None};
-ghost use Rattle.stmt65.specs.Code.StatementViews.{operands_seen, statement_seen};
+ghost use Rattle.stmt65.specs.Words.{operands_seen, statement_seen};
 ghost use Rattle.stmt65.specs.Views as view;
-ghost use Rattle.map65.specs.ImageView.{AreBytes};
-ghost use Rattle.map65.specs.Roles.{role_of};
-ghost use Rattle.da65.specs.Code.ListedGroups.{AreOperandsIn, IsGroupIn, IsGroupLine, IsGroupNext, IsInstructionIn, IsNextFrom};
-ghost use Rattle.da65.specs.Lines.{IsGroupStart, IsLabelNext, IsStatementOf};
+ghost use Rattle.map65.specs.Words.{AreBytes, role_of};
+ghost use Rattle.da65.specs.Words.{AreOperandsIn, IsGroupIn, IsGroupLine, IsGroupNext, IsGroupStart, IsInstructionIn, IsLabelNext, IsNextFrom, IsStatementOf};
 
 use crate::listing::base_names::put_base;
 use crate::listing::group::Group;

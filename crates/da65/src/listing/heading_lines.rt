@@ -3,12 +3,10 @@
 ghost use Rattle.std.specs.Option.{option_copied};
 ghost use Rattle.std.specs.Bool.{OnFalse, OnTrue};
 ghost use Rattle.std.specs.Prelude.{IfSome, ◌+◌, ◌*◌, ◌≡◌, ◌≤◌, ◌<◌, length};
-ghost use Rattle.stmt65.specs.Printable.{IsNameLong};
-ghost use Rattle.da65.specs.Code.ListedGroups.{HasNoneBefore, IsGroupIn, IsHeading, IsSegmentLine, IsUnnamed};
-ghost use Rattle.da65.specs.Lines.{IsForwardLine, IsLineOf, segment_line};
-ghost use Rattle.da65.specs.Listing.{comment_lines, line_text, separator_lines};
-ghost use Rattle.da65.specs.Segments.{is_same_segment, segment_before};
-ghost use Rattle.map65.specs.Segments.{segment_at};
+ghost use Rattle.stmt65.specs.Words.{IsNameLong};
+ghost use Rattle.da65.specs.Words.{HasNoneBefore, IsForwardLine, IsGroupIn, IsHeading, IsSegmentLine, IsUnnamed, comment_lines, is_same_segment, line_text, segment_before, segment_line, separator_lines};
+ghost use Rattle.da65.specs.Lines.{IsLineOf};
+ghost use Rattle.map65.specs.Words.{segment_at};
 
 use crate::listing::base_names::put_base;
 use crate::listing::comment_lines::comment_at;

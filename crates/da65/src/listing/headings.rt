@@ -2,7 +2,7 @@
 
 ghost use Rattle.std.specs.Prelude.{◌==◌, ◌≡◌, length, not};
 ghost use Rattle.std.specs.List.{list_any};
-ghost use Rattle.da65.specs.Marks.{has_comment, has_marks};
+ghost use Rattle.da65.specs.Words.{has_comment, has_marks};
 
 use crate::listing::style::Style;
 use info65::Info;

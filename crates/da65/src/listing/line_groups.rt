@@ -2,11 +2,9 @@
 
 ghost use Rattle.std.specs.Prelude.{◌≡◌, ◌+◌, ◌<◌, ◌≤◌, true};
 ghost use Rattle.std.specs.List.{list_any};
-ghost use Rattle.info65.specs.Names.{AreNames};
-ghost use Rattle.map65.specs.ImageView.{IsPlaced, end_of, is_inside};
-ghost use Rattle.map65.specs.Items.{item_len};
-ghost use Rattle.map65.specs.Roles.{is_skip, role_at, role_of};
-ghost use Rattle.da65.specs.Groups.{goes_on, group_len, is_skip_range, is_whole, limit_at, limit_of, more_at, skips};
+ghost use Rattle.info65.specs.Words.{AreNames};
+ghost use Rattle.map65.specs.Words.{IsPlaced, end_of, is_inside, is_skip, item_len, role_at, role_of};
+ghost use Rattle.da65.specs.Words.{goes_on, group_len, is_skip_range, is_whole, limit_at, limit_of, more_at, skips};
 
 use crate::listing::base_names::is_defined;
 use info65::{RangeSpec, RangeType};

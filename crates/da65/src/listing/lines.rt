@@ -3,11 +3,9 @@
 ghost use Rattle.std.specs.Prelude.{◌≡◌, ◌≤◌, [], ◌∷◌, IfSome, OnOk, OnErr};
 ghost use Rattle.std.specs.Bool.{OnTrue, OnFalse};
 ghost use Rattle.std.specs.Io.KnownBytes.{Appends};
-ghost use Rattle.map65.specs.Device.{Counts, AppendsFront};
-ghost use Rattle.da65.specs.Groups.{IsGroupPlace};
-ghost use Rattle.da65.specs.Lines.{IsGroupStart, IsNext, IsPlace, LeadsTo, MayBeNextAt, groups_left, left_from};
-ghost use Rattle.da65.specs.Listing.{lines_of, text_of};
-ghost use Rattle.da65.specs.declared.listing.place.ListingPlace.TheVariants.{Constant, Group, Header};
+ghost use Rattle.map65.specs.Words.{AppendsFront, Counts};
+ghost use Rattle.da65.specs.Words.{Constant, Header, IsGroupPlace, IsGroupStart, IsNext, IsPlace, LeadsTo, MayBeNextAt, groups_left, left_from, lines_of, text_of};
+ghost use Rattle.da65.specs.declared.listing.place.ListingPlace.TheVariants.{Group};
 
 use crate::listing::constant_lines::{put_assignment, put_next_constant};
 use crate::listing::group_lines::{group_at, put_group_line, put_statement};

@@ -2,12 +2,9 @@
 
 ghost use Rattle.std.specs.Prelude.{◌≡◌, ◌+◌, ◌<◌, ◌≤◌, length, not};
 ghost use Rattle.std.specs.List.{list_any};
-ghost use Rattle.info65.specs.Names.{AreNames};
-ghost use Rattle.info65.specs.Segments.{AreSegments};
-ghost use Rattle.map65.specs.ImageView.{IsPlaced};
-ghost use Rattle.da65.specs.Groups.{is_skip_range};
-ghost use Rattle.da65.specs.Marks.{has_marks};
-ghost use Rattle.da65.specs.Style.{style_of};
+ghost use Rattle.info65.specs.Words.{AreNames, AreSegments};
+ghost use Rattle.map65.specs.Words.{IsPlaced};
+ghost use Rattle.da65.specs.Words.{has_marks, is_skip_range, style_of};
 
 use crate::listing::headings::has_marks;
 use crate::listing::line_groups::has_skip_range;
@@ -29,7 +26,7 @@ pub struct ListedImage<'a, A: Allocator = Global> {
 }
 
 impl<'a, A: Allocator> Model for ListedImage<'a, A> {
-    ghost use Rattle.map65.specs.MapView.{MapView};
+    ghost use Rattle.map65.specs.Words.{MapView};
 
     ghost Value = { MapView };
 

@@ -1,11 +1,9 @@
 //! The line of a statement.
 
 ghost use Rattle.std.specs.Prelude.{◌≡◌, ◌<◌};
-ghost use Rattle.stmt65.specs.Printable.{IsPrintable};
-ghost use Rattle.stmt65.specs.Code.StatementViews.{statement_seen};
+ghost use Rattle.stmt65.specs.Words.{IsPrintable, statement_seen};
 ghost use Rattle.stmt65.specs.Views as view;
-ghost use Rattle.da65.specs.Lines.{IsHeaderLine};
-ghost use Rattle.da65.specs.Listing.{line_text, plain};
+ghost use Rattle.da65.specs.Words.{IsHeaderLine, line_text, plain};
 
 use crate::listing::style::Style;
 use stmt65::{Line, Remarks, Statement, put_line};

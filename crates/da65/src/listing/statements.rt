@@ -1,16 +1,10 @@
 //! The statement of a group.
 
 ghost use Rattle.std.specs.Prelude.{◌≡◌, ◌≢◌, ◌+◌, ◌*◌, ◌<◌, ◌≤◌, ℕ, [], length, option_map, slice_index};
-ghost use Rattle.info65.specs.Names.{AreNames};
-ghost use Rattle.isa65.specs.Mode.{len_of, size_of};
-ghost use Rattle.isa65.specs.Opcodes.{Table};
-ghost use Rattle.stmt65.specs.SourceLine.{is_absolute};
-ghost use Rattle.stmt65.specs.Code.StatementViews.{expr_seen, operands_seen, statement_seen};
-ghost use Rattle.da65.specs.BaseNames.{names_of};
-ghost use Rattle.da65.specs.Code.ListedGroups.{operands_at};
-ghost use Rattle.da65.specs.Instructions.{instruction_in};
-ghost use Rattle.da65.specs.Shapes.{IsGroupOf};
-ghost use Rattle.da65.specs.Statements.{address_entry, is_forced, numbers, operand_expr, return_entry, statement_for};
+ghost use Rattle.info65.specs.Words.{AreNames};
+ghost use Rattle.isa65.specs.Words.{Table, len_of, size_of};
+ghost use Rattle.stmt65.specs.Words.{expr_seen, is_absolute, operands_seen, statement_seen};
+ghost use Rattle.da65.specs.Words.{IsGroupOf, address_entry, instruction_in, is_forced, names_of, numbers, operand_expr, operands_at, return_entry, statement_for};
 
 use crate::listing::base_names::{address_expr, target, zero_page_expr};
 use info65::{Entry, RangeType};

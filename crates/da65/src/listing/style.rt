@@ -1,10 +1,9 @@
 //! What the settings say of the lines of a listing.
 
 ghost use Rattle.std.specs.Prelude.{◌≡◌};
-ghost use Rattle.da65.specs.Listing.{has_empty_line};
-ghost use Rattle.da65.specs.Style.{columns_of, style_of};
-ghost use Rattle.info65.specs.Views.{AreInLimits};
-ghost use Rattle.stmt65.specs.Code.StatementViews.{statement_seen};
+ghost use Rattle.da65.specs.Words.{columns_of, has_empty_line, style_of};
+ghost use Rattle.info65.specs.Words.{AreInLimits};
+ghost use Rattle.stmt65.specs.Words.{statement_seen};
 
 use info65::Settings;
 use isa65::{Cpu, Mnemonic};

@@ -3,9 +3,8 @@
 ghost use Rattle.std.specs.Option.{option_copied};
 ghost use Rattle.std.specs.Prelude.{IfOk, map, ◌≡◌};
 ghost use Rattle.std.specs.String.{string_bytes};
-ghost use Rattle.info65.specs.Views.{name_seen};
-ghost use Rattle.da65.specs.Files.{file_named, files_seen};
-ghost use Rattle.da65.specs.NeededFiles.{needs_of, nothing};
+ghost use Rattle.info65.specs.Words.{name_seen};
+ghost use Rattle.da65.specs.Words.{file_named, files_seen, needs_of, nothing};
 
 use info65::{IncludeSpec, Info};
 use std::alloc::{AllocError, Allocator, Global};
@@ -48,7 +47,7 @@ pub struct Needs<A: Allocator = Global> {
 impl<A: Allocator> Model for Needs<A> {
     ghost use Rattle.std.specs.Prelude.{map};
     ghost use Rattle.std.specs.String.{string_bytes};
-    ghost use Rattle.info65.specs.Views.{name_seen};
+    ghost use Rattle.info65.specs.Words.{name_seen};
     ghost use Rattle.da65.specs.NeedsView.{NeedsView};
 
     ghost Value = { NeedsView };

@@ -1,7 +1,7 @@
 //! Sets of numbers below 65,536.
 
 ghost use Rattle.std.specs.Prelude.{◌≡◌, ◌||◌, ◌==◌, ℕ, false};
-ghost use Rattle.da65.specs.Code.KeySet.{has_bit};
+ghost use Rattle.da65.specs.Words.{has_bit};
 
 /// A set of numbers below 65,536: a bit for each. It has a fixed size, and allocates nothing.
 #[derive(Drop)]

@@ -2,7 +2,7 @@
 
 ghost use Rattle.std.specs.Prelude.{◌≡◌, ◌+◌, ◌≤◌, ◌++◌, decimal, length};
 ghost use Rattle.arrayvec.specs.ArrayVec.{array_vec_len};
-ghost use Rattle.da65.specs.Outcome.{image_message, include_message, info_message, missing_message, no_input_message, warnings_for};
+ghost use Rattle.da65.specs.Words.{image_message, include_message, info_message, missing_message, no_input_message, warnings_for};
 
 use arrayvec::ArrayVec;
 use info65::InfoFault;

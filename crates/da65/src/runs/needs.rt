@@ -1,11 +1,8 @@
 //! Which files a run needs, by its options and its information file.
 
 ghost use Rattle.std.specs.Prelude.{◌≡◌, IfOk, Result};
-ghost use Rattle.info65.specs.Code.Results.{Gives};
-ghost use Rattle.info65.specs.Reader.{information};
-ghost use Rattle.info65.specs.Views.{InfoView};
-ghost use Rattle.info65.specs.declared.fault.InfoFault.{InfoFault};
-ghost use Rattle.da65.specs.NeededFiles.{needs_in};
+ghost use Rattle.info65.specs.Words.{Gives, InfoView, information};
+ghost use Rattle.da65.specs.Words.{InfoFault, needs_in};
 
 use crate::runs::files::{Needs, needs_of, nothing};
 use info65::{Info, InfoFault, InfoFaultKind, Options, read_info};

@@ -1,9 +1,7 @@
 //! What a run lists its input by: what the information file says, with the names of its include files.
 
 ghost use Rattle.std.specs.Prelude.{◌≡◌, ◌≢◌, ◌<◌, ◌≤◌, Some, length};
-ghost use Rattle.da65.specs.Code.Preparing.{Adds, IsNameAt, NamesAll, Prepares, PreparesBy, PreparesWith, StopsFor, listed_by};
-ghost use Rattle.da65.specs.Files.{files_seen};
-ghost use Rattle.da65.specs.Outcome.{with_include};
+ghost use Rattle.da65.specs.Words.{Adds, IsNameAt, NamesAll, Prepares, PreparesBy, PreparesWith, StopsFor, files_seen, listed_by, with_include};
 
 use crate::runs::files::{File, file_named};
 use crate::runs::messages::{

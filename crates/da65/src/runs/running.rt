@@ -2,16 +2,8 @@
 
 ghost use Rattle.std.specs.Prelude.{◌≡◌, ◌-◌, ◌<◌, ◌≤◌, Ok, false, IfErr, IfOk, IsErrOf, Result, length};
 ghost use Rattle.std.specs.Io.KnownBytes.{Keeps};
-ghost use Rattle.info65.specs.declared.fault.InfoFault.{InfoFault};
-ghost use Rattle.map65.specs.Device.{TakesUpTo, has_failed};
-ghost use Rattle.map65.specs.Image.{read_limit};
-ghost use Rattle.map65.specs.ImageView.{AreBytes};
-ghost use Rattle.da65.specs.Files.{files_seen};
-ghost use Rattle.da65.specs.Groups.{skips};
-ghost use Rattle.da65.specs.Outcome.{done, image_message, outcome_by, outcome_of, prepared, prepared_by, warnings};
-ghost use Rattle.da65.specs.RunLaw.{Reassembles, Took};
-ghost use Rattle.da65.specs.Code.Refusals.{RefusesOrGivesUp, Tells};
-ghost use Rattle.da65.specs.Running.{InputCount, MessagesCount, OfBytes, OfRead, OutCount, ReadsFor, Writes, WritesFew};
+ghost use Rattle.da65.specs.Words.{InfoFault, InputCount, MessagesCount, OfBytes, OfRead, OutCount, ReadsFor, Reassembles, RefusesOrGivesUp, Tells, Took, Writes, WritesFew, done, files_seen, image_message, outcome_by, outcome_of, prepared, prepared_by, skips, warnings};
+ghost use Rattle.map65.specs.Words.{AreBytes, TakesUpTo, has_failed, read_limit};
 
 use crate::listing::line_groups::has_skipped;
 use crate::listing::lines::{Lines, write_lines};

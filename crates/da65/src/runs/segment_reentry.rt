@@ -2,10 +2,8 @@
 
 ghost use Rattle.std.specs.Prelude.{◌≡◌, true, false};
 ghost use Rattle.std.specs.Bool.{OnFalse};
-ghost use Rattle.da65.specs.Code.SegmentReentry.{HasHadToo, IsAfter, IsKeyed, IsKeyedAt, IsNew, has_had, is_back};
-ghost use Rattle.da65.specs.SegmentReentry.{is_entered_again};
-ghost use Rattle.map65.specs.Pieces.{is_in_run};
-ghost use Rattle.map65.specs.Segments.{segment_at};
+ghost use Rattle.da65.specs.Words.{HasHadToo, IsAfter, IsKeyed, IsKeyedAt, IsNew, has_had, is_back, is_entered_again};
+ghost use Rattle.map65.specs.Words.{is_in_run, segment_at};
 
 use crate::listing::line_groups::{group_len, is_skipped};
 use crate::runs::key_set::KeySet;

@@ -2,7 +2,7 @@
 use Rattle.std.specs.Prelude.{ℕ, Bool, List}
 use Rattle.std.specs.Str.{bytes_eq}
 use Rattle.std.specs.String.{string_bytes}
-use Rattle.da65.specs.Files.{FileView}
+use Rattle.da65.specs.Words.{FileView}
 use Rattle.da65_cli.specs.declared.include_files.Content.{Content}
 
 abbrev pub content_seen : Content → FileView

@@ -4,7 +4,7 @@ use Rattle.std.specs.Io.KnownBytes.{Appends, Keeps, append_known}
 use Rattle.da65.specs.declared.runs.outcome.RunFault.{RunFault}
 use Rattle.da65.specs.declared.runs.outcome.RunFault.TheVariants.{Memory, Write, Messages}
 use Rattle.da65.specs.declared.runs.outcome.Status.{Status}
-use Rattle.map65.specs.Device.{AppendsFront, one_more}
+use Rattle.map65.specs.Words.{AppendsFront, one_more}
 
 -- the listing and the messages were taken whole
 abbrev pub IsListed : Result Status RunFault → Type 0

@@ -1,8 +1,7 @@
 -- The classes of bytes, by a table.
 use Rattle.std.specs.Prelude.{ℕ, get_or}
-use Rattle.info65.specs.declared.syntax.lexeme.Class.{Class}
+use Rattle.info65.specs.Types.{CLASSES, Class}
 use Rattle.info65.specs.declared.syntax.lexeme.Class.TheVariants as class
-use Rattle.info65.specs.declared.syntax.lexeme.TheConstants.{CLASSES}
 
 -- the bit of a class
 abbrev pub bit_of : Class → ℕ

@@ -2,12 +2,9 @@
 use Rattle.std.specs.Prelude.{◌≤◌, ℕ, map}
 use Rattle.info65.specs.Values.{ValueView, a_comment, a_name, a_number, an_address, a_boolean, a_character, a_cpu, a_type}
 use Rattle.info65.specs.Groups.{AssignmentView, GroupView}
-use Rattle.info65.specs.declared.syntax.attribute.Form.{Form}
+use Rattle.info65.specs.Types.{Assignment, Form, Group, Value}
 use Rattle.info65.specs.declared.syntax.attribute.Form.TheVariants as form
-use Rattle.info65.specs.declared.syntax.assignment.Value.{Value}
 use Rattle.info65.specs.declared.syntax.assignment.Value.TheVariants as value
-use Rattle.info65.specs.declared.syntax.assignment.Assignment.{Assignment}
-use Rattle.info65.specs.declared.syntax.assignment.Group.{Group}
 
 abbrev pub value_seen : Value → ValueView
 value_seen (value.Name text) = a_name text.now

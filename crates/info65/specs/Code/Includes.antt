@@ -6,10 +6,7 @@ use Rattle.info65.specs.Includes.{included, names_included}
 use Rattle.info65.specs.Labels.{by_address}
 use Rattle.info65.specs.Names.{AreGiven}
 use Rattle.info65.specs.Views.{IncludeView, InfoView, NameView}
-use Rattle.info65.specs.declared.fault.InfoFault.{InfoFault}
-use Rattle.info65.specs.declared.fault.InfoFaultKind.{InfoFaultKind}
-use Rattle.info65.specs.declared.groups.include_groups.NamedFile.{NamedFile}
-use Rattle.info65.specs.declared.information.name.Given.{Given}
+use Rattle.info65.specs.Types.{Given, InfoFault, InfoFaultKind, NamedFile}
 
 abbrev pub named_seen : NamedFile → IncludeView
 named_seen n = record { file = n.file.now; comment_start = n.comment_start; ignore_unknown = n.ignore_unknown }

@@ -8,7 +8,7 @@ use Rattle.info65.specs.Labels.{named_at}
 use Rattle.info65.specs.Ranges.{has_address}
 use Rattle.info65.specs.Segments.{contains}
 use Rattle.info65.specs.Views.{NameView, SegmentView}
-use Rattle.info65.specs.declared.information.range.RangeSpec.{RangeSpec}
+use Rattle.info65.specs.Types.{RangeSpec}
 
 -- the first of the names that has this text
 abbrev pub text_at : List NameView → List ℕ → Option NameView

@@ -7,8 +7,7 @@ use Rattle.info65.specs.Labels.{names_said}
 use Rattle.info65.specs.Ranges.{ranges_of}
 use Rattle.info65.specs.Segments.{segments_of}
 use Rattle.info65.specs.Views.{NameView}
-use Rattle.info65.specs.declared.information.range.RangeSpec.{RangeSpec}
-use Rattle.info65.specs.declared.syntax.attribute.GroupKind.{GroupKind}
+use Rattle.info65.specs.Types.{GroupKind, RangeSpec}
 use Rattle.info65.specs.declared.syntax.attribute.GroupKind.TheVariants as group
 
 -- the group, if it is read again: a group RANGE or LABEL is not

@@ -6,8 +6,7 @@ use Rattle.info65.specs.Groups.{AssignmentView, GroupView}
 use Rattle.info65.specs.Ranges.{range_in, ranges_of}
 use Rattle.info65.specs.Segments.{segment_in, segments_of}
 use Rattle.info65.specs.Views.{NameView, SegmentView}
-use Rattle.info65.specs.declared.fault.InfoFaultKind.{InfoFaultKind}
-use Rattle.info65.specs.declared.information.range.RangeSpec.{RangeSpec}
+use Rattle.info65.specs.Types.{InfoFaultKind, RangeSpec}
 
 -- the fault of a group RANGE after the ranges of the table and these names
 abbrev pub IsRangeFault : List Bool → List NameView → List AssignmentView → Option InfoFaultKind → Type 0

@@ -1,7 +1,7 @@
 -- What contracts see of a name.
 use Rattle.std.specs.Prelude.{option_map}
 use Rattle.info65.specs.Views.{NameView}
-use Rattle.info65.specs.declared.information.name.Given.{Given}
+use Rattle.info65.specs.Types.{Given}
 
 abbrev pub given_seen : Given → NameView
 given_seen g = record { address = g.address; size = g.size; text = g.text.now; comment = option_map (λ c. c.now) g.comment }

@@ -3,7 +3,7 @@ use Rattle.std.specs.Prelude.{◌+◌, ◌-◌, ◌≤◌, ◌<◌, ◌&&◌, �
 use Rattle.std.specs.Int.Bits.{bit_and}
 use Rattle.info65.specs.Views.{NameView}
 use Rattle.info65.specs.declared.information.pool.Entry.{Entry}
-use Rattle.info65.specs.declared.information.pool.Span.{Span}
+use Rattle.info65.specs.Types.{Span}
 
 -- the bytes of the pool that a span is for
 abbrev pub bytes_of : List ℕ → Span → List ℕ

@@ -7,8 +7,7 @@ use Rattle.info65.specs.Lexemes.{KindView, semicolon}
 use Rattle.info65.specs.Reader.{Place, closed, outside, read, read_token}
 use Rattle.info65.specs.Tokens.{Stream, TokenView}
 use Rattle.info65.specs.Views.{OptionsView}
-use Rattle.info65.specs.declared.fault.InfoFault.{InfoFault}
-use Rattle.info65.specs.declared.syntax.assignment.Group.{Group}
+use Rattle.info65.specs.Types.{Group, InfoFault}
 
 abbrev pub is_semicolon : KindView → Bool
 is_semicolon semicolon = true

@@ -1,7 +1,7 @@
 -- What a call returns beside what the rules give: any call that allocates may be out of memory.
 use Rattle.std.specs.Prelude.{◌≡◌, ◌⊎◌, Result, Ok, Err}
 use Rattle.info65.specs.Faults.{out_of_memory}
-use Rattle.info65.specs.declared.fault.InfoFault.{InfoFault}
+use Rattle.info65.specs.Types.{InfoFault}
 
 -- a refusal is that of the definition, unless an allocation failed
 abbrev pub Fails : {A : Type 0} → InfoFault → Result A InfoFault → Type 0

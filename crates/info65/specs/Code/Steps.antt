@@ -2,13 +2,9 @@
 use Rattle.std.specs.Prelude.{◌≡◌, Option, Some, None, Result, Ok, Err, [], IsOk}
 use Rattle.info65.specs.Lexemes.{KindView, LexemeView, word, number, string, character, opening_brace, closing_brace, semicolon}
 use Rattle.info65.specs.Tokens.{Stream, TokenView, ended, refused, with_token}
-use Rattle.info65.specs.declared.syntax.token.TokenKind.{TokenKind}
+use Rattle.info65.specs.Types.{InfoFault, Lexeme, Next, Token, TokenKind}
 use Rattle.info65.specs.declared.syntax.token.TokenKind.TheVariants as kind
-use Rattle.info65.specs.declared.syntax.token.Token.{Token}
-use Rattle.info65.specs.declared.syntax.lexeme.Lexeme.{Lexeme}
-use Rattle.info65.specs.declared.syntax.lexer.Next.{Next}
 use Rattle.info65.specs.declared.syntax.lexer.Next.TheVariants as next
-use Rattle.info65.specs.declared.fault.InfoFault.{InfoFault}
 
 abbrev pub kind_seen : TokenKind → KindView
 kind_seen kind.Word = word

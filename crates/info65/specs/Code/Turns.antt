@@ -4,14 +4,12 @@ use Rattle.std.specs.Option.{option_to_list}
 use Rattle.info65.specs.Code.Steps.{seen}
 use Rattle.info65.specs.Tags.{tag_end, tag_step, tags_from}
 use Rattle.info65.specs.Tokens.{Stream}
-use Rattle.info65.specs.declared.fault.InfoFault.{InfoFault}
-use Rattle.info65.specs.declared.syntax.lexer.Next.{Next}
+use Rattle.info65.specs.Types.{InfoFault, Next, Tag}
 use Rattle.info65.specs.declared.syntax.lexer.Next.TheVariants as next
 use Rattle.info65.specs.declared.tags.place.Outcome.{Outcome}
 use Rattle.info65.specs.declared.tags.place.Place.{Place}
 use Rattle.info65.specs.declared.tags.place.Turn.{Turn}
 use Rattle.info65.specs.declared.tags.place.Turn.TheVariants.{Step, Done}
-use Rattle.info65.specs.declared.tags.tag.Tag.{Tag}
 
 abbrev pub stepped : Result Outcome InfoFault → Result Turn InfoFault
 stepped (Ok o) = Ok (Step o)

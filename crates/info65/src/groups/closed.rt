@@ -1,13 +1,7 @@
 //! The groups of an information file that are closed.
 
 ghost use Rattle.std.specs.Prelude.{◌≡◌, ◌++◌, IfErr, IfOk, map, option_map, option_to_list};
-ghost use Rattle.info65.specs.Code.Groups.{assignment_seen, group_seen};
-ghost use Rattle.info65.specs.Code.Kept.{kept_part};
-ghost use Rattle.info65.specs.Code.Names.{given_seen};
-ghost use Rattle.info65.specs.Faults.{out_of_memory};
-ghost use Rattle.info65.specs.Labels.{name_part};
-ghost use Rattle.info65.specs.Ranges.{range_part};
-ghost use Rattle.info65.specs.Reader.{group};
+ghost use Rattle.info65.specs.Words.{assignment_seen, given_seen, group, group_seen, kept_part, name_part, out_of_memory, range_part};
 
 use crate::fault::{InfoFault, InfoFaultKind};
 use crate::groups::group_list::GroupList;

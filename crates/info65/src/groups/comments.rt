@@ -1,8 +1,7 @@
 //! The comment that a group gives its name.
 
 ghost use Rattle.std.specs.Prelude.{◌≡◌, map, option_map};
-ghost use Rattle.info65.specs.Code.Groups.{assignment_seen};
-ghost use Rattle.info65.specs.Comments.{comment_in, lacks_name, unless_empty};
+ghost use Rattle.info65.specs.Words.{assignment_seen, comment_in, lacks_name, unless_empty};
 
 use crate::groups::group_values::{has, value_in};
 use crate::syntax::assignment::{Assignment, as_comment};

@@ -1,8 +1,7 @@
 //! What is given in groups.
 
 ghost use Rattle.std.specs.Prelude.{◌≡◌, map, option_map};
-ghost use Rattle.info65.specs.Code.Groups.{assignment_seen, group_seen, value_seen};
-ghost use Rattle.info65.specs.Groups.{given_before, global_given, global_part, has, has_instead, is_given, value_in};
+ghost use Rattle.info65.specs.Words.{assignment_seen, given_before, global_given, global_part, group_seen, has, has_instead, is_given, value_in, value_seen};
 
 use crate::syntax::assignment::{Assignment, Group, Value};
 use crate::syntax::attribute::{Attribute, GroupKind};

@@ -1,12 +1,7 @@
 //! The include files that groups ASMINC say.
 
 ghost use Rattle.std.specs.Prelude.{◌≡◌, ◌<◌, ◌+◌, ◌^◌, ◌++◌, IfErr, IfOk, Ok, length, map, option_map, option_to_list};
-ghost use Rattle.info65.specs.Code.Groups.{assignment_seen, group_seen};
-ghost use Rattle.info65.specs.Code.Includes.{named_seen};
-ghost use Rattle.info65.specs.Faults.{out_of_memory};
-ghost use Rattle.info65.specs.Code.Results.{Gives, Sees};
-ghost use Rattle.info65.specs.Groups.{AreAllFormed, AreFormed};
-ghost use Rattle.info65.specs.IncludeGroups.{has_room, include_in, include_part, includes_of};
+ghost use Rattle.info65.specs.Words.{AreAllFormed, AreFormed, Gives, Sees, assignment_seen, group_seen, has_room, include_in, include_part, includes_of, named_seen, out_of_memory};
 
 use crate::fault::{InfoFault, InfoFaultKind};
 use crate::groups::group_values::value_in;

@@ -1,10 +1,7 @@
 //! The names that groups LABEL and RANGE say.
 
 ghost use Rattle.std.specs.Prelude.{◌≡◌, ◌<◌, Ok, map, option_map};
-ghost use Rattle.info65.specs.Code.Groups.{assignment_seen};
-ghost use Rattle.info65.specs.Code.Names.{given_seen};
-ghost use Rattle.info65.specs.Code.Results.{Sees};
-ghost use Rattle.info65.specs.Labels.{label_in, label_sized, range_name};
+ghost use Rattle.info65.specs.Words.{Sees, assignment_seen, given_seen, label_in, label_sized, range_name};
 
 use crate::fault::InfoFaultKind;
 use crate::groups::comments::comment_in;

@@ -1,13 +1,7 @@
 //! The ranges that groups RANGE say.
 
 ghost use Rattle.std.specs.Prelude.{◌≡◌, ◌≤◌, ◌++◌, IfErr, IfOk, IfSome, map, option_to_list};
-ghost use Rattle.info65.specs.Closing.{range_fault};
-ghost use Rattle.info65.specs.Code.Groups.{assignment_seen, group_seen};
-ghost use Rattle.info65.specs.Code.Lookup.{IsRangeFault, RangesToo};
-ghost use Rattle.info65.specs.Faults.{out_of_memory};
-ghost use Rattle.info65.specs.Groups.{GroupView};
-ghost use Rattle.info65.specs.Ranges.{last_from, range_between, range_in, range_of_parts, range_part};
-ghost use Rattle.info65.specs.declared.information.range.RangeSpec.{RangeSpec};
+ghost use Rattle.info65.specs.Words.{GroupView, IsRangeFault, RangeSpec, RangesToo, assignment_seen, group_seen, last_from, out_of_memory, range_between, range_fault, range_in, range_of_parts, range_part};
 
 use crate::fault::{InfoFault, InfoFaultKind};
 use crate::groups::comments::lacks_name;

@@ -1,13 +1,7 @@
 //! The segments that groups SEGMENT say.
 
 ghost use Rattle.std.specs.Prelude.{◌≡◌, ◌≤◌, IfErr, IfOk, None, Ok, Some, map, option_map, option_to_list};
-ghost use Rattle.info65.specs.Closing.{segment_fault};
-ghost use Rattle.info65.specs.Code.Groups.{assignment_seen, group_seen};
-ghost use Rattle.info65.specs.Code.Lookup.{IsSegmentFault, SegmentsToo};
-ghost use Rattle.info65.specs.Code.Segments.{parts_seen, segment_seen};
-ghost use Rattle.info65.specs.Faults.{out_of_memory};
-ghost use Rattle.info65.specs.Code.Results.{Gives, Sees};
-ghost use Rattle.info65.specs.Segments.{segment_from, segment_in, segment_part, segments_of};
+ghost use Rattle.info65.specs.Words.{Gives, IsSegmentFault, Sees, SegmentsToo, assignment_seen, group_seen, out_of_memory, parts_seen, segment_fault, segment_from, segment_in, segment_part, segment_seen, segments_of};
 
 use crate::fault::{InfoFault, InfoFaultKind};
 use crate::groups::group_values::value_in;

@@ -4,9 +4,8 @@ ghost use Rattle.std.specs.Prelude.{◌≡◌, ◌≤◌, ◌==◌, [], drop, le
 ghost use Rattle.std.specs.Io.BufRead.{strip_last};
 ghost use Rattle.std.specs.List.{list_all, position_or_len, prefix_len, suffix_len};
 ghost use Rattle.text65.specs.Names.{is_blank};
-ghost use Rattle.info65.specs.Code.Names.{given_seen};
-ghost use Rattle.info65.specs.Code.Results.{Sees};
-ghost use Rattle.info65.specs.Includes.{address_written, as_address, assignment_in, is_identifier, line_in, trimmed, trimmed_end, without_comment};
+ghost use Rattle.info65.specs.Words.{Sees, address_written, assignment_in, given_seen, is_identifier, line_in, trimmed, trimmed_end, without_comment};
+ghost use Rattle.info65.specs.Includes.{as_address};
 
 use crate::fault::InfoFaultKind;
 use crate::information::name::Given;

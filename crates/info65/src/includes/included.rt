@@ -1,11 +1,7 @@
 //! The names of an information with those of an include file.
 
 ghost use Rattle.std.specs.Prelude.{Ok, option_map};
-ghost use Rattle.info65.specs.Code.Includes.{ReadsFile, name_result_seen};
-ghost use Rattle.info65.specs.Code.Names.{given_seen};
-ghost use Rattle.info65.specs.Code.Results.{Gives, Sees};
-ghost use Rattle.info65.specs.Includes.{unless_ignored, line_adds, optional_adds};
-ghost use Rattle.info65.specs.Names.{AreNames};
+ghost use Rattle.info65.specs.Words.{AreNames, Gives, ReadsFile, Sees, given_seen, line_adds, name_result_seen, optional_adds, unless_ignored};
 
 use crate::fault::{InfoFault, InfoFaultKind};
 use crate::includes::include::IncludeSpec;

@@ -1,15 +1,7 @@
 //! What an information file says.
 
 ghost use Rattle.std.specs.Prelude.{◌≡◌, ◌<◌, IfErr, IfOk, Ok, length, map};
-ghost use Rattle.info65.specs.Code.Groups.{group_seen};
-ghost use Rattle.info65.specs.Code.Includes.{Includes};
-ghost use Rattle.info65.specs.Code.Results.{Gives};
-ghost use Rattle.info65.specs.Faults.{out_of_memory};
-ghost use Rattle.info65.specs.Groups.{AreAllFormed, AreFormed, global_given};
-ghost use Rattle.info65.specs.IncludeGroups.{includes_of};
-ghost use Rattle.info65.specs.Reader.{information};
-ghost use Rattle.info65.specs.Segments.{segments_of};
-ghost use Rattle.info65.specs.Settings.{settings_of};
+ghost use Rattle.info65.specs.Words.{AreAllFormed, AreFormed, Gives, Includes, global_given, group_seen, includes_of, information, out_of_memory, segments_of, settings_of};
 
 use crate::fault::{InfoFault, InfoFaultKind};
 use crate::groups::include_groups::includes_of;

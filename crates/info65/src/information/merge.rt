@@ -2,14 +2,8 @@
 
 ghost use Rattle.std.specs.Prelude.{◌≡◌, IfSome, Ok, map, option_map, true};
 ghost use Rattle.std.specs.Option.{option_or, unwrap_or};
-ghost use Rattle.info65.specs.Code.Results.{Gives};
-ghost use Rattle.info65.specs.Attributes.{form_of};
-ghost use Rattle.info65.specs.Code.Groups.{IsAtMost, group_seen};
-ghost use Rattle.info65.specs.Groups.{AreFormed, global_given, value_in};
-ghost use Rattle.info65.specs.Settings.{settings_of};
+ghost use Rattle.info65.specs.Words.{AreFormed, Gives, IsAtMost, as_number, form_of, global_given, group_seen, is_file_name, name_seen, settings_of, value_in};
 ghost use Rattle.std.specs.String.{string_bytes};
-ghost use Rattle.info65.specs.Values.{as_number, is_file_name};
-ghost use Rattle.info65.specs.Views.{name_seen};
 
 use crate::fault::InfoFault;
 use crate::groups::group_values::global_value;

@@ -2,10 +2,7 @@
 
 ghost use Rattle.std.specs.Prelude.{◌≡◌, ◌+◌, ◌-◌, ◌<◌, ◌≤◌, ◌++◌, IfErr, IfOk, length, map, option_map};
 ghost use Rattle.std.specs.List.Sorted.{IsNonDecreasingBy};
-ghost use Rattle.info65.specs.Code.Pool.{AreAbove, AreBlocks, IsPool, IsWithin, ReachTo, block_start, bytes_of, entry_covers, entry_seen, optional, reach_of, span_of};
-ghost use Rattle.info65.specs.Code.Names.{given_seen};
-ghost use Rattle.info65.specs.Faults.{out_of_memory};
-ghost use Rattle.info65.specs.Names.{AreNames, covering, name_at};
+ghost use Rattle.info65.specs.Words.{AreAbove, AreBlocks, AreNames, IsPool, IsWithin, ReachTo, block_start, bytes_of, covering, entry_covers, entry_seen, given_seen, name_at, optional, out_of_memory, reach_of, span_of};
 
 use crate::fault::InfoFault;
 use crate::information::name::Given;

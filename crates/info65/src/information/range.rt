@@ -1,7 +1,7 @@
 //! A range of addresses and what its bytes are.
 
 ghost use Rattle.std.specs.Prelude.{◌≡◌};
-ghost use Rattle.info65.specs.Layouts.{row};
+ghost use Rattle.info65.specs.Words.{row};
 
 use isa65::ByteOrder;
 

@@ -1,10 +1,7 @@
 //! An index of names.
 
 ghost use Rattle.std.specs.Prelude.{◌≡◌, ℕ, Ok, map};
-ghost use Rattle.info65.specs.Code.Index.{IsFoundAt, numbered};
-ghost use Rattle.info65.specs.Code.Names.{given_seen};
-ghost use Rattle.info65.specs.Code.Results.{Gives};
-ghost use Rattle.info65.specs.Labels.{by_address};
+ghost use Rattle.info65.specs.Words.{Gives, IsFoundAt, by_address, given_seen, numbered};
 
 use crate::fault::{InfoFault, InfoFaultKind};
 use crate::groups::label_groups::label_in;

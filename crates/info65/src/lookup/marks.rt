@@ -1,8 +1,7 @@
 //! Tables with a cell for each address, which is set where the address is taken. They have none until one is set.
 
 ghost use Rattle.std.specs.Prelude.{◌≡◌, ◌≤◌, ◌<◌, ◌-◌, ◌+◌, ℕ, IfErr, IfOk, false, get_or, length};
-ghost use Rattle.info65.specs.Code.Index.{AreSetToo, any_in};
-ghost use Rattle.info65.specs.Faults.{out_of_memory};
+ghost use Rattle.info65.specs.Words.{AreSetToo, any_in, out_of_memory};
 
 use crate::fault::InfoFault;
 use std::alloc::Allocator;

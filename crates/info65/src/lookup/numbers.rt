@@ -1,7 +1,7 @@
 //! Rows of numbers that are allocated when the first of them is set.
 
 ghost use Rattle.std.specs.Prelude.{◌≡◌, ◌<◌, ◌≤◌, ℕ, IfErr, IfOk, get_or, length};
-ghost use Rattle.info65.specs.Faults.{out_of_memory};
+ghost use Rattle.info65.specs.Words.{out_of_memory};
 
 use crate::fault::InfoFault;
 use std::alloc::Allocator;

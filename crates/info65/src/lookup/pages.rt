@@ -1,8 +1,7 @@
 //! A number for each address, in pages that take memory when the first of their numbers is set.
 
 ghost use Rattle.std.specs.Prelude.{◌≡◌, ◌<◌, IfErr, IfOk, length};
-ghost use Rattle.info65.specs.Code.Numbers.{SamePages};
-ghost use Rattle.info65.specs.Faults.{out_of_memory};
+ghost use Rattle.info65.specs.Words.{SamePages, out_of_memory};
 
 use crate::fault::InfoFault;
 use crate::lookup::numbers::Numbers;

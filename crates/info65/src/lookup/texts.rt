@@ -1,7 +1,7 @@
 //! Where the texts of names stand.
 
 ghost use Rattle.std.specs.Prelude.{◌≡◌, ◌<◌};
-ghost use Rattle.info65.specs.Code.Texts.{hash_from, slot_of};
+ghost use Rattle.info65.specs.Words.{hash_from, slot_of};
 
 use crate::fault::InfoFault;
 use crate::lookup::numbers::Numbers;

@@ -1,8 +1,8 @@
 //! What is given in a group.
 
 ghost use Rattle.std.specs.Prelude.{◌≡◌, option_map};
-ghost use Rattle.info65.specs.Code.Groups.{value_seen};
-ghost use Rattle.info65.specs.Values.{as_address, as_boolean, as_character, as_comment, as_cpu, as_name, as_number, as_type};
+ghost use Rattle.info65.specs.Words.{as_boolean, as_character, as_comment, as_cpu, as_name, as_number, as_type, value_seen};
+ghost use Rattle.info65.specs.Values.{as_address};
 
 use crate::information::range::RangeType;
 use crate::syntax::attribute::{Attribute, GroupKind};

@@ -2,7 +2,7 @@
 //! type words.
 
 ghost use Rattle.std.specs.Prelude.{◌≡◌};
-ghost use Rattle.info65.specs.Attributes.{attribute_named, boolean_named, form_of, group_named, type_named};
+ghost use Rattle.info65.specs.Words.{attribute_named, boolean_named, form_of, group_named, type_named};
 
 use crate::information::range::RangeType;
 

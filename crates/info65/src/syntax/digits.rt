@@ -1,7 +1,7 @@
 //! Numbers by their digits.
 
 ghost use Rattle.std.specs.Prelude.{◌≡◌, ◌<◌, ◌≤◌, IfSome, length};
-ghost use Rattle.info65.specs.Digits.{number_of_digits};
+ghost use Rattle.info65.specs.Words.{number_of_digits};
 
 /// Returns the number that the digits write, or 2^32 if it is greater. Returns `None` if there is no digit, or a byte
 /// that is not a digit of this radix.

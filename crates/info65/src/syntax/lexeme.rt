@@ -2,10 +2,8 @@
 
 ghost use Rattle.std.specs.Prelude.{◌≡◌, ◌+◌, ◌-◌, ◌<◌, ◌≤◌, IfOk, IfSome, get_or, length};
 ghost use Rattle.std.specs.List.{prefix_len};
-ghost use Rattle.info65.specs.Lexemes.{character_at, in_class, lexeme_at, mark, number_at, number_in, starts_word, string_at, word_at};
-ghost use Rattle.info65.specs.Code.Classes.{bit_of, classes_of};
-ghost use Rattle.info65.specs.Code.Results.{Sees};
-ghost use Rattle.info65.specs.Code.Steps.{kind_seen, lexeme_seen};
+ghost use Rattle.info65.specs.Words.{Sees, bit_of, character_at, classes_of, in_class, kind_seen, lexeme_at, lexeme_seen, number_in, starts_word, string_at, word_at};
+ghost use Rattle.info65.specs.Lexemes.{mark, number_at};
 
 use crate::fault::{InfoFault, InfoFaultKind};
 use crate::syntax::digits::number_of_digits;

@@ -1,7 +1,7 @@
 //! The tokens of an information file, one by one.
 
 ghost use Rattle.std.specs.Prelude.{◌≡◌, ◌+◌, ◌≤◌, ◌<◌, ◌^◌, ℕ, length, true};
-ghost use Rattle.info65.specs.Tokens.{is_blank, opens_comment, stops, tokens_after, tokens_of};
+ghost use Rattle.info65.specs.Words.{is_blank, opens_comment, stops, tokens_after, tokens_of};
 
 use crate::fault::InfoFault;
 use crate::syntax::lexeme::lexeme_at;

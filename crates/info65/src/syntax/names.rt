@@ -2,7 +2,7 @@
 
 ghost use Rattle.std.specs.Prelude.{◌≡◌};
 ghost use Rattle.std.specs.List.{list_all};
-ghost use Rattle.info65.specs.Names.{default_name, has_comment_form, is_comment_byte, is_like_default, is_reserved, is_upper_hex};
+ghost use Rattle.info65.specs.Words.{default_name, has_comment_form, is_comment_byte, is_like_default, is_reserved, is_upper_hex};
 
 use text65::{hex_digit, is_reserved_word};
 

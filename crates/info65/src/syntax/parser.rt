@@ -1,19 +1,8 @@
 //! The groups of an information file, token by token.
 
 ghost use Rattle.std.specs.Prelude.{◌≡◌, ◌≤◌, ◌∷◌, ◌++◌, IfErr, IfOk, List, None, Ok, [], length, map};
-ghost use Rattle.info65.specs.Closing.{closing_fault};
-ghost use Rattle.info65.specs.Faults.{fault};
-ghost use Rattle.info65.specs.Code.Results.{Gives, Sees};
-ghost use Rattle.info65.specs.Code.Groups.{assignment_seen, value_seen};
-ghost use Rattle.info65.specs.Groups.{AssignmentView, GroupView};
-ghost use Rattle.info65.specs.Code.Reading.{AlwaysMoves, Leads, Moves, ReadsGroup, TakesToken, is_semicolon};
-ghost use Rattle.info65.specs.Reader.{attribute_at, assigned, closed, closed_by, group, groups_of, inside, one, opening, outside, read, read_token, value_at, valued, wanted};
-ghost use Rattle.info65.specs.Code.Steps.{kind_seen, seen};
-ghost use Rattle.info65.specs.Tokens.{with_token};
-ghost use Rattle.info65.specs.declared.syntax.attribute.GroupKind.{GroupKind};
-ghost use Rattle.info65.specs.declared.syntax.attribute.Attribute.{Attribute};
-ghost use Rattle.info65.specs.declared.fault.InfoFaultKind.TheVariants.{Expected};
-ghost use Rattle.info65.specs.declared.syntax.token.TokenKind.TheVariants.{Word};
+ghost use Rattle.info65.specs.Words.{AlwaysMoves, AssignmentView, Attribute, Expected, Gives, GroupKind, GroupView, Leads, Moves, ReadsGroup, Sees, TakesToken, Word, assigned, assignment_seen, attribute_at, closed, closed_by, closing_fault, fault, group, groups_of, inside, is_semicolon, kind_seen, one, opening, outside, read, read_token, seen, value_seen, valued, wanted, with_token};
+ghost use Rattle.info65.specs.Reader.{value_at};
 
 use crate::fault::{InfoFault, InfoFaultKind};
 use crate::groups::closed::Closed;

@@ -1,10 +1,7 @@
 //! Values of attributes.
 
 ghost use Rattle.std.specs.Prelude.{◌≡◌, option_map};
-ghost use Rattle.info65.specs.Code.Groups.{value_seen};
-ghost use Rattle.info65.specs.Code.Results.{Sees};
-ghost use Rattle.info65.specs.Code.Steps.{seen};
-ghost use Rattle.info65.specs.Values.{address_value, are_printable, boolean_of, boolean_value, comment_value, cpu_value, is_file_name, is_on_command_line, label_value, name_value, number_value, type_value, value_of};
+ghost use Rattle.info65.specs.Words.{Sees, address_value, are_printable, boolean_of, boolean_value, comment_value, cpu_value, is_file_name, is_on_command_line, label_value, name_value, number_value, seen, type_value, value_of, value_seen};
 
 use crate::fault::{InfoFault, InfoFaultKind};
 use crate::information::options::Options;

@@ -1,9 +1,7 @@
 //! Where the reader of the lines `#: ..` is, and where a token leads from there.
 
 ghost use Rattle.std.specs.Prelude.{◌≡◌};
-ghost use Rattle.info65.specs.Code.Steps.{kind_seen, seen};
-ghost use Rattle.info65.specs.Code.Turns.{done, stepped, turn_of};
-ghost use Rattle.info65.specs.Tags.{at_assigned, at_closed, at_inside, at_opening, at_outside, at_valued, attributed, ended_at, tag_end, tag_step};
+ghost use Rattle.info65.specs.Words.{at_assigned, at_closed, at_inside, at_opening, at_outside, at_valued, attributed, done, ended_at, kind_seen, seen, stepped, tag_end, tag_step, turn_of};
 
 use crate::fault::{InfoFault, InfoFaultKind};
 use crate::syntax::lexer::Next;

@@ -2,9 +2,7 @@
 
 ghost use Rattle.std.specs.Prelude.{[], ◌≡◌, ◌++◌, ◌≤◌, OnOk, length};
 ghost use Rattle.std.specs.Option.{option_to_list};
-ghost use Rattle.info65.specs.Code.Results.{Gives};
-ghost use Rattle.info65.specs.Code.Turns.{Turns};
-ghost use Rattle.info65.specs.Tags.{tags_from, tags_of};
+ghost use Rattle.info65.specs.Words.{Gives, Turns, tags_from, tags_of};
 
 use crate::fault::InfoFault;
 use crate::syntax::lexer::Lexer;

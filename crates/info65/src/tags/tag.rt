@@ -1,7 +1,8 @@
 //! Groups of the lines `#: ..`, and what is given in them.
 
 ghost use Rattle.std.specs.Prelude.{◌≡◌, ◌≤◌, IsTrue};
-ghost use Rattle.info65.specs.Tags.{blank_tag, is_backward, is_value, lacks, tag_attribute, tag_named, value_at, with_value};
+ghost use Rattle.info65.specs.Words.{blank_tag, is_backward, is_value, lacks, tag_attribute, tag_named, with_value};
+ghost use Rattle.info65.specs.Tags.{value_at};
 
 /// What a group says.
 #[derive(Clone, Copy, Debug, PartialEq, Eq)]

@@ -1,7 +1,7 @@
 //! The text of the lines `#: ..`.
 
 ghost use Rattle.std.specs.Prelude.{◌≡◌, ◌==◌, IfOk, length, slice_index};
-ghost use Rattle.info65.specs.Tags.{spot_after, tagged_byte, tagged_text};
+ghost use Rattle.info65.specs.Words.{spot_after, tagged_byte, tagged_text};
 
 use std::alloc::{AllocError, Allocator};
 

@@ -1,7 +1,7 @@
 -- How a cell is packed: beside what `Cells` says of it, the bit above the name's says whether a segment border stands before the address.
 use Rattle.std.specs.Prelude.{◌≡◌, ◌==◌, ◌+◌, ◌*◌, ◌/◌, ◌%◌, ◌<◌, ◌&&◌, not, ℕ, Bool, false, List, length, slice_index, Option, Some, None, if◌then◌else◌}
-use Rattle.info65.specs.Views.{SegmentView}
-use Rattle.info65.specs.declared.information.range.RangeType.{RangeType}
+use Rattle.info65.specs.Words.{SegmentView}
+use Rattle.map65.specs.Types.{RangeType}
 use Rattle.info65.specs.declared.information.range.RangeType.TheVariants as role
 use Rattle.map65.specs.Cells.{bit, code_of}
 use Rattle.map65.specs.Items.{item_len}

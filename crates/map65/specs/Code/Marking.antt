@@ -1,10 +1,8 @@
 -- Cells while they are written: first the roles, range by range, then the borders, segment by segment, then the lengths, item by item, and the names.
 use Rattle.std.specs.Prelude.{◌≡◌, ◌-◌, ◌/◌, ◌%◌, ◌<◌, ◌≤◌, ◌&&◌, not, ℕ, Bool, true, false, nat_le, nat_lt, List, length, slice_index, take, Option, Some, None, is_some, if◌then◌else◌}
 use Rattle.std.specs.List.{list_any}
-use Rattle.info65.specs.Names.{covering, covers, name_at}
-use Rattle.info65.specs.Views.{NameView}
-use Rattle.info65.specs.declared.information.range.RangeSpec.{RangeSpec}
-use Rattle.info65.specs.declared.information.range.RangeType.{RangeType}
+use Rattle.info65.specs.Words.{NameView, covering, covers, name_at}
+use Rattle.map65.specs.Types.{RangeSpec, RangeType}
 use Rattle.map65.specs.ImageView.{ImageView, is_inside}
 use Rattle.map65.specs.MapView.{MapView}
 use Rattle.map65.specs.Names.{refers}

@@ -2,7 +2,7 @@
 
 ghost use Rattle.std.specs.Prelude.{ℕ, Bool, ◌<◌, ◌≤◌, List, length, IfOk, Option};
 ghost use Rattle.std.specs.Io.KnownBytes.{ReadConsumes, WriteAppends};
-ghost use Rattle.map65.specs.Device.{Counts, IsFailure};
+ghost use Rattle.map65.specs.Words.{Counts, IsFailure};
 
 use thiserror::Error;
 

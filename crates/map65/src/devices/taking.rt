@@ -2,9 +2,7 @@
 
 ghost use Rattle.std.specs.Prelude.{◌≡◌, true, take, IfSome, IfOk, OnErr};
 ghost use Rattle.map65.specs.declared.devices.taking.TakeFault.TheVariants.{Read, Memory};
-ghost use Rattle.map65.specs.Device.{Counts, TakesUpTo};
-ghost use Rattle.map65.specs.Taking.{IsReadTo, TakeCount, TakesNoMore};
-ghost use Rattle.map65.specs.Code.Passing.{Passes};
+ghost use Rattle.map65.specs.Words.{Counts, IsReadTo, Passes, TakeCount, TakesNoMore, TakesUpTo};
 
 use crate::devices::device::{DeviceFault, Source};
 use std::alloc::{AllocError, Allocator};

@@ -1,8 +1,7 @@
 //! Any `std::io::Read` or `Write` as a device.
 
 ghost use Rattle.std.specs.Prelude.{◌≡◌, ◌<◌, ◌⊎◌, IfErr, IfOk, IsErr, MatchResult, Ok, length};
-ghost use Rattle.map65.specs.Device.{Counts};
-ghost use Rattle.map65.specs.Told.{told_of};
+ghost use Rattle.map65.specs.Words.{Counts, told_of};
 
 use crate::devices::device::{DeviceFault, Sink, Source};
 use std::io::{Read, Write};

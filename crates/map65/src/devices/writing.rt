@@ -2,7 +2,7 @@
 
 ghost use Rattle.std.specs.Prelude.{◌<◌, length, OnOk, OnErr};
 ghost use Rattle.std.specs.Io.KnownBytes.{Appends};
-ghost use Rattle.map65.specs.Device.{Counts, AppendsFront};
+ghost use Rattle.map65.specs.Words.{AppendsFront, Counts};
 
 use crate::devices::device::{DeviceFault, Sink};
 

@@ -1,8 +1,8 @@
 -- Which marked instructions may share a byte with one.
 use Rattle.std.specs.Prelude.{ℕ, ◌+◌, ◌-◌, ◌&&◌, nat_le, nat_lt, Bool, List, Option, Some, None}
-use Rattle.isa65.specs.Mode.{len_of}
-use Rattle.isa65.specs.declared.op.Op.{Op}
-use Rattle.map65.specs.MapView.{MapView}
+use Rattle.isa65.specs.Words.{len_of}
+use Rattle.reach65.specs.Types.{Op}
+use Rattle.map65.specs.Words.{MapView}
 use Rattle.reach65.specs.Flow.{instruction_at}
 use Rattle.reach65.specs.Reached.{is_marked}
 

@@ -3,10 +3,8 @@ use Rattle.std.specs.Prelude.{◌≡◌, ℕ, ◌+◌, ◌<◌, ◌≤◌, ◌&&
 use Rattle.reach65.specs.Pieces.{Ground, chars_at, is_free, is_same, longer, text_len}
 use Rattle.reach65.specs.Reached.{is_marked}
 use Rattle.reach65.specs.Texts.{are_enough, letter_count}
-use Rattle.reach65.specs.declared.texts.Alphabet.{Alphabet}
+use Rattle.reach65.specs.Types.{Alphabet, Tail, Tails}
 use Rattle.reach65.specs.declared.texts.Alphabet.TheVariants as alphabet
-use Rattle.reach65.specs.declared.texts.Tail.{Tail}
-use Rattle.reach65.specs.declared.texts.Tails.{Tails}
 
 -- no address from one on passes the test, up to before another one
 abbrev pub NoneIn : (ℕ → Bool) → ℕ → ℕ → Type 0

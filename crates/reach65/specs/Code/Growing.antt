@@ -3,7 +3,7 @@ use Rattle.std.specs.Prelude.{◌≡◌, ℕ, List, Contains}
 use Rattle.reach65.specs.Flow.{FlowView}
 use Rattle.reach65.specs.Code.Searching.{IsDone, State}
 use Rattle.reach65.specs.Growth.{Extent, Grows}
-use Rattle.reach65.specs.declared.pairs.Pair.{Pair}
+use Rattle.reach65.specs.Types.{Pair}
 
 abbrev pub extent_of : State → Extent
 extent_of s = record { entries = s.entries; marks = s.marks }

@@ -1,6 +1,6 @@
 -- The steps of a search, and what holds at each.
 use Rattle.std.specs.Prelude.{◌≡◌, ◌⊎◌, ℕ, ◌+◌, ◌≤◌, length, Contains, Bool, true, false, List, [], ◌∷◌, ◌++◌, if◌then◌else◌, slice_set, Option, Some, None}
-use Rattle.map65.specs.ImageView.{ImageView, is_inside}
+use Rattle.map65.specs.Words.{ImageView, is_inside}
 use Rattle.reach65.specs.Flow.{FlowView, LeadsTo, goal_at, next_at}
 use Rattle.reach65.specs.Reached.{AreReached, Reached, is_marked}
 use Rattle.reach65.specs.Sound.{IsApart, IsSound, is_fine, marked_count}

@@ -1,6 +1,6 @@
 -- The steps of a survey.
 use Rattle.std.specs.Prelude.{◌≡◌, ◌||◌, ℕ, Bool, List, length, Option}
-use Rattle.isa65.specs.declared.op.Op.{Op}
+use Rattle.reach65.specs.Types.{Op}
 use Rattle.reach65.specs.Flow.{FlowView, goal_by, next_of, text_at, text_by}
 use Rattle.reach65.specs.Reached.{is_marked, no_marks}
 use Rattle.reach65.specs.Routines.{branch_of, call_at, call_of, goes_on, is_it}

@@ -6,11 +6,8 @@ use Rattle.std.specs.List.{flat_map, list_all}
 use Rattle.stmt65.specs.declared.assembling.coding.Fragment.{Fragment as CodeFragment}
 use Rattle.stmt65.specs.declared.assembling.coding.Fragment.TheVariants as code_fragment
 use Rattle.stmt65.specs.declared.assembling.coding.Coder.{Coder}
-use Rattle.stmt65.specs.declared.assembling.coding.Operand.{Operand as CodeOperand}
+use Rattle.stmt65.specs.Types.{Coded as CodeCoded, Directive, Instruction as CodeInstruction, Operand as CodeOperand}
 use Rattle.stmt65.specs.declared.assembling.coding.Operand.TheVariants as code_operand
-use Rattle.stmt65.specs.declared.assembling.coding.Instruction.{Instruction as CodeInstruction}
-use Rattle.stmt65.specs.declared.directive.Directive.{Directive}
-use Rattle.stmt65.specs.declared.assembling.coding.Coded.{Coded as CodeCoded}
 use Rattle.stmt65.specs.declared.assembling.coding.Coded.TheVariants as code_coded
 use Rattle.stmt65.specs.declared.source_line.Value.{Value as CodeValue}
 use Rattle.stmt65.specs.declared.source_line.Datum.{Datum as CodeDatum}

@@ -4,11 +4,7 @@ use Rattle.std.specs.Option.{option_map}
 use Rattle.std.specs.Bool.{OnTrue, OnFalse}
 use Rattle.stmt65.specs.declared.assembling.assembler.Pass.{Pass}
 use Rattle.stmt65.specs.declared.assembling.assembler.Source.{Source}
-use Rattle.stmt65.specs.declared.assembling.late.Late.{Late}
-use Rattle.stmt65.specs.declared.assembling.late.Work.{Work}
-use Rattle.stmt65.specs.declared.assembling.fault.AsmFault.{AsmFault}
-use Rattle.stmt65.specs.declared.assembling.fault.AsmFaultKind.{AsmFaultKind}
-use Rattle.stmt65.specs.declared.assembling.fault.AsmFaultKind.TheVariants.{PastEnd}
+use Rattle.stmt65.specs.Types.{AsmFault, AsmFaultKind, Late, PastEnd, Work}
 use Rattle.stmt65.specs.SourceLine.{SourceLine}
 use Rattle.stmt65.specs.Symbols.{Definition}
 use Rattle.stmt65.specs.Layout.{Layout}

@@ -1,10 +1,9 @@
 -- What the assembler's values stand for.
 use Rattle.std.specs.Prelude.{◌≡◌, ◌++◌, List, [], ◌∷◌, map, Option, Some, None, unwrap_or}
 use Rattle.std.specs.Option.{option_map, option_to_list}
-use Rattle.stmt65.specs.declared.assembling.coding.Coded.{Coded as CodeCoded}
+use Rattle.stmt65.specs.Types.{Coded as CodeCoded, Placed}
 use Rattle.stmt65.specs.declared.assembling.symbols.Definition.{Definition as CodeDefinition}
 use Rattle.stmt65.specs.declared.assembling.state.State.{State as CodeState}
-use Rattle.stmt65.specs.declared.assembling.state.Placed.{Placed}
 use Rattle.stmt65.specs.SourceLine.{SourceLine}
 use Rattle.stmt65.specs.Symbols.{Definition}
 use Rattle.stmt65.specs.Code.SymbolViews.{definition_of}

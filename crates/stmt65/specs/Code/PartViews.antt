@@ -2,7 +2,7 @@
 use Rattle.std.specs.Prelude.{ℕ, List, [], ◌∷◌, Option, Some, None}
 use Rattle.stmt65.specs.declared.reading.lexer.Part.{Part as CodePart}
 use Rattle.stmt65.specs.declared.reading.lexer.Part.TheVariants as code
-use Rattle.stmt65.specs.declared.language.Language.{Language}
+use Rattle.stmt65.specs.Types.{Language}
 use Rattle.stmt65.specs.Lexing.{parts}
 use Rattle.stmt65.specs.Parts.{Part, Word, Number, Text, Define, Mark}
 

@@ -3,8 +3,7 @@ use Rattle.std.proofs.Common.{◌≡◌, ℕ, suc, ◌<◌, ◌≤◌, List, ◌
 use Rattle.std.specs.Prelude.{None}
 use Rattle.std.proofs.lemmas.List.{length-drop}
 use Rattle.stmt65.specs.SourceLine.{Value, Datum}
-use Rattle.stmt65.specs.declared.language.Language.{Language}
-use Rattle.stmt65.specs.declared.language.Language.TheVariants.{Listing, Repair}
+use Rattle.stmt65.specs.Types.{Language, Listing, Repair}
 use Rattle.stmt65.specs.declared.source_line.Half.{Half}
 use Rattle.stmt65.specs.Parts.{Part, Word, Number, Text, Mark}
 use Rattle.stmt65.specs.Reading.{number_in, name_in, less_name, less_one, named_at, next_value, bracketed_in, halved_in, word_datum, half_datum, mark_datum, next_datum, next_half}

@@ -4,15 +4,10 @@ use Rattle.std.specs.Option.{option_copied, option_map}
 use Rattle.stmt65.specs.SourceLine.{is_absolute}
 use Rattle.stmt65.specs.Views.{ExprView, OperandsView, RemarksView, StatementView, TargetView}
 use Rattle.stmt65.specs.Views as view
-use Rattle.stmt65.specs.declared.directive.Directive.TheVariants.{Word, Dbyt, Dword}
-use Rattle.stmt65.specs.declared.printing.digits.Offsets.{Offsets}
-use Rattle.stmt65.specs.declared.printing.digits.Offsets.TheVariants.{Decimal, Hexadecimal}
-use Rattle.stmt65.specs.declared.printing.remarks.Remarks.{Remarks}
-use Rattle.stmt65.specs.declared.statement.Expr.{Expr}
+use Rattle.stmt65.specs.declared.directive.Directive.TheVariants.{Word}
+use Rattle.stmt65.specs.Types.{Dbyt, Decimal, Dword, Expr, Hexadecimal, Offsets, Operands, Remarks, Target}
 use Rattle.stmt65.specs.declared.statement.Expr.TheVariants as code_expr
-use Rattle.stmt65.specs.declared.statement.Operands.{Operands}
 use Rattle.stmt65.specs.declared.statement.Operands.TheVariants as code_operands
-use Rattle.stmt65.specs.declared.statement.Target.{Target}
 use Rattle.stmt65.specs.declared.statement.Statement.{Statement}
 use Rattle.stmt65.specs.declared.statement.Statement.TheVariants as code_statement
 

@@ -1,10 +1,7 @@
 //! The address after each line of a text.
 
 ghost use Rattle.std.specs.Prelude.{◌≡◌, ◌⊎◌, Err, IfErr, IfOk, Ok, map};
-ghost use Rattle.stmt65.specs.Answer.{out_of_memory};
-ghost use Rattle.stmt65.specs.Sources.{source_addresses, source_definitions, source_meaning};
-ghost use Rattle.stmt65.specs.Code.Held.{held};
-ghost use Rattle.stmt65.specs.Code.MeaningViews.{held_definition};
+ghost use Rattle.stmt65.specs.Words.{held, held_definition, out_of_memory, source_addresses, source_definitions, source_meaning};
 
 use crate::assembling::assembler::{Pass, Source, first_pass, second_pass};
 use crate::assembling::fault::AsmFault;

@@ -1,15 +1,7 @@
 //! The assembler: a pass over the lines of a text, and one over those that wait for a name below them.
 
 ghost use Rattle.std.specs.Prelude.{◌≡◌, ◌<◌, ◌++◌, [], ◌∷◌, if◌then◌else◌, map, true, Some, Ok, IfOk, OnOk};
-ghost use Rattle.stmt65.specs.Lexing.{parts};
-ghost use Rattle.stmt65.specs.Reading.{reading_of};
-ghost use Rattle.stmt65.specs.Code.SourceLineViews.{source_of};
-ghost use Rattle.stmt65.specs.Meaning.{meaning};
-ghost use Rattle.stmt65.specs.Sources.{source_addresses, source_state, source_meaning};
-ghost use Rattle.stmt65.specs.Code.Held.{held};
-ghost use Rattle.stmt65.specs.Code.MeaningViews.{definitions_in};
-ghost use Rattle.stmt65.specs.Code.LateViews.{GoesOn, IsIdle, IsPassed, TakesEarly, state_in, work_of};
-ghost use Rattle.stmt65.specs.Answer.{Assembles};
+ghost use Rattle.stmt65.specs.Words.{Assembles, GoesOn, IsIdle, IsPassed, TakesEarly, definitions_in, held, meaning, parts, reading_of, source_addresses, source_meaning, source_of, source_state, state_in, work_of};
 
 use crate::assembling::fault::AsmFault;
 use crate::assembling::late::{Late, Work, code_again, code_early, cut, idle, keep, refuse};

@@ -2,13 +2,8 @@
 
 ghost use Rattle.std.specs.Prelude.{◌≡◌, List, [], ◌∷◌};
 ghost use Rattle.std.specs.Option.{option_map};
-ghost use Rattle.stmt65.specs.Code.SourceLineViews.{value_of, form_of, operation_of};
-ghost use Rattle.stmt65.specs.SourceLine.{One};
-ghost use Rattle.stmt65.specs.Coding.{zero_page, kind_fragment, modes_in, ways, gap, coding};
-ghost use Rattle.stmt65.specs.Layout.{start_of};
-ghost use Rattle.stmt65.specs.Symbols.{Definition};
-ghost use Rattle.stmt65.specs.Code.CodingViews.{fragment_of, operand_of, IsFirstWay, IsFirstOf, coded_of};
-ghost use Rattle.stmt65.specs.Code.MeaningViews.{state_of};
+ghost use Rattle.stmt65.specs.Words.{Definition, IsFirstOf, IsFirstWay, One, coded_of, coding, fragment_of, gap, kind_fragment, modes_in, operand_of, start_of, state_of, value_of, ways, zero_page};
+ghost use Rattle.stmt65.specs.Code.SourceLineViews.{form_of, operation_of};
 
 use crate::assembling::state::State;
 use crate::assembling::symbols::Names;

@@ -1,9 +1,7 @@
 //! The values that a text gives to expressions.
 
 ghost use Rattle.std.specs.Prelude.{◌≡◌, IfOk};
-ghost use Rattle.stmt65.specs.Code.SourceLineViews.{value_of};
-ghost use Rattle.stmt65.specs.Sources.{source_definitions};
-ghost use Rattle.stmt65.specs.Symbols.{is_known, word_in};
+ghost use Rattle.stmt65.specs.Words.{is_known, source_definitions, value_of, word_in};
 
 use crate::assembling::assembler::{Source, first_pass};
 use crate::assembling::symbols::Symbols;

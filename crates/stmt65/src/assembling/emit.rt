@@ -2,10 +2,8 @@
 
 ghost use Rattle.std.specs.Prelude.{◌≡◌, [], ◌∷◌, IfOk};
 ghost use Rattle.std.specs.List.{list_all};
-ghost use Rattle.stmt65.specs.Coding.{datum_fragments, is_fragment_known, fragment_len, coding_len};
-ghost use Rattle.stmt65.specs.Code.CodingViews.{PutsAll, fragment_of, operand_of, instruction_of, data_fragments, entry_fragments, coded_of};
-ghost use Rattle.stmt65.specs.Code.Held.{held};
-ghost use Rattle.stmt65.specs.Code.SourceLineViews.{datum_of};
+ghost use Rattle.stmt65.specs.Words.{PutsAll, coded_of, coding_len, data_fragments, datum_fragments, datum_of, entry_fragments, fragment_len, fragment_of, held, is_fragment_known, operand_of};
+ghost use Rattle.stmt65.specs.Code.CodingViews.{instruction_of};
 
 use crate::assembling::coding::{Coded, Fragment, Instruction, Operand};
 use crate::assembling::entries::size;

@@ -1,7 +1,7 @@
 //! What the directives code: the bytes of a number, and how large it can be.
 
 ghost use Rattle.std.specs.Prelude.{◌≡◌, ◌++◌, length, OnOk};
-ghost use Rattle.stmt65.specs.Coding.{entry_bytes, entry_limit};
+ghost use Rattle.stmt65.specs.Words.{entry_bytes, entry_limit};
 
 use crate::directive::Directive;
 use std::alloc::{AllocError, Allocator};

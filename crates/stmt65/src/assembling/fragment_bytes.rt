@@ -1,10 +1,7 @@
 //! The bytes of one fragment of a statement.
 
 ghost use Rattle.std.specs.Prelude.{◌≡◌, [], ◌∷◌, ◌&&◌, nat_lt, replicate, Some, true, is_some, unwrap_or, IfOk};
-ghost use Rattle.stmt65.specs.Code.SourceLineViews.{value_of};
-ghost use Rattle.stmt65.specs.Symbols.{below};
-ghost use Rattle.stmt65.specs.Coding.{is_fragment_known, is_near, low, half_of, distance, entry_bytes};
-ghost use Rattle.stmt65.specs.Code.CodingViews.{Puts, PutsOne, fragment_of};
+ghost use Rattle.stmt65.specs.Words.{Puts, PutsOne, below, distance, entry_bytes, fragment_of, half_of, is_fragment_known, is_near, low, value_of};
 
 use crate::assembling::coding::Fragment;
 use crate::assembling::entries::put_number;

@@ -2,11 +2,7 @@
 
 ghost use Rattle.std.specs.Prelude.{◌≡◌, ◌++◌, IfOk, IfSome, Ok, take};
 ghost use Rattle.std.specs.Bool.{OnTrue};
-ghost use Rattle.stmt65.specs.Code.MeaningViews.{definitions_in, state_of};
-ghost use Rattle.stmt65.specs.Code.LateViews.{Follows};
-ghost use Rattle.stmt65.specs.Code.SymbolViews.{definition_of};
-ghost use Rattle.stmt65.specs.Code.SourceLineViews.{source_of};
-ghost use Rattle.stmt65.specs.Sources.{source_meaning};
+ghost use Rattle.stmt65.specs.Words.{Follows, definition_of, definitions_in, source_meaning, source_of, state_of};
 
 use crate::assembling::assembler::Source;
 use crate::assembling::late::code_placed;

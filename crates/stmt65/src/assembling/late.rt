@@ -2,13 +2,7 @@
 
 ghost use Rattle.std.specs.Prelude.{◌≡◌, IfOk, OnOk, List, None, Some, take, drop};
 ghost use Rattle.std.specs.List.{list_all};
-ghost use Rattle.stmt65.specs.Code.SourceLineViews.{source_of};
-ghost use Rattle.stmt65.specs.Code.CodingViews.{PutsAll};
-ghost use Rattle.stmt65.specs.Code.MeaningViews.{state_of, fragments_in, IsPlaced};
-ghost use Rattle.stmt65.specs.Code.LateViews.{Codes, CodesEarly, IsIdle, IsOf, Takes, fault_at, fault_past, late_state};
-ghost use Rattle.stmt65.specs.Code.Held.{held};
-ghost use Rattle.stmt65.specs.Coding.{State as AState};
-ghost use Rattle.stmt65.specs.Meaning.{next_of};
+ghost use Rattle.stmt65.specs.Words.{Codes, CodesEarly, IsIdle, IsOf, IsPlaced, PutsAll, State as AState, Takes, fault_at, fault_past, fragments_in, held, late_state, next_of, source_of, state_of};
 
 use crate::assembling::emit::put_coded;
 use crate::assembling::fault::{AsmFault, AsmFaultKind};

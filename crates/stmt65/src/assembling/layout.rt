@@ -1,7 +1,7 @@
 //! Where segments begin.
 
 ghost use Rattle.std.specs.Prelude.{◌≡◌, [], IfOk, OnOk};
-ghost use Rattle.stmt65.specs.Layout.{start_of, with_start};
+ghost use Rattle.stmt65.specs.Words.{start_of, with_start};
 
 use crate::assembling::symbols::{Definition, Symbols};
 use std::alloc::{AllocError, Allocator, Global};

@@ -2,11 +2,7 @@
 
 ghost use Rattle.std.specs.Prelude.{◌≡◌, ◌||◌, not, nat_lt, is_some, Some};
 ghost use Rattle.std.specs.List.{list_any, list_all};
-ghost use Rattle.stmt65.specs.Code.SourceLineViews.{source_of};
-ghost use Rattle.stmt65.specs.Symbols.{find_name};
-ghost use Rattle.stmt65.specs.Coding.{State, is_fragment_known, fragment_fits};
-ghost use Rattle.stmt65.specs.Meaning.{operation_in, has_unknown_cpu, first_of, fault_of};
-ghost use Rattle.stmt65.specs.Code.MeaningViews.{fragments_in, definitions_in, IsPlaced};
+ghost use Rattle.stmt65.specs.Words.{IsPlaced, State, definitions_in, fault_of, find_name, first_of, fragment_fits, fragments_in, has_unknown_cpu, is_fragment_known, operation_in, source_of};
 
 use crate::assembling::emit::are_known;
 use crate::assembling::fault::AsmFaultKind;

@@ -2,13 +2,7 @@
 
 ghost use Rattle.std.specs.Prelude.{◌≡◌, List, [], map, unwrap_or};
 ghost use Rattle.std.specs.Option.{option_map};
-ghost use Rattle.stmt65.specs.Code.SourceLineViews.{source_of};
-ghost use Rattle.stmt65.specs.Coding.{coding, coding_len};
-ghost use Rattle.stmt65.specs.Code.CodingViews.{coded_of};
-ghost use Rattle.stmt65.specs.Code.Held.{held};
-ghost use Rattle.stmt65.specs.Meaning.{cpu_set, cpu_after, operation_in, defined_by, is_past_start, initial};
-ghost use Rattle.stmt65.specs.Symbols.{Definition as ADefinition};
-ghost use Rattle.stmt65.specs.Code.MeaningViews.{state_of, held_definition, definitions_in, fragments_in, IsPlaced};
+ghost use Rattle.stmt65.specs.Words.{Definition as ADefinition, IsPlaced, coded_of, coding, coding_len, cpu_after, cpu_set, defined_by, definitions_in, fragments_in, held, held_definition, initial, is_past_start, operation_in, source_of, state_of};
 
 use crate::assembling::coding::{Coded, coding};
 use crate::assembling::emit::coded_len;

@@ -5,8 +5,8 @@ ghost use Rattle.std.specs.BTreeMap.{get};
 ghost use Rattle.std.specs.List.{slice_get};
 ghost use Rattle.std.specs.Option.{option_map};
 ghost use Rattle.std.specs.Ordering.{nat_cmp};
-ghost use Rattle.stmt65.specs.Symbols.{find_name, address_of};
-ghost use Rattle.stmt65.specs.Code.SymbolViews.{definition_of, first_at, if_named, number_of};
+ghost use Rattle.stmt65.specs.Words.{address_of, definition_of, find_name, first_at, if_named};
+ghost use Rattle.stmt65.specs.Code.SymbolViews.{number_of};
 
 use std::alloc::{AllocError, Allocator, Global};
 use std::collections::BTreeMap;

@@ -1,10 +1,7 @@
 //! The value and size of an expression.
 
 ghost use Rattle.std.specs.Prelude.{◌≡◌, ◌+◌, Some};
-ghost use Rattle.stmt65.specs.Code.SourceLineViews.{numeral_of, value_of};
-ghost use Rattle.stmt65.specs.Code.Held.{held, held_value};
-ghost use Rattle.stmt65.specs.Coding.{entry_limit, entry_in};
-ghost use Rattle.stmt65.specs.Symbols.{below, apart, lowered, value_in, is_known, word_in, is_small, has_zero_page_size};
+ghost use Rattle.stmt65.specs.Words.{apart, below, entry_in, entry_limit, has_zero_page_size, held, held_value, is_known, is_small, lowered, numeral_of, value_in, value_of, word_in};
 
 use crate::assembling::entries::limit;
 use crate::assembling::symbols::{Definition, Names};

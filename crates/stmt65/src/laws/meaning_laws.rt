@@ -1,10 +1,7 @@
 //! What a text means, in the words of the manual: which mode an instruction has, which faults a line
 //! has, and what the lines of a text make of it.
 
-ghost use Rattle.stmt65.specs.ModeLaws.{WaysAreModes, ModesAreWays, TakesModes, NeedsMode};
-ghost use Rattle.stmt65.specs.FaultLaws.{FindsLowest, FindsNone};
-ghost use Rattle.stmt65.specs.LineAddresses.{FindsLine};
-ghost use Rattle.stmt65.specs.TextLaws.{MeansBytes, MeansFault, StandsAtItsBytes};
+ghost use Rattle.stmt65.specs.Words.{FindsLine, FindsLowest, FindsNone, MeansBytes, MeansFault, ModesAreWays, NeedsMode, StandsAtItsBytes, TakesModes, WaysAreModes};
 
 /// The ways to code an operand are the modes that are written like it, after `a:` only the absolute
 /// one, and each way is as long as its mode.

@@ -1,7 +1,6 @@
 //! What the reading of a line is to what is written in it, and the cutting of a text to its bytes.
 
-ghost use Rattle.stmt65.specs.ReadingLaws.{ReadsSpellings, SpellsOne, TakesParts, ReadsLines};
-ghost use Rattle.stmt65.specs.TableLaws.{CutsTexts};
+ghost use Rattle.stmt65.specs.Words.{CutsTexts, ReadsLines, ReadsSpellings, SpellsOne, TakesParts};
 
 /// The parts of a line parse as a statement exactly when they are a source form of it.
 #[tactic(auto, using(crate::proofs::LineLemmas::reads_spellings))]

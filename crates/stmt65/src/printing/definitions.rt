@@ -2,11 +2,7 @@
 
 ghost use Rattle.std.specs.Prelude.{◌≡◌, ◌+◌, ◌≤◌, ◌++◌, codes, Some};
 ghost use Rattle.arrayvec.specs.ArrayVec.{array_vec_len};
-ghost use Rattle.stmt65.specs.Code.StatementViews.{in_hex};
-ghost use Rattle.stmt65.specs.Digits.{hex4};
-ghost use Rattle.stmt65.specs.Line.{filled, with_fields};
-ghost use Rattle.stmt65.specs.Printable.{IsNameLong};
-ghost use Rattle.stmt65.specs.Statements.{distance_text, label_fields, definition_fields};
+ghost use Rattle.stmt65.specs.Words.{IsNameLong, definition_fields, distance_text, filled, hex4, in_hex, label_fields, with_fields};
 
 use crate::printing::columns::{Column, Columns};
 use crate::printing::digits::{Offsets, put_distance, put_hex4};

@@ -3,9 +3,7 @@
 ghost use Rattle.std.specs.Prelude.{◌≡◌, ◌+◌, ◌<◌, ◌≤◌, ◌++◌, decimal, true};
 ghost use Rattle.text65.specs.Digits.{hex_digit, digits4};
 ghost use Rattle.arrayvec.specs.ArrayVec.{array_vec_len};
-ghost use Rattle.stmt65.specs.Digits.{digits2, hex2, hex4, offset_text};
-ghost use Rattle.stmt65.specs.Statements.{distance_text};
-ghost use Rattle.stmt65.specs.Code.StatementViews.{in_hex};
+ghost use Rattle.stmt65.specs.Words.{digits2, distance_text, hex2, hex4, in_hex, offset_text};
 
 use crate::printing::fields::put;
 use crate::printing::line::Line;

@@ -2,7 +2,7 @@
 
 ghost use Rattle.std.specs.Prelude.{◌≡◌, ◌+◌, ◌<◌, ◌≤◌, max, ◌++◌, length, replicate};
 ghost use Rattle.arrayvec.specs.ArrayVec.{array_vec_len};
-ghost use Rattle.stmt65.specs.Line.{filled};
+ghost use Rattle.stmt65.specs.Words.{filled};
 
 use crate::printing::columns::Column;
 use crate::printing::line::Line;

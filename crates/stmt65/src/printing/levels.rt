@@ -3,9 +3,7 @@
 ghost use Rattle.std.specs.Prelude.{◌≡◌, ◌+◌, ◌*◌, ◌≤◌, ◌++◌, length, map};
 ghost use Rattle.std.specs.List.{flat_map};
 ghost use Rattle.arrayvec.specs.ArrayVec.{array_vec_len};
-ghost use Rattle.stmt65.specs.Levels.{character, fields_after, level_fields, spaced_byte};
-ghost use Rattle.stmt65.specs.Line.{with_fields};
-ghost use Rattle.stmt65.specs.Code.StatementViews.{remarks_seen, statement_seen};
+ghost use Rattle.stmt65.specs.Words.{character, fields_after, level_fields, remarks_seen, spaced_byte, statement_seen, with_fields};
 
 use crate::printing::columns::Columns;
 use crate::printing::digits::{put_digits2, put_digits4};

@@ -3,18 +3,9 @@
 ghost use Rattle.std.specs.Prelude.{◌≡◌, ◌+◌, ◌<◌, ◌≤◌, ◌*◌, [], ◌∷◌, ◌++◌, length, codes, Some, IfSome};
 ghost use Rattle.std.specs.Option.{option_copied, option_map};
 ghost use Rattle.arrayvec.specs.ArrayVec.{array_vec_len};
-ghost use Rattle.isa65.specs.Cpu.{cpu_text};
-ghost use Rattle.stmt65.specs.Directives.{directive_text};
-ghost use Rattle.stmt65.specs.Line.{filled, with_fields, line_of};
-ghost use Rattle.stmt65.specs.Printable.{IsNameLong, IsWrittenIn, IsTable, IsPrintable, MayBeLabelled};
-ghost use Rattle.stmt65.specs.Printed.{ReadsBack};
-ghost use Rattle.stmt65.specs.Statements.{bytes_text, quoted, data_text, numbers_text, has_operand, return_text, instr_fields, with_operands, label_fields, remark_fields, fields_of};
-ghost use Rattle.stmt65.specs.Tables.{cut_text};
-ghost use Rattle.stmt65.specs.Code.StatementViews.{in_hex, operands_seen, target_seen, statement_seen, remarks_seen};
-ghost use Rattle.stmt65.specs.SourceLine.{is_absolute};
+ghost use Rattle.isa65.specs.Words.{cpu_text};
+ghost use Rattle.stmt65.specs.Words.{AreBytes, AreWordWide, IsInWidth, IsNameLong, IsPrintable, IsTable, IsWrittenIn, MayBeLabelled, ReadsBack, bytes_text, cut_text, data_text, directive_text, fields_of, filled, has_operand, in_hex, instr_fields, is_absolute, label_fields, line_of, named_text, numbers_text, operands_seen, quoted, remark_fields, remarks_seen, return_text, statement_seen, target_seen, with_fields, with_operands};
 ghost use Rattle.stmt65.specs.Views as view;
-ghost use Rattle.stmt65.specs.Operands.{named_text};
-ghost use Rattle.stmt65.specs.Code.Widths.{AreWordWide, AreBytes, IsInWidth};
 
 use crate::directive::Directive;
 use crate::printing::columns::{Column, Columns};

@@ -2,13 +2,8 @@
 
 ghost use Rattle.std.specs.Prelude.{◌≡◌, ◌+◌, ◌≤◌, ◌++◌, length};
 ghost use Rattle.arrayvec.specs.ArrayVec.{array_vec_len};
-ghost use Rattle.isa65.specs.Mode.{row_text};
-ghost use Rattle.stmt65.specs.Operands.{in_row, kind_text, long_text, named_text, operand_text, prefix_text, short_text};
-ghost use Rattle.stmt65.specs.SourceLine.{is_absolute};
-ghost use Rattle.stmt65.specs.Printable.{AreOperands, IsLong, IsOperand, IsShort, IsWrittenIn};
-ghost use Rattle.stmt65.specs.Views.{none, one, two};
-ghost use Rattle.stmt65.specs.Code.StatementViews.{expr_seen, in_hex, operands_seen};
-ghost use Rattle.stmt65.specs.Code.Widths.{AreWordWide, IsWordWide};
+ghost use Rattle.isa65.specs.Words.{row_text};
+ghost use Rattle.stmt65.specs.Words.{AreOperands, AreWordWide, IsLong, IsOperand, IsShort, IsWordWide, IsWrittenIn, expr_seen, in_hex, in_row, is_absolute, kind_text, long_text, named_text, none, one, operand_text, operands_seen, prefix_text, short_text, two};
 
 use crate::printing::digits::{Offsets, put_hex2, put_hex4, put_offset};
 use crate::printing::fields::put;

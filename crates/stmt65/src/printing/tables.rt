@@ -3,9 +3,7 @@
 ghost use Rattle.std.specs.Prelude.{◌≡◌, ◌+◌, ◌<◌, ◌≤◌, ◌*◌, ◌++◌, length, reverse};
 ghost use Rattle.std.specs.List.{prefix_len, flat_map};
 ghost use Rattle.arrayvec.specs.ArrayVec.{array_vec_len};
-ghost use Rattle.stmt65.specs.Digits.{digits2};
-ghost use Rattle.stmt65.specs.Statements.{data_text, datum_text, entry_text, next_text, numbers_text};
-ghost use Rattle.stmt65.specs.Tables.{entry_len, entries, is_plain, cut_text};
+ghost use Rattle.stmt65.specs.Words.{cut_text, data_text, datum_text, digits2, entries, entry_len, entry_text, is_plain, next_text, numbers_text};
 
 use crate::directive::Directive;
 use crate::printing::digits::{put_digits2, put_hex2};

@@ -1,9 +1,7 @@
 //! Expressions: a number, a name with an optional number added and an optional `-1`, or the difference of two names; and what is halved.
 
 ghost use Rattle.std.specs.Prelude.{◌≡◌};
-ghost use Rattle.stmt65.specs.Code.Found.{Reads};
-ghost use Rattle.stmt65.specs.Code.SourceLineViews.{numeral_of, value_of};
-ghost use Rattle.stmt65.specs.Reading.{less_name, less_one, named_at, next_value, halved_in, bracketed_in};
+ghost use Rattle.stmt65.specs.Words.{Reads, bracketed_in, halved_in, less_name, less_one, named_at, next_value, numeral_of, value_of};
 
 use crate::language::Language;
 use crate::reading::lexer::Part;

@@ -4,9 +4,7 @@ ghost use Rattle.std.specs.Prelude.{◌≡◌, ◌+◌, ◌<◌, ◌≤◌, [], 
 ghost use Rattle.std.specs.List.{prefix_len};
 ghost use Rattle.std.specs.Char.{is_ascii_digit, is_ascii_hexdigit};
 ghost use Rattle.text65.specs.Names.{is_blank, is_word_byte};
-ghost use Rattle.stmt65.specs.Lexing.{is_word_start, is_text_byte, is_binary_digit, is_character, hex_len, alone_at, part_at, parts};
-ghost use Rattle.stmt65.specs.Code.PartViews.{part_of};
-ghost use Rattle.stmt65.specs.declared.language.Language.{Language};
+ghost use Rattle.stmt65.specs.Words.{Language, alone_at, hex_len, is_binary_digit, is_character, is_text_byte, is_word_start, part_at, part_of, parts};
 
 use crate::language::Language;
 use text65::{is_blank, is_word_byte};

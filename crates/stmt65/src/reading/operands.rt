@@ -1,11 +1,9 @@
 //! The written forms of an operand.
 
 ghost use Rattle.std.specs.Prelude.{◌≡◌};
-ghost use Rattle.stmt65.specs.Code.Found.{Gives};
-ghost use Rattle.stmt65.specs.Code.SourceLineViews.{value_of, form_of as form_of_code};
-ghost use Rattle.stmt65.specs.Forms.{sized};
-ghost use Rattle.stmt65.specs.SourceLine.{is_absolute};
-ghost use Rattle.stmt65.specs.Reading.{whole, tail_at, inner_at, half_form, immediate_of, form_of};
+ghost use Rattle.stmt65.specs.Words.{Gives, half_form, immediate_of, inner_at, is_absolute, sized, tail_at, value_of, whole};
+ghost use Rattle.stmt65.specs.Code.SourceLineViews.{form_of as form_of_code};
+ghost use Rattle.stmt65.specs.Reading.{form_of};
 
 use crate::language::Language;
 use crate::reading::expressions::{halved_in, next_value};

@@ -1,11 +1,9 @@
 //! Operations: a mnemonic with its operand, or an operation of the assembler.
 
 ghost use Rattle.std.specs.Prelude.{◌≡◌, IfOk, List, Option, map};
-ghost use Rattle.stmt65.specs.Parts.{Part};
-ghost use Rattle.stmt65.specs.Code.Found.{Reads, Gives};
-ghost use Rattle.stmt65.specs.Code.Shortens.{Shortens};
-ghost use Rattle.stmt65.specs.Code.SourceLineViews.{datum_of, form_of as form_of_code, operation_of as operation_of_code};
-ghost use Rattle.stmt65.specs.Reading.{list_of, text_in, data_of, word_datum, half_datum, mark_datum, next_datum, next_half, reserve_of, segment_of, takes_accumulator, operand_in, instruction_of, further_at, other_at, operation_at, operation_of};
+ghost use Rattle.stmt65.specs.Words.{Gives, Part, Reads, Shortens, data_of, datum_of, further_at, half_datum, list_of, mark_datum, next_datum, next_half, operand_in, operation_at, other_at, reserve_of, segment_of, takes_accumulator, text_in, word_datum};
+ghost use Rattle.stmt65.specs.Code.SourceLineViews.{form_of as form_of_code, operation_of as operation_of_code};
+ghost use Rattle.stmt65.specs.Reading.{instruction_of, operation_of};
 
 use crate::directive::Directive;
 use crate::language::Language;

@@ -2,11 +2,7 @@
 
 ghost use Rattle.std.specs.Prelude.{◌≡◌, [], ◌∷◌, MatchOption, drop};
 ghost use Rattle.std.specs.Bool.{OnTrue, OnFalse};
-ghost use Rattle.stmt65.specs.Lexing.{parts};
-ghost use Rattle.stmt65.specs.Code.PartViews.{part_of};
-ghost use Rattle.stmt65.specs.Code.Found.{Reads};
-ghost use Rattle.stmt65.specs.Code.SourceLineViews.{numeral_of};
-ghost use Rattle.stmt65.specs.Reading.{is_mark, is_define, is_word_here, is_number_here, is_nil, number_in};
+ghost use Rattle.stmt65.specs.Words.{Reads, is_define, is_mark, is_nil, is_number_here, is_word_here, number_in, numeral_of, part_of, parts};
 
 use crate::language::Language;
 use crate::reading::lexer::{Part, first_part};

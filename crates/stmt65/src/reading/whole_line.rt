@@ -3,11 +3,9 @@
 ghost use Rattle.std.specs.Prelude.{◌≡◌, IfOk, Option, Some, None, drop, if◌then◌else◌};
 ghost use Rattle.std.specs.Bool.{OnTrue, OnFalse};
 ghost use Rattle.std.specs.Option.{option_copied, option_map};
-ghost use Rattle.stmt65.specs.Code.Found.{Gives};
-ghost use Rattle.stmt65.specs.Code.SourceLineViews.{operation_of, source_of};
-ghost use Rattle.stmt65.specs.Lexing.{parts};
-ghost use Rattle.stmt65.specs.Names.{is_name};
-ghost use Rattle.stmt65.specs.Reading.{number_of_name, constant_of, stated, is_equals, operation_at, operation_of as operation_read, line_at, reading_of};
+ghost use Rattle.stmt65.specs.Words.{Gives, constant_of, is_equals, is_name, line_at, number_of_name, operation_at, parts, reading_of, source_of, stated};
+ghost use Rattle.stmt65.specs.Code.SourceLineViews.{operation_of};
+ghost use Rattle.stmt65.specs.Reading.{operation_of as operation_read};
 
 use crate::language::Language;
 use crate::reading::lexer::Part;

@@ -2,7 +2,7 @@
 //! what it gives. In the file `|` stands for a line feed. An empty row counts as none, and so does one that begins with `--`.
 
 ghost use Rattle.std.specs.Prelude.{IfOk};
-ghost use Rattle.info65.specs.Names.{AreNames};
+ghost use Rattle.info65.specs.Words.{AreNames};
 
 use crate::tests::asserts::{assert_equal_at, assert_that_at};
 use crate::tests::inputs::info_of;

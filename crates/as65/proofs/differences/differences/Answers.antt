@@ -1,5 +1,5 @@
 use Rattle.std.proofs.Common.{arith, sym}
-use Rattle.as65.specs.Code.Passing.{beside}
+use Rattle.as65.specs.Words.{beside}
 use Rattle.as65.proofs.PassingLemmas.{runs_are_ready}
 use Rattle.as65.proofs.differences.differences.Goals as goal
 

@@ -1,5 +1,5 @@
 use Rattle.std.proofs.Common.{append_assoc}
-use Rattle.as65.specs.Code.Passing.{IsReady, beside}
+use Rattle.as65.specs.Words.{IsReady, beside}
 use Rattle.as65.proofs.PassingLemmas.{AreLeft, left_after, line_is, passed_is}
 use Rattle.as65.proofs.differences.put_all.Goals as goal
 

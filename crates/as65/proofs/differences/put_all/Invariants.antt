@@ -1,6 +1,5 @@
 use Rattle.std.proofs.Common.{◌≡◌, ◌++◌, drop, flat_map, length}
-use Rattle.as65.specs.Code.Passing.{IsReady, beside}
-use Rattle.as65.specs.Differences.{line_of}
+use Rattle.as65.specs.Words.{IsReady, beside, line_of}
 use Rattle.as65.proofs.differences.put_all.Given as goal
 
 abbrev pub invariant-stretches : goal.invariant-stretches

@@ -1,5 +1,5 @@
 use Rattle.std.proofs.Common.{◌≡◌, ◌++◌, map, take}
-use Rattle.as65.specs.Differences.{shown_byte}
+use Rattle.as65.specs.Words.{shown_byte}
 use Rattle.as65.proofs.differences.put_characters.Given as goal
 
 abbrev pub invariant-characters : goal.invariant-characters

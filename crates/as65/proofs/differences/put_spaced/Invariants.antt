@@ -1,5 +1,5 @@
 use Rattle.std.proofs.Common.{◌≡◌, ◌++◌, flat_map, take}
-use Rattle.as65.specs.Differences.{spaced}
+use Rattle.as65.specs.Words.{spaced}
 use Rattle.as65.proofs.differences.put_spaced.Given as goal
 
 abbrev pub invariant-bytes : goal.invariant-bytes

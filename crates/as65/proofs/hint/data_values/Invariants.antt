@@ -1,7 +1,6 @@
 use Rattle.std.proofs.Common.{◌≡◌, ◌++◌, drop, map}
 use Rattle.std.specs.List.{flat_map}
-use Rattle.stmt65.specs.Code.SourceLineViews.{datum_of, value_of}
-use Rattle.stmt65.specs.FaultLaws.{datum_values}
+use Rattle.stmt65.specs.Words.{datum_of, datum_values, value_of}
 use Rattle.as65.proofs.hint.data_values.Given as goal
 
 abbrev pub invariant-data : goal.invariant-data

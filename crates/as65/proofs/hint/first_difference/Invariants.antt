@@ -1,6 +1,6 @@
 use Rattle.std.proofs.Common.{◌≡◌, drop, map}
-use Rattle.stmt65.specs.Code.SourceLineViews.{value_of}
-use Rattle.as65.specs.Hint.{first_difference}
+use Rattle.stmt65.specs.Words.{value_of}
+use Rattle.as65.specs.Words.{first_difference}
 use Rattle.as65.proofs.hint.first_difference.Given as goal
 
 abbrev pub invariant-values : goal.invariant-values

@@ -1,6 +1,6 @@
 use Rattle.std.proofs.Common.{◌≡◌, drop, map}
-use Rattle.stmt65.specs.Code.SourceLineViews.{value_of}
-use Rattle.as65.specs.Hint.{first_unknown}
+use Rattle.stmt65.specs.Words.{value_of}
+use Rattle.as65.specs.Words.{first_unknown}
 use Rattle.as65.proofs.hint.first_unknown.Given as goal
 
 abbrev pub invariant-values : goal.invariant-values

@@ -1,5 +1,5 @@
 use Rattle.std.proofs.Common.{◌≡◌, false, length}
-use Rattle.as65.specs.Hint.{has_0x}
+use Rattle.as65.specs.Words.{has_0x}
 use Rattle.as65.proofs.hint.has_0x.Given as goal
 
 abbrev pub invariant-bytes : goal.invariant-bytes

@@ -1,5 +1,5 @@
 use Rattle.std.proofs.Common.{◌≡◌, false, length}
-use Rattle.as65.specs.Hint.{has_inner_quote}
+use Rattle.as65.specs.Words.{has_inner_quote}
 use Rattle.as65.proofs.hint.has_inner_quote.Given as goal
 
 abbrev pub invariant-bytes : goal.invariant-bytes

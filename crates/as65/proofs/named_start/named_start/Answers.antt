@@ -1,7 +1,7 @@
 use Rattle.std.proofs.Common.{◌∙◌, ap}
 use Rattle.std.proofs.lemmas.Result.{IfOk-weaker}
-use Rattle.stmt65.specs.Sources.{source_meaning, source_readings}
-use Rattle.as65.specs.NamedStart.{first_of, starts_in}
+use Rattle.stmt65.specs.Words.{source_meaning, source_readings}
+use Rattle.as65.specs.Words.{first_of, starts_in}
 use Rattle.as65.proofs.named_start.named_start.Goals as goal
 
 pub returns : goal.returns

@@ -1,7 +1,6 @@
 use Rattle.std.proofs.Common.{◌≡◌, ◌++◌, length}
-use Rattle.stmt65.specs.Meaning.{readings}
-use Rattle.stmt65.specs.Sources.{source_readings}
-use Rattle.as65.specs.NamedStart.{starts_in}
+use Rattle.stmt65.specs.Words.{readings, source_readings}
+use Rattle.as65.specs.Words.{starts_in}
 use Rattle.as65.proofs.named_start.starts_in.Given as goal
 
 abbrev pub invariant-lines : goal.invariant-lines

@@ -1,6 +1,6 @@
 use Rattle.std.proofs.Common.{◌≡◌, ◌++◌, drop, map}
-use Rattle.info65.specs.Code.Segments.{segment_seen}
-use Rattle.as65.specs.SegmentStarts.{start_of}
+use Rattle.info65.specs.Words.{segment_seen}
+use Rattle.as65.specs.Words.{start_of}
 use Rattle.as65.proofs.segment_starts.filled_by.Given as goal
 
 abbrev pub invariant-segments : goal.invariant-segments

@@ -1,5 +1,5 @@
 use Rattle.std.proofs.Common.{◌≡◌, ◌<◌, ◌≤◌, ℕ, not}
-use Rattle.as65.specs.Stretches.{differs}
+use Rattle.as65.specs.Words.{differs}
 use Rattle.as65.proofs.stretches.first_where.Given as goal
 
 abbrev pub invariant-bytes : goal.invariant-bytes

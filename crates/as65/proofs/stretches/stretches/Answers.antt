@@ -1,4 +1,4 @@
-use Rattle.as65.specs.Stretches.{differs}
+use Rattle.as65.specs.Words.{differs}
 use Rattle.as65.proofs.StretchLemmas.{runs_end}
 use Rattle.as65.proofs.stretches.stretches.Goals as goal
 

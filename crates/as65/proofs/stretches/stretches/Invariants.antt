@@ -1,6 +1,5 @@
 use Rattle.std.proofs.Common.{◌-◌, ◌≤◌, ◌++◌, List, length}
-use Rattle.as65.specs.Stretches.{AreRuns, differs}
-use Rattle.as65.specs.declared.stretches.Stretch.{Stretch}
+use Rattle.as65.specs.Words.{AreRuns, Stretch, differs}
 use Rattle.as65.proofs.stretches.stretches.Given as goal
 
 abbrev pub invariant-stretches : goal.invariant-stretches

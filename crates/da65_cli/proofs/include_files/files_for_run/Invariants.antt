@@ -1,5 +1,5 @@
 use Rattle.std.proofs.Common.{◌≡◌, map, take}
-use Rattle.da65.specs.Files.{files_seen}
+use Rattle.da65.specs.Words.{files_seen}
 use Rattle.da65_cli.specs.Code.IncludeFiles.{content_seen}
 use Rattle.da65_cli.proofs.include_files.files_for_run.Given as goal
 

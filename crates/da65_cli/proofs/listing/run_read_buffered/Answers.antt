@@ -1,6 +1,5 @@
 use Rattle.std.proofs.Common.{Some, nat_lt, ap, ◌∙◌}
-use Rattle.da65.specs.Files.{files_seen}
-use Rattle.da65.specs.Outcome.{outcome_by, prepared_by}
+use Rattle.da65.specs.Words.{files_seen, outcome_by, prepared_by}
 use Rattle.da65_cli.proofs.DeliveryLemmas.{delivers_told, fresh_taken, has_room}
 use Rattle.da65_cli.proofs.ReassemblesLemmas.{reassembles_told}
 use Rattle.da65_cli.proofs.listing.run_read_buffered.Goals as goal

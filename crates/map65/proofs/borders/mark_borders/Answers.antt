@@ -1,10 +1,7 @@
 use Rattle.std.proofs.Common.{◌≡◌, ◌∙◌, List, ap, arith, get_or, length, subst, sym}
 use Rattle.std.proofs.lemmas.List.{get_or-map, length-map, take_all}
-use Rattle.info65.specs.Code.Segments.{segment_seen}
-use Rattle.info65.specs.Views.{SegmentView}
-use Rattle.map65.specs.Code.Cells.{with_border}
-use Rattle.map65.specs.Code.Marking.{Changes}
-use Rattle.map65.specs.Segments.{borders, is_border}
+use Rattle.info65.specs.Words.{SegmentView, segment_seen}
+use Rattle.map65.specs.Words.{Changes, borders, is_border, with_border}
 use Rattle.map65.proofs.CellLemmas.{with_border_again}
 use Rattle.map65.proofs.ChangeLemmas.{changes_more, changes_none}
 use Rattle.map65.proofs.borders.mark_borders.Goals as goal

@@ -1,7 +1,5 @@
 use Rattle.std.proofs.Common.{take}
-use Rattle.map65.specs.Code.Cells.{with_border}
-use Rattle.map65.specs.Code.Marking.{Changes}
-use Rattle.map65.specs.Segments.{is_border}
+use Rattle.map65.specs.Words.{Changes, is_border, with_border}
 use Rattle.map65.proofs.borders.mark_borders.Given as goal
 
 abbrev pub invariant-loop-i : goal.invariant-loop-i

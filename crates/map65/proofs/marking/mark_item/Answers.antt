@@ -1,10 +1,6 @@
 use Rattle.std.proofs.Common.{◌≡◌, ◌∙◌, ℕ, ◌+◌, ap, arith, get_or, subst, refl, sym, set, true, false}
 use Rattle.std.specs.Prelude.{IsSome}
-use Rattle.map65.specs.Code.Cells.{AreNamed, with_len}
-use Rattle.map65.specs.Code.Marking.{AreMarkedBelow}
-use Rattle.map65.specs.MapView.{MapView}
-use Rattle.map65.specs.Pieces.{is_own}
-use Rattle.map65.specs.Roles.{is_skip, role_of}
+use Rattle.map65.specs.Words.{AreMarkedBelow, AreNamed, MapView, is_own, is_skip, role_of, with_len}
 use Rattle.map65.proofs.MarkingLemmas.{item_named, item_marked, next_begins, role_here, role_known, skip_marked}
 use Rattle.map65.proofs.marking.mark_item.Goals as goal
 

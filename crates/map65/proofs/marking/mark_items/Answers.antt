@@ -1,6 +1,5 @@
 use Rattle.std.proofs.Common.{◌≡◌, ◌∙◌, ◌≤◌, ap, arith, length}
-use Rattle.map65.specs.ImageView.{end_of}
-use Rattle.map65.specs.MapView.{MapView}
+use Rattle.map65.specs.Words.{MapView, end_of}
 use Rattle.map65.proofs.MarkingLemmas.{all_marked, first_begins, marked_none}
 use Rattle.map65.proofs.marking.mark_items.Goals as goal
 

@@ -1,9 +1,5 @@
 use Rattle.std.proofs.Common.{◌≡◌, ◌-◌, ◌≤◌}
-use Rattle.map65.specs.Code.Cells.{AreNamed}
-use Rattle.map65.specs.Code.Marking.{AreMarkedBelow}
-use Rattle.map65.specs.Items.{item_start}
-use Rattle.map65.specs.MapView.{MapView}
-use Rattle.map65.specs.Pieces.{is_own}
+use Rattle.map65.specs.Words.{AreMarkedBelow, AreNamed, MapView, is_own, item_start}
 use Rattle.map65.proofs.marking.mark_items.Given as goal
 
 abbrev pub invariant-items : goal.invariant-items

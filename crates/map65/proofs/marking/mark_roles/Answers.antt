@@ -1,8 +1,5 @@
 use Rattle.std.proofs.Common.{◌≡◌, ◌+◌, ◌-◌, ◌<◌, ℕ, List, arith, drop, length, sym, subst}
-use Rattle.info65.specs.declared.information.range.RangeSpec.{RangeSpec}
-use Rattle.info65.specs.declared.information.range.RangeType.TheVariants.{Code}
-use Rattle.map65.specs.Code.Marking.{ArePainted}
-use Rattle.map65.specs.MapView.{MapView}
+use Rattle.map65.specs.Words.{ArePainted, Code, MapView, RangeSpec}
 use Rattle.map65.proofs.PaintLemmas.{none-named, none-marked, painted-more}
 use Rattle.map65.proofs.marking.mark_roles.Goals as goal
 

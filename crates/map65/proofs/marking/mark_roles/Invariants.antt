@@ -1,5 +1,5 @@
 use Rattle.std.proofs.Common.{◌≤◌, drop, length}
-use Rattle.map65.specs.Code.Marking.{ArePainted}
+use Rattle.map65.specs.Words.{ArePainted}
 use Rattle.map65.proofs.marking.mark_roles.Given as goal
 
 abbrev pub invariant-painting : goal.invariant-painting

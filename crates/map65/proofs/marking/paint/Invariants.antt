@@ -1,5 +1,5 @@
 use Rattle.std.proofs.Common.{◌≤◌, max}
-use Rattle.map65.specs.Code.Marking.{Changes, is_within, painted}
+use Rattle.map65.specs.Words.{Changes, is_within, painted}
 use Rattle.map65.proofs.marking.paint.Given as goal
 
 abbrev pub invariant-loop-at : goal.invariant-loop-at

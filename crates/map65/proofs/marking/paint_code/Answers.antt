@@ -1,5 +1,5 @@
 use Rattle.std.proofs.Common.{◌≡◌, ◌∙◌, ◌+◌, arith, length, ap}
-use Rattle.map65.specs.ImageView.{end_of}
+use Rattle.map65.specs.Words.{end_of}
 use Rattle.map65.proofs.PaintLemmas.{code_painted}
 use Rattle.map65.proofs.marking.paint_code.Goals as goal
 

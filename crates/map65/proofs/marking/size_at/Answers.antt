@@ -1,7 +1,6 @@
 use Rattle.std.proofs.Common.{◌≡◌, ◌∙◌, ◌+◌, ℕ, ap, arith, sym, true, false, ⊎_elim}
 use Rattle.std.proofs.lemmas.Bool.{both_ways, cases_eq}
-use Rattle.map65.specs.MapView.{MapView}
-use Rattle.map65.specs.Pieces.{is_joined}
+use Rattle.map65.specs.Words.{MapView, is_joined}
 use Rattle.map65.proofs.ItemLaws.{size_cut, size_whole}
 use Rattle.map65.proofs.ItemLemmas.{joined_high}
 use Rattle.map65.proofs.MarkingLemmas.{joined_answer}

@@ -1,7 +1,5 @@
 use Rattle.std.proofs.Common.{◌+◌, ◌<◌}
-use Rattle.map65.specs.ImageView.{end_of}
-use Rattle.map65.specs.MapView.{MapView}
-use Rattle.map65.specs.Pieces.{AreOnePiece}
+use Rattle.map65.specs.Words.{AreOnePiece, MapView, end_of}
 use Rattle.map65.proofs.marking.size_at.Given as goal
 
 abbrev pub invariant-loop-i : goal.invariant-loop-i

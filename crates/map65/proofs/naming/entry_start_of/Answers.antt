@@ -1,6 +1,5 @@
 use Rattle.std.proofs.Common.{◌≡◌, ◌∙◌, ap, arith, false, get_or, sym, true}
-use Rattle.map65.specs.Code.Cells.{is_wide_cell, len_in_cell}
-use Rattle.map65.specs.Items.{item_len}
+use Rattle.map65.specs.Words.{is_wide_cell, item_len, len_in_cell}
 use Rattle.map65.proofs.NamingLemmas.{entry_start_before, entry_start_found, entry_start_here, entry_start_low, laid_len}
 use Rattle.map65.proofs.naming.entry_start_of.Goals as goal
 

@@ -1,7 +1,5 @@
 use Rattle.std.proofs.Common.{◌≤◌}
-use Rattle.map65.specs.Code.Cells.{IsLaid}
-use Rattle.map65.specs.MapView.{MapView}
-use Rattle.map65.specs.Names.{entry_start}
+use Rattle.map65.specs.Words.{IsLaid, MapView, entry_start}
 use Rattle.map65.proofs.naming.entry_start_of.Given as goal
 
 abbrev pub invariant-back : goal.invariant-back

@@ -1,8 +1,6 @@
 use Rattle.std.proofs.Common.{◌∙◌, ◌+◌, ◌<◌, ap, arith, length, max, subst, sym}
-use Rattle.info65.specs.Names.{name_at}
-use Rattle.info65.specs.Views.{NameView}
-use Rattle.map65.specs.Code.Cells.{with_name}
-use Rattle.map65.specs.Code.Marking.{Changes, Reaches, is_covered_below, is_within}
+use Rattle.info65.specs.Words.{NameView, name_at}
+use Rattle.map65.specs.Words.{Changes, Reaches, is_covered_below, is_within, with_name}
 use Rattle.map65.proofs.ChangeLemmas.{changes_none}
 use Rattle.map65.proofs.NamingLemmas.{covered_end, covered_next, names_keep, reaches_more, reaches_none}
 use Rattle.map65.proofs.naming.mark_covered.Goals as goal

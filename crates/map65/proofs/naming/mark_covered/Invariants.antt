@@ -1,5 +1,4 @@
-use Rattle.map65.specs.Code.Cells.{with_name}
-use Rattle.map65.specs.Code.Marking.{Changes, Reaches, is_covered_below}
+use Rattle.map65.specs.Words.{Changes, Reaches, is_covered_below, with_name}
 use Rattle.map65.proofs.naming.mark_covered.Given as goal
 
 abbrev pub invariant-loop-i : goal.invariant-loop-i

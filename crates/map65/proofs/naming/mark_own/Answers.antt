@@ -1,10 +1,7 @@
 use Rattle.std.proofs.Common.{◌==◌, List, ap, arith, subst, ℕ}
 use Rattle.std.proofs.lemmas.List.{take_all}
-use Rattle.info65.specs.Names.{blank_name}
-use Rattle.info65.specs.Views.{NameView}
-use Rattle.map65.specs.Code.Cells.{nowhere, with_name}
-use Rattle.map65.specs.Code.Marking.{Changes}
-use Rattle.map65.specs.Pieces.{is_own}
+use Rattle.info65.specs.Words.{NameView, blank_name}
+use Rattle.map65.specs.Words.{Changes, is_own, nowhere, with_name}
 use Rattle.map65.proofs.CellLemmas.{with_name_again}
 use Rattle.map65.proofs.ChangeLemmas.{changes_more, changes_none}
 use Rattle.map65.proofs.NamingLemmas.{names_added, names_keep}

@@ -1,7 +1,5 @@
 use Rattle.std.proofs.Common.{take}
-use Rattle.map65.specs.Code.Cells.{with_name}
-use Rattle.map65.specs.Code.Marking.{Changes}
-use Rattle.map65.specs.Pieces.{is_own}
+use Rattle.map65.specs.Words.{Changes, is_own, with_name}
 use Rattle.map65.proofs.naming.mark_own.Given as goal
 
 abbrev pub invariant-loop-i : goal.invariant-loop-i

@@ -1,6 +1,5 @@
 use Rattle.std.proofs.Common.{◌≤◌, max}
-use Rattle.map65.specs.Code.Cells.{with_name}
-use Rattle.map65.specs.Code.Marking.{Changes, is_within}
+use Rattle.map65.specs.Words.{Changes, is_within, with_name}
 use Rattle.map65.proofs.naming.mark_span.Given as goal
 
 abbrev pub invariant-loop-at : goal.invariant-loop-at

@@ -1,7 +1,6 @@
 use Rattle.std.proofs.Common.{◌≡◌, ◌∙◌, ap, refl, sym, subst, arith, get_or}
 use Rattle.std.specs.Prelude.{IsSome}
-use Rattle.map65.specs.Items.{item_len}
-use Rattle.map65.specs.MapView.{MapView}
+use Rattle.map65.specs.Words.{MapView, item_len}
 use Rattle.map65.proofs.NamingLemmas.{laid_known, laid_fits, laid_item, refers_none, refers_some}
 use Rattle.map65.proofs.RunLemmas.{some_same}
 use Rattle.map65.proofs.TargetLemmas.{short_at}

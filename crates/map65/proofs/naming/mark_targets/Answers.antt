@@ -1,7 +1,5 @@
 use Rattle.std.proofs.Common.{◌+◌, ap, arith, length}
-use Rattle.map65.specs.Code.Cells.{with_name}
-use Rattle.map65.specs.Code.Marking.{is_referenced_below}
-use Rattle.map65.specs.MapView.{MapView}
+use Rattle.map65.specs.Words.{MapView, is_referenced_below, with_name}
 use Rattle.map65.proofs.ChangeLemmas.{changes_none}
 use Rattle.map65.proofs.NamingLemmas.{laid_keeps, names_keep, referenced_end, referenced_next}
 use Rattle.map65.proofs.naming.mark_targets.Goals as goal

@@ -1,6 +1,4 @@
-use Rattle.map65.specs.Code.Cells.{with_name}
-use Rattle.map65.specs.Code.Marking.{Changes, is_referenced_below}
-use Rattle.map65.specs.MapView.{MapView}
+use Rattle.map65.specs.Words.{Changes, MapView, is_referenced_below, with_name}
 use Rattle.map65.proofs.naming.mark_targets.Given as goal
 
 abbrev pub invariant-loop-k : goal.invariant-loop-k

@@ -1,6 +1,6 @@
 use Rattle.std.proofs.Common.{ap, ◌∙◌}
-use Rattle.info65.specs.Views.{SettingsView}
-use Rattle.map65.specs.Image.{image_by, most_of}
+use Rattle.info65.specs.Words.{SettingsView}
+use Rattle.map65.specs.Words.{image_by, most_of}
 use Rattle.map65.proofs.ReadLemmas.{image_seen}
 use Rattle.map65.proofs.reading.read_image.Goals as goal
 

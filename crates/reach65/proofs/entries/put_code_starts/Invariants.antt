@@ -1,5 +1,5 @@
 use Rattle.std.proofs.Common.{◌≡◌, ◌++◌, take}
-use Rattle.reach65.specs.Entries.{code_starts}
+use Rattle.reach65.specs.Words.{code_starts}
 use Rattle.reach65.proofs.entries.put_code_starts.Given as goal
 
 abbrev pub invariant-starts : goal.invariant-starts

@@ -1,4 +1,4 @@
-use Rattle.reach65.specs.Code.Growing.{IsGrown}
+use Rattle.reach65.specs.Words.{IsGrown}
 use Rattle.reach65.proofs.growth.grow_rows.Given as goal
 
 abbrev pub invariant-scans : goal.invariant-scans

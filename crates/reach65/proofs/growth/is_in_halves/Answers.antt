@@ -1,5 +1,5 @@
 use Rattle.std.proofs.Common.{◌≡◌, ◌∙◌, ◌++◌, true, ap}
-use Rattle.reach65.specs.Pairs.{pairs_at}
+use Rattle.reach65.specs.Words.{pairs_at}
 use Rattle.reach65.proofs.GrowthLemmas.{is_in_halves}
 use Rattle.reach65.proofs.growth.is_in_halves.Goals as goal
 

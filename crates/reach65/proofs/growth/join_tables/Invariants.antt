@@ -1,4 +1,4 @@
-use Rattle.reach65.specs.Code.Growing.{IsGrown}
+use Rattle.reach65.specs.Words.{IsGrown}
 use Rattle.reach65.proofs.growth.join_tables.Given as goal
 
 abbrev pub invariant-tables : goal.invariant-tables

@@ -1,5 +1,5 @@
 use Rattle.std.proofs.Common.{Ok, ap, subst}
-use Rattle.reach65.specs.Growth.{IsCandidate}
+use Rattle.reach65.specs.Words.{IsCandidate}
 use Rattle.reach65.proofs.GrowthLemmas.{may_alone}
 use Rattle.reach65.proofs.growth.try_candidate.Goals as goal
 

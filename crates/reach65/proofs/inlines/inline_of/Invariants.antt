@@ -1,5 +1,5 @@
 use Rattle.std.proofs.Common.{◌≡◌, length}
-use Rattle.reach65.specs.Inlines.{inline_of}
+use Rattle.reach65.specs.Words.{inline_of}
 use Rattle.reach65.proofs.inlines.inline_of.Given as goal
 
 abbrev pub invariant-tags : goal.invariant-tags

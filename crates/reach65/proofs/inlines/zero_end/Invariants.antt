@@ -1,5 +1,5 @@
 use Rattle.std.proofs.Common.{◌≡◌, ◌+◌, length}
-use Rattle.reach65.specs.Inlines.{zero_end}
+use Rattle.reach65.specs.Words.{zero_end}
 use Rattle.reach65.proofs.inlines.zero_end.Given as goal
 
 abbrev pub invariant-bytes : goal.invariant-bytes

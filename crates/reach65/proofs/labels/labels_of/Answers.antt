@@ -1,5 +1,5 @@
 use Rattle.std.proofs.Common.{◌≡◌, ◌∙◌, ap}
-use Rattle.reach65.specs.Labels.{is_unnamed, labels_from}
+use Rattle.reach65.specs.Words.{is_unnamed, labels_from}
 use Rattle.reach65.proofs.LabelLemmas.{labels_are, labels_fresh}
 use Rattle.reach65.proofs.labels.labels_of.Goals as goal
 

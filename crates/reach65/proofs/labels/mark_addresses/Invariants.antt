@@ -1,6 +1,6 @@
 use Rattle.std.proofs.Common.{◌==◌, take}
 use Rattle.std.specs.List.{list_any}
-use Rattle.reach65.specs.Code.Marking.{Marks}
+use Rattle.reach65.specs.Words.{Marks}
 use Rattle.reach65.proofs.labels.mark_addresses.Given as goal
 
 abbrev pub invariant-addresses : goal.invariant-addresses

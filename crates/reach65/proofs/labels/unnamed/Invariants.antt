@@ -1,5 +1,5 @@
 use Rattle.std.proofs.Common.{◌≡◌}
-use Rattle.reach65.specs.Labels.{is_unnamed, labels_from}
+use Rattle.reach65.specs.Words.{is_unnamed, labels_from}
 use Rattle.reach65.proofs.labels.unnamed.Given as goal
 
 abbrev pub invariant-labels : goal.invariant-labels

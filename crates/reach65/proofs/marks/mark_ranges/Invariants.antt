@@ -1,6 +1,5 @@
 use Rattle.std.proofs.Common.{take}
-use Rattle.reach65.specs.Code.Marking.{Marks}
-use Rattle.reach65.specs.Taken.{is_given}
+use Rattle.reach65.specs.Words.{Marks, is_given}
 use Rattle.reach65.proofs.marks.mark_ranges.Given as goal
 
 abbrev pub invariant-given : goal.invariant-given

@@ -1,5 +1,5 @@
 use Rattle.std.proofs.Common.{◌≡◌, ◌&&◌, ◌||◌, ℕ, nat_le, nat_lt}
-use Rattle.reach65.specs.Reached.{is_marked}
+use Rattle.reach65.specs.Words.{is_marked}
 use Rattle.reach65.proofs.marks.mark_span.Given as goal
 
 abbrev pub invariant-span : goal.invariant-span

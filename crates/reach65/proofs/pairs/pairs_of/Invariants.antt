@@ -1,7 +1,7 @@
 use Rattle.std.proofs.Common.{◌≡◌}
 use Rattle.std.specs.List.{flat_map}
-use Rattle.reach65.specs.Pairs.{pairs_at}
-use Rattle.map65.specs.Spans.{addresses}
+use Rattle.reach65.specs.Words.{pairs_at}
+use Rattle.map65.specs.Words.{addresses}
 use Rattle.reach65.proofs.pairs.pairs_of.Given as goal
 
 abbrev pub invariant-pairs : goal.invariant-pairs

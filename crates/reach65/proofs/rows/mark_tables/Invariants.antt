@@ -1,6 +1,5 @@
 use Rattle.std.proofs.Common.{◌≡◌, ◌||◌, ℕ, length, take}
-use Rattle.reach65.specs.Reached.{is_marked}
-use Rattle.reach65.specs.Rows.{is_of_table}
+use Rattle.reach65.specs.Words.{is_marked, is_of_table}
 use Rattle.reach65.proofs.rows.mark_tables.Given as goal
 
 abbrev pub invariant-tables : goal.invariant-tables

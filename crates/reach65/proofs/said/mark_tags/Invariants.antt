@@ -1,6 +1,5 @@
 use Rattle.std.proofs.Common.{take}
-use Rattle.reach65.specs.Code.Marking.{MarksBelow}
-use Rattle.reach65.specs.Said.{is_said}
+use Rattle.reach65.specs.Words.{MarksBelow, is_said}
 use Rattle.reach65.proofs.said.mark_tags.Given as goal
 
 abbrev pub invariant-tags : goal.invariant-tags

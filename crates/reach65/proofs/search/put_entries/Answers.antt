@@ -1,6 +1,6 @@
 use Rattle.std.proofs.Common.{◌≡◌, ◌∙◌, ◌++◌, ◌∷◌, [], ap, append_assoc, get_or, subst, sym, take}
 use Rattle.std.proofs.lemmas.List.{take_more}
-use Rattle.reach65.specs.Code.Searching.{IsBegun, put_entry}
+use Rattle.reach65.specs.Words.{IsBegun, put_entry}
 use Rattle.reach65.proofs.SearchLemmas.{entry_begun, entry_entries}
 use Rattle.reach65.proofs.search.put_entries.Goals as goal
 

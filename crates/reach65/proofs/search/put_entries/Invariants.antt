@@ -1,5 +1,5 @@
 use Rattle.std.proofs.Common.{◌≡◌, ◌++◌, take}
-use Rattle.reach65.specs.Code.Searching.{IsBegun}
+use Rattle.reach65.specs.Words.{IsBegun}
 use Rattle.reach65.proofs.search.put_entries.Given as goal
 
 abbrev pub invariant-entries : goal.invariant-entries

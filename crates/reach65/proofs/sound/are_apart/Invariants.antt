@@ -1,5 +1,5 @@
 use Rattle.std.proofs.Common.{◌<◌, ℕ, get_or}
-use Rattle.reach65.specs.Sound.{IsApart}
+use Rattle.reach65.specs.Words.{IsApart}
 use Rattle.reach65.proofs.sound.are_apart.Given as goal
 
 abbrev pub invariant-added : goal.invariant-added

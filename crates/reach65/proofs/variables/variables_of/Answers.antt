@@ -1,6 +1,5 @@
 use Rattle.std.proofs.Common.{arith}
-use Rattle.reach65.specs.Reached.{is_marked}
-use Rattle.reach65.specs.Variables.{variables_of}
+use Rattle.reach65.specs.Words.{is_marked, variables_of}
 use Rattle.reach65.proofs.VariableLemmas.{variables_end, variables_full}
 use Rattle.reach65.proofs.variables.variables_of.Goals as goal
 

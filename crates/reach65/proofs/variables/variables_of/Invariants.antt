@@ -1,7 +1,6 @@
 use Rattle.std.proofs.Common.{◌≡◌, ◌++◌, ◌-◌}
-use Rattle.map65.specs.ImageView.{end_of}
-use Rattle.reach65.specs.Reached.{is_marked}
-use Rattle.reach65.specs.Variables.{variables_from}
+use Rattle.map65.specs.Words.{end_of}
+use Rattle.reach65.specs.Words.{is_marked, variables_from}
 use Rattle.reach65.proofs.variables.variables_of.Given as goal
 
 abbrev pub invariant-variables : goal.invariant-variables

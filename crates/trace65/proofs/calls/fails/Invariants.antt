@@ -1,5 +1,5 @@
 use Rattle.std.proofs.Common.{◌≡◌}
-use Rattle.trace65.specs.Likely.{fails}
+use Rattle.trace65.specs.Words.{fails}
 use Rattle.trace65.proofs.calls.fails.Given as goal
 
 abbrev pub invariant-steps : goal.invariant-steps

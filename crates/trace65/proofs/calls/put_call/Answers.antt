@@ -1,7 +1,7 @@
 use Rattle.std.proofs.Common.{◌∷◌, ◌++◌, [], codes, ◌∙◌, ap, decimal}
 use Rattle.std.proofs.lemmas.Result.{on_ok_weaker}
 use Rattle.text65.specs.Digits.{digits4}
-use Rattle.trace65.specs.Likely.{call_comment}
+use Rattle.trace65.specs.Words.{call_comment}
 use Rattle.trace65.proofs.AppendLemmas.{after_four, appended, comment_of_four}
 use Rattle.trace65.proofs.calls.put_call.Goals as goal
 

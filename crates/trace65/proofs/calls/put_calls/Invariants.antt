@@ -1,7 +1,7 @@
 use Rattle.std.proofs.Common.{◌≡◌, ◌++◌}
 use Rattle.std.specs.List.{count_by, flat_map}
-use Rattle.reach65.specs.TextLaws.{comment_line}
-use Rattle.trace65.specs.Likely.{all_of, comments_of_calls, first_of, is_call, is_failing}
+use Rattle.reach65.specs.Words.{comment_line}
+use Rattle.trace65.specs.Words.{all_of, comments_of_calls, first_of, is_call, is_failing}
 use Rattle.trace65.proofs.calls.put_calls.Given as goal
 
 abbrev pub invariant-routines : goal.invariant-routines

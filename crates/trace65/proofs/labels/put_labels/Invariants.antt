@@ -1,6 +1,6 @@
 use Rattle.std.proofs.Common.{◌≡◌, ◌++◌, take}
 use Rattle.std.specs.List.{flat_map}
-use Rattle.reach65.specs.Labels.{label_line}
+use Rattle.reach65.specs.Words.{label_line}
 use Rattle.trace65.proofs.labels.put_labels.Given as goal
 
 abbrev pub invariant-labels : goal.invariant-labels

@@ -1,9 +1,8 @@
 use Rattle.std.proofs.Common.{◌∷◌, ◌++◌, [], codes, ◌∙◌, ap}
 use Rattle.std.proofs.lemmas.Result.{on_ok_weaker}
 use Rattle.text65.specs.Digits.{digits4}
-use Rattle.info65.specs.Names.{covering}
-use Rattle.trace65.specs.Likely.{word_comment}
-use Rattle.trace65.specs.PairComments.{name_text}
+use Rattle.info65.specs.Words.{covering}
+use Rattle.trace65.specs.Words.{name_text, word_comment}
 use Rattle.trace65.proofs.AppendLemmas.{after_four, appended, comment_of_four}
 use Rattle.trace65.proofs.likely.put_word.Goals as goal
 

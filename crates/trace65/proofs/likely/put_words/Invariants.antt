@@ -1,7 +1,7 @@
 use Rattle.std.proofs.Common.{◌≡◌, ◌++◌}
 use Rattle.std.specs.List.{flat_map}
-use Rattle.reach65.specs.TextLaws.{comment_line}
-use Rattle.trace65.specs.Likely.{comments_of_word, first_of, word_at}
+use Rattle.reach65.specs.Words.{comment_line}
+use Rattle.trace65.specs.Words.{comments_of_word, first_of, word_at}
 use Rattle.trace65.proofs.likely.put_words.Given as goal
 
 abbrev pub invariant-words : goal.invariant-words

@@ -1,8 +1,8 @@
 use Rattle.std.proofs.Common.{◌∷◌, ◌++◌, [], codes, ◌∙◌, ap}
 use Rattle.std.proofs.lemmas.Result.{on_ok_weaker}
 use Rattle.text65.specs.Digits.{digits4}
-use Rattle.info65.specs.Names.{covering}
-use Rattle.trace65.specs.PairComments.{name_text, pair_comment}
+use Rattle.info65.specs.Words.{covering}
+use Rattle.trace65.specs.Words.{name_text, pair_comment}
 use Rattle.trace65.proofs.AppendLemmas.{after_five, appended}
 use Rattle.trace65.proofs.pair_comments.put_pair.Goals as goal
 

@@ -1,7 +1,7 @@
 use Rattle.std.proofs.Common.{◌≡◌, ◌++◌, take}
 use Rattle.std.specs.List.{flat_map}
-use Rattle.reach65.specs.TextLaws.{comment_line}
-use Rattle.trace65.specs.PairComments.{pair_comments}
+use Rattle.reach65.specs.Words.{comment_line}
+use Rattle.trace65.specs.Words.{pair_comments}
 use Rattle.trace65.proofs.pair_comments.put_pairs.Given as goal
 
 abbrev pub invariant-pairs : goal.invariant-pairs

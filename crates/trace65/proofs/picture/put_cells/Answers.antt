@@ -1,6 +1,6 @@
 use Rattle.std.proofs.Common.{append_assoc, arith, refl}
 use Rattle.std.proofs.lemmas.List.FromFn.{map-range_with_len_more}
-use Rattle.trace65.specs.Picture.{cell_at}
+use Rattle.trace65.specs.Words.{cell_at}
 use Rattle.trace65.proofs.picture.put_cells.Goals as goal
 
 pub cells-preserved : goal.cells-preserved

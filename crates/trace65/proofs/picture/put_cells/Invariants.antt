@@ -1,6 +1,6 @@
 use Rattle.std.proofs.Common.{◌≡◌, ◌++◌, map}
 use Rattle.std.specs.List.{range_with_len}
-use Rattle.trace65.specs.Picture.{cell_at}
+use Rattle.trace65.specs.Words.{cell_at}
 use Rattle.trace65.proofs.picture.put_cells.Given as goal
 
 abbrev pub invariant-cells : goal.invariant-cells

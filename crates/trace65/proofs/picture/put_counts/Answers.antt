@@ -1,6 +1,6 @@
 use Rattle.std.proofs.Common.{◌≡◌, ◌∙◌, ◌-◌, ◌++◌, ◌∷◌, [], ap, ap₂, codes, decimal, length}
 use Rattle.std.proofs.lemmas.Result.{on_ok_weaker}
-use Rattle.trace65.specs.Picture.{counts_comment, set_count}
+use Rattle.trace65.specs.Words.{counts_comment, set_count}
 use Rattle.trace65.proofs.AppendLemmas.{after_four, appended, comment_of_four}
 use Rattle.trace65.proofs.picture.put_counts.Goals as goal
 

@@ -2,7 +2,7 @@ use Rattle.std.proofs.Common.{◌≡◌, ◌+◌, ◌*◌, append_assoc, arith, 
 use Rattle.std.proofs.lemmas.Grind.{flat_map-append}
 use Rattle.std.proofs.lemmas.List.{append-nil}
 use Rattle.std.proofs.lemmas.List.FromFn.{map-range_with_len_more}
-use Rattle.trace65.specs.Picture.{row_at}
+use Rattle.trace65.specs.Words.{row_at}
 use Rattle.trace65.proofs.picture.put_picture.Goals as goal
 
 pub rows-preserved : goal.rows-preserved

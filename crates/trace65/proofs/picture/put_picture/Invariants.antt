@@ -1,8 +1,8 @@
 use Rattle.std.proofs.Common.{◌≡◌, ◌++◌, map}
 use Rattle.std.specs.List.{flat_map}
 use Rattle.std.specs.List.{range_with_len}
-use Rattle.reach65.specs.TextLaws.{comment_line}
-use Rattle.trace65.specs.Picture.{row_at}
+use Rattle.reach65.specs.Words.{comment_line}
+use Rattle.trace65.specs.Words.{row_at}
 use Rattle.trace65.proofs.picture.put_picture.Given as goal
 
 abbrev pub invariant-rows : goal.invariant-rows

@@ -1,5 +1,5 @@
 use Rattle.std.proofs.Common.{◌≡◌, take}
-use Rattle.trace65.specs.Picture.{set_count}
+use Rattle.trace65.specs.Words.{set_count}
 use Rattle.trace65.proofs.picture.set_count.Given as goal
 
 abbrev pub invariant-marks : goal.invariant-marks

@@ -1,5 +1,5 @@
 use Rattle.std.proofs.Common.{◌≡◌, ◌++◌, map, take}
-use Rattle.reach65.specs.RangeLines.{shown_char}
+use Rattle.reach65.specs.Words.{shown_char}
 use Rattle.trace65.proofs.ranges.put_characters.Given as goal
 
 abbrev pub invariant-characters : goal.invariant-characters

@@ -1,10 +1,8 @@
 use Rattle.std.proofs.Common.{◌≡◌, ◌∙◌, ◌++◌, ap, ap₂}
 use Rattle.std.specs.List.{flat_map}
 use Rattle.std.proofs.lemmas.Result.{on_ok_weaker}
-use Rattle.reach65.specs.TextLaws.{comment_line}
-use Rattle.trace65.specs.Misplaced.{misplaced_comments}
-use Rattle.trace65.specs.Picture.{image_marks}
-use Rattle.trace65.specs.Report.{legend, picture_and_counts}
+use Rattle.reach65.specs.Words.{comment_line}
+use Rattle.trace65.specs.Words.{image_marks, legend, misplaced_comments, picture_and_counts}
 use Rattle.trace65.proofs.AppendLemmas.{comments_on}
 use Rattle.trace65.proofs.report.put_head.Goals as goal
 

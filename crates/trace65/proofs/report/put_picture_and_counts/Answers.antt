@@ -1,6 +1,5 @@
 use Rattle.std.proofs.lemmas.Result.{on_ok_weaker}
-use Rattle.trace65.specs.Picture.{counts_comment, picture_comments}
-use Rattle.trace65.specs.Report.{legend, legend_more}
+use Rattle.trace65.specs.Words.{counts_comment, legend, legend_more, picture_comments}
 use Rattle.trace65.proofs.AppendLemmas.{comments_between}
 use Rattle.trace65.proofs.report.put_picture_and_counts.Goals as goal
 

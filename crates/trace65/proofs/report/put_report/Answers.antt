@@ -1,10 +1,8 @@
 use Rattle.std.proofs.Common.{◌∙◌, ◌++◌, ap, ap₂}
 use Rattle.std.specs.List.{flat_map}
 use Rattle.std.proofs.lemmas.Result.{on_ok_weaker}
-use Rattle.reach65.specs.Labels.{label_lines}
-use Rattle.reach65.specs.RangeLines.{range_lines}
-use Rattle.reach65.specs.TextLaws.{comment_line}
-use Rattle.trace65.specs.Report.{comments_before, found_comments, legend, report_text}
+use Rattle.reach65.specs.Words.{comment_line, label_lines, range_lines}
+use Rattle.trace65.specs.Words.{comments_before, found_comments, legend, report_text}
 use Rattle.trace65.proofs.AppendLemmas.{after_four}
 use Rattle.trace65.proofs.report.put_report.Goals as goal
 

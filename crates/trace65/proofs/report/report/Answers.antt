@@ -1,6 +1,5 @@
 use Rattle.std.proofs.Common.{◌∙◌, ◌++◌, List, ℕ, ap, refl, subst}
-use Rattle.trace65.specs.Findings.{AreFindings}
-use Rattle.trace65.specs.Report.{report_text}
+use Rattle.trace65.specs.Words.{AreFindings, report_text}
 use Rattle.trace65.proofs.ReportLemmas.{accepted}
 use Rattle.trace65.proofs.report.report.Goals as goal
 

@@ -1,8 +1,7 @@
 use Rattle.std.proofs.Common.{arith}
 use Rattle.std.specs.Prelude.{Ok, Err}
 use Rattle.info65.proofs.Public.{number_great, number_none, number_small}
-use Rattle.usage65.specs.Number.{number_in}
-use Rattle.usage65.specs.declared.fault.UsageFault.TheVariants.{BadNumber, OutOfRange}
+use Rattle.usage65.specs.Words.{BadNumber, OutOfRange, number_in}
 use Rattle.usage65.proofs.number.number_in.Goals as goal
 
 pub returns-in-None-clause-value : goal.returns-in-None-clause-value

@@ -1,7 +1,6 @@
 use Rattle.std.proofs.Common.{◌≡◌, ◌++◌, drop, map}
 use Rattle.std.specs.List.{flat_map}
-use Rattle.usage65.specs.Code.Rows.{choice_of}
-use Rattle.usage65.specs.Help.{help_line}
+use Rattle.usage65.specs.Words.{choice_of, help_line}
 use Rattle.usage65.proofs.program.put_help_lines.Given as goal
 
 -- the lines so far, and then those of the options that are left

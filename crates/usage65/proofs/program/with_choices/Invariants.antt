@@ -1,7 +1,6 @@
 use Rattle.std.proofs.Common.{◌≡◌, drop, map}
 use Rattle.clap.specs.Words.{app_of}
-use Rattle.usage65.specs.Code.Rows.{choice_of}
-use Rattle.usage65.specs.Command.{with_choices}
+use Rattle.usage65.specs.Words.{choice_of, with_choices}
 use Rattle.usage65.proofs.program.with_choices.Given as goal
 
 -- the command so far, and then the options that are left

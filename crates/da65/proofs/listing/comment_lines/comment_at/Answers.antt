@@ -1,7 +1,6 @@
 use Rattle.std.proofs.Common.{◌∙◌, ap, sym}
 use Rattle.da65.proofs.NextLine.CommentLemmas.{given_told, some_printable}
-use Rattle.map65.specs.MapView.{MapView}
-use Rattle.map65.specs.Names.{has_name}
+use Rattle.map65.specs.Words.{MapView, has_name}
 use Rattle.da65.proofs.NextLine.MarkLemmas.{unmarked, unnamed-comment}
 use Rattle.da65.proofs.listing.comment_lines.comment_at.Goals as goal
 

@@ -1,7 +1,6 @@
 use Rattle.std.proofs.Common.{◌∙◌, ◌+◌, ℕ, List, ap, sym}
 use Rattle.std.specs.List.{list_all, prefix_len}
-use Rattle.da65.specs.Code.NamedCells.{is_unnamed}
-use Rattle.da65.specs.declared.listing.constant_lines.TheConstants.{BLOCK}
+use Rattle.da65.specs.Words.{BLOCK, is_unnamed}
 use Rattle.da65.proofs.NextLine.ConstantLemmas.{unnamed_past}
 use Rattle.da65.proofs.listing.constant_lines.after_unnamed.Goals as goal
 

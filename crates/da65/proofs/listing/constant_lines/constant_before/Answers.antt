@@ -1,8 +1,7 @@
 use Rattle.std.proofs.Common.{◌≡◌, ◌∙◌, ◌-◌, ◌+◌, ℕ, ap, arith, false, subst, sym, []}
 use Rattle.std.proofs.lemmas.Bool.{cond-false}
-use Rattle.map65.specs.MapView.{MapView}
-use Rattle.map65.specs.Names.{has_name}
-use Rattle.da65.specs.Listing.{constant_lines, constants}
+use Rattle.map65.specs.Words.{MapView, has_name}
+use Rattle.da65.specs.Words.{constant_lines, constants}
 use Rattle.da65.proofs.NextLine.ConstantLemmas.{constants-unnamed}
 use Rattle.da65.proofs.NextLine.NextLemmas.{lines-here}
 use Rattle.da65.proofs.listing.constant_lines.constant_before.Goals as goal

@@ -1,5 +1,5 @@
 use Rattle.std.proofs.Common.{◌-◌, ◌≡◌, ◌≤◌}
-use Rattle.da65.specs.Listing.{constants}
+use Rattle.da65.specs.Words.{constants}
 use Rattle.da65.proofs.listing.constant_lines.constant_before.Given as goal
 
 abbrev pub invariant-addresses : goal.invariant-addresses

@@ -1,6 +1,6 @@
 use Rattle.std.proofs.Common.{◌≡◌, ◌∙◌, ℕ, List, ap, arith, drop, take}
 use Rattle.std.specs.List.{prefix_len}
-use Rattle.da65.specs.Code.NamedCells.{is_unnamed}
+use Rattle.da65.specs.Words.{is_unnamed}
 use Rattle.da65.proofs.NextLine.ConstantLemmas.{unnamed-between}
 use Rattle.da65.proofs.listing.constant_lines.named_from.Goals as goal
 

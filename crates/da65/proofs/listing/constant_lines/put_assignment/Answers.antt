@@ -1,7 +1,7 @@
 use Rattle.std.proofs.Common.{◌∙◌, ap, sym}
 use Rattle.std.proofs.lemmas.Bool.{true≢false}
-use Rattle.map65.specs.MapView.{MapView}
-use Rattle.da65.specs.BaseNames.{base_name, is_base, names_of}
+use Rattle.map65.specs.Words.{MapView}
+use Rattle.da65.specs.Words.{base_name, is_base, names_of}
 use Rattle.da65.proofs.NextLine.NextLemmas.{constant-base}
 use Rattle.da65.proofs.listing.constant_lines.put_assignment.Goals as goal
 

@@ -1,6 +1,6 @@
 use Rattle.std.proofs.Common.{◌≡◌, ◌≤◌, ◌+◌, ◌-◌, length}
 use Rattle.std.specs.List.{prefix_len}
-use Rattle.da65.specs.Code.NamedCells.{is_unnamed}
+use Rattle.da65.specs.Words.{is_unnamed}
 use Rattle.da65.proofs.listing.constant_lines.unnamed_before.Given as goal
 
 abbrev pub invariant-stretches : goal.invariant-stretches

@@ -1,6 +1,6 @@
 use Rattle.std.proofs.Common.{◌≡◌, ◌∙◌, ◌+◌, ℕ, ap, arith, drop, length, length-drop, sym, take}
-use Rattle.map65.specs.MapView.{MapView}
-use Rattle.da65.specs.Groups.{group_bytes, group_len}
+use Rattle.map65.specs.Words.{MapView}
+use Rattle.da65.specs.Words.{group_bytes, group_len}
 use Rattle.da65.proofs.Groups.GroupLemmas.{begins-true, group-fits, item-begins}
 use Rattle.da65.proofs.Groups.ShapeLemmas.{group-index}
 use Rattle.da65.proofs.Statements.PrintLaws.{statement_prints}

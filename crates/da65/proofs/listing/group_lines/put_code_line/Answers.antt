@@ -1,9 +1,7 @@
 use Rattle.std.proofs.Common.{◌≡◌, ◌+◌, None, rules}
-use Rattle.isa65.specs.Mode.{len_of, row_of}
-use Rattle.map65.specs.MapView.{opcodes}
-use Rattle.da65.specs.BaseNames.{names_of}
-use Rattle.da65.specs.Instructions.{instruction_in}
-use Rattle.da65.specs.Statements.{operands_of}
+use Rattle.isa65.specs.Words.{len_of, row_of}
+use Rattle.map65.specs.Words.{opcodes}
+use Rattle.da65.specs.Words.{instruction_in, names_of, operands_of}
 use Rattle.da65.proofs.NextLine.ListedGroupLemmas.{bare, no-instruction}
 use Rattle.da65.proofs.listing.group_lines.put_code_line.Goals as goal
 

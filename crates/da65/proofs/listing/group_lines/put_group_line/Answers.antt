@@ -1,5 +1,5 @@
 use Rattle.std.proofs.Common.{◌∙◌, ◌+◌, ◌<◌, ◌≤◌, arith, sym}
-use Rattle.da65.specs.Lines.{heading_count}
+use Rattle.da65.specs.Words.{heading_count}
 use Rattle.da65.proofs.NextLine.HeadingLemmas.{heading-first, heading-none, headings-end}
 use Rattle.da65.proofs.NextLine.NextLemmas.{next-moved}
 use Rattle.da65.proofs.listing.group_lines.put_group_line.Goals as goal

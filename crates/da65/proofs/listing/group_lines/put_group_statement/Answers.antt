@@ -1,4 +1,4 @@
-use Rattle.da65.specs.Listing.{line_text}
+use Rattle.da65.specs.Words.{line_text}
 use Rattle.da65.proofs.NextLine.ListedGroupLemmas.{is-short}
 use Rattle.da65.proofs.listing.group_lines.put_group_statement.Goals as goal
 

@@ -1,6 +1,5 @@
 use Rattle.std.proofs.Common.{◌∙◌, ◌++◌, List, ap, sym}
-use Rattle.da65.specs.Lines.{after_group}
-use Rattle.da65.specs.Listing.{ListingLine}
+use Rattle.da65.specs.Words.{ListingLine, after_group}
 use Rattle.da65.proofs.NextLine.NextLemmas.{above-lines, beside-lines, from-label, next-plain, takes-label, unlabelled-lines}
 use Rattle.da65.proofs.listing.group_lines.put_label.Goals as goal
 

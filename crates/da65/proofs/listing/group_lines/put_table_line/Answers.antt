@@ -1,6 +1,5 @@
 use Rattle.std.proofs.Common.{[]}
-use Rattle.map65.specs.MapView.{opcodes}
-use Rattle.map65.specs.Roles.{role_of}
+use Rattle.map65.specs.Words.{opcodes, role_of}
 use Rattle.da65.proofs.Statements.EntryLemmas.{group_of_table}
 use Rattle.da65.proofs.NextLine.ListedGroupLemmas.{has-bytes, of-role, statement-is}
 use Rattle.da65.proofs.listing.group_lines.put_table_line.Goals as goal

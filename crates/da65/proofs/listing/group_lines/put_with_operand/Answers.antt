@@ -1,15 +1,10 @@
 use Rattle.std.proofs.Common.{◌≡◌, ◌∙◌, ◌+◌, ℕ, List, Option, ap, arith, refl, sym}
 use Rattle.std.specs.Option.{option_map}
-use Rattle.isa65.specs.Mode.{len_of, row_of}
-use Rattle.isa65.specs.declared.mode.Mode.{Mode}
-use Rattle.isa65.specs.declared.row.OperandKind.{OperandKind}
-use Rattle.isa65.specs.declared.row.Pattern.{Pattern}
+use Rattle.isa65.specs.Words.{len_of, row_of}
+use Rattle.da65.specs.Words.{Mode, Names, OperandKind, Pattern, operand_expr, operands_of}
 use Rattle.isa65.specs.declared.row.Row.TheVariants as row
-use Rattle.stmt65.specs.Code.StatementViews.{expr_seen}
+use Rattle.stmt65.specs.Words.{ExprView, expr_seen}
 use Rattle.stmt65.specs.Views as view
-use Rattle.stmt65.specs.Views.{ExprView}
-use Rattle.da65.specs.BaseNames.{Names}
-use Rattle.da65.specs.Statements.{operand_expr, operands_of}
 use Rattle.da65.proofs.NextLine.ListedGroupLemmas.{is-long, no-operands}
 use Rattle.da65.proofs.listing.group_lines.put_with_operand.Goals as goal
 

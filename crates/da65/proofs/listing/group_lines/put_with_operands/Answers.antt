@@ -1,6 +1,6 @@
 use Rattle.std.proofs.Common.{◌∙◌, ap, arith, sym}
 use Rattle.std.specs.Option.{option_map}
-use Rattle.stmt65.specs.Code.StatementViews.{operands_seen}
+use Rattle.stmt65.specs.Words.{operands_seen}
 use Rattle.da65.proofs.NextLine.ListedGroupLemmas.{is-long, no-operands}
 use Rattle.da65.proofs.listing.group_lines.put_with_operands.Goals as goal
 

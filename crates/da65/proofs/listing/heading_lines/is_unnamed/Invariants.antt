@@ -1,5 +1,5 @@
 use Rattle.std.proofs.Common.{◌-◌}
-use Rattle.da65.specs.Lines.{AreUnnamed}
+use Rattle.da65.specs.Words.{AreUnnamed}
 use Rattle.da65.proofs.listing.heading_lines.is_unnamed.Given as goal
 
 abbrev pub invariant-loop-address : goal.invariant-loop-address

@@ -1,6 +1,5 @@
 use Rattle.std.proofs.Common.{◌≡◌, ◌+◌, ◌-◌, ◌<◌, ℕ, arith, length}
-use Rattle.da65.specs.Groups.{group_len}
-use Rattle.da65.specs.Lines.{heading_lines}
+use Rattle.da65.specs.Words.{group_len, heading_lines}
 use Rattle.da65.proofs.NextLine.HeadingLemmas.{heading-comment, heading-forward}
 use Rattle.da65.proofs.listing.heading_lines.put_heading.Goals as goal
 

@@ -1,7 +1,6 @@
 use Rattle.std.proofs.Common.{◌≡◌, ◌∙◌, ◌+◌, ◌-◌, ◌<◌, ℕ, ap, arith, length, sym}
-use Rattle.map65.specs.MapView.{MapView}
-use Rattle.map65.specs.Segments.{segment_at}
-use Rattle.da65.specs.Segments.{segment_before}
+use Rattle.map65.specs.Words.{MapView, segment_at}
+use Rattle.da65.specs.Words.{segment_before}
 use Rattle.da65.proofs.NextLine.SegmentLemmas.{segment-after, segment-first, segment-skip}
 use Rattle.da65.proofs.listing.heading_lines.segment_before.Goals as goal
 

@@ -1,5 +1,5 @@
 use Rattle.std.proofs.Common.{◌≡◌, ◌≤◌}
-use Rattle.da65.specs.Segments.{segment_before}
+use Rattle.da65.specs.Words.{segment_before}
 use Rattle.da65.proofs.listing.heading_lines.segment_before.Given as goal
 
 abbrev pub invariant-skipped : goal.invariant-skipped

@@ -2,8 +2,8 @@ use Rattle.std.proofs.Common.{◌∙◌, ap, arith, refl, sym}
 use Rattle.std.specs.List.{list_any}
 use Rattle.std.proofs.lemmas.List.{take_all}
 use Rattle.std.proofs.lemmas.List.Folds.{list_any_at, list_any_more}
-use Rattle.info65.specs.Names.{blank_name}
-use Rattle.da65.specs.Marks.{has_comment}
+use Rattle.info65.specs.Words.{blank_name}
+use Rattle.da65.specs.Words.{has_comment}
 use Rattle.da65.proofs.NextLine.MarkLemmas.{comment-shown}
 use Rattle.da65.proofs.listing.headings.has_comment.Goals as goal
 

@@ -1,6 +1,6 @@
 use Rattle.std.proofs.Common.{◌≡◌, false, take}
 use Rattle.std.specs.List.{list_any}
-use Rattle.da65.specs.Marks.{has_comment}
+use Rattle.da65.specs.Words.{has_comment}
 use Rattle.da65.proofs.listing.headings.has_comment.Given as goal
 
 abbrev pub invariant-loop-at : goal.invariant-loop-at

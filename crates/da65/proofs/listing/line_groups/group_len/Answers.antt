@@ -1,5 +1,5 @@
 use Rattle.std.proofs.Common.{◌∙◌, ◌+◌, ◌-◌, ℕ, ap, ap₂, sym}
-use Rattle.da65.specs.Groups.{group_len, limit_at, more_at}
+use Rattle.da65.specs.Words.{group_len, limit_at, more_at}
 use Rattle.da65.proofs.Groups.RoleLemmas.{role_some}
 use Rattle.da65.proofs.Groups.ShapeLemmas.{limit-code}
 use Rattle.da65.proofs.Groups.StepLemmas.{group_one}

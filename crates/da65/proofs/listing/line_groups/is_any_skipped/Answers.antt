@@ -1,6 +1,6 @@
 use Rattle.std.proofs.Common.{◌∙◌, Bool, ℕ, ap, sym}
 use Rattle.std.specs.List.{list_any}
-use Rattle.map65.specs.Roles.{is_skip, role_of}
+use Rattle.map65.specs.Words.{is_skip, role_of}
 use Rattle.da65.proofs.Groups.StepLemmas.{addresses-end, addresses-here}
 use Rattle.da65.proofs.listing.line_groups.is_any_skipped.Goals as goal
 

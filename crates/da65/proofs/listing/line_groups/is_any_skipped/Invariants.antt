@@ -1,8 +1,7 @@
 use Rattle.std.proofs.Common.{◌-◌, ◌≡◌}
 use Rattle.std.specs.List.{list_any}
-use Rattle.map65.specs.Roles.{is_skip, role_of}
-use Rattle.map65.specs.Spans.{addresses}
-use Rattle.da65.specs.Groups.{skips}
+use Rattle.map65.specs.Words.{addresses, is_skip, role_of}
+use Rattle.da65.specs.Words.{skips}
 use Rattle.da65.proofs.listing.line_groups.is_any_skipped.Given as goal
 
 abbrev pub invariant-loop-address : goal.invariant-loop-address

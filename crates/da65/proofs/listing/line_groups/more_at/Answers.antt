@@ -1,5 +1,5 @@
 use Rattle.std.proofs.Common.{◌≡◌, ◌<◌, true, arith}
-use Rattle.da65.specs.Groups.{goes_on}
+use Rattle.da65.specs.Words.{goes_on}
 use Rattle.da65.proofs.Groups.GroupLemmas.{item-goes-on}
 use Rattle.da65.proofs.Groups.StepLemmas.{more-step}
 use Rattle.da65.proofs.listing.line_groups.more_at.Goals as goal

@@ -1,6 +1,6 @@
 use Rattle.std.proofs.Common.{◌≡◌, ◌+◌, ◌≤◌}
-use Rattle.map65.specs.ImageView.{end_of}
-use Rattle.da65.specs.Groups.{more_at}
+use Rattle.map65.specs.Words.{end_of}
+use Rattle.da65.specs.Words.{more_at}
 use Rattle.da65.proofs.listing.line_groups.more_at.Given as goal
 
 abbrev pub invariant-items : goal.invariant-items

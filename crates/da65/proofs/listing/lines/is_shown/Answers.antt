@@ -1,6 +1,5 @@
 use Rattle.std.proofs.Common.{◌≡◌, ◌∙◌, ◌+◌, ap, arith, length, sym}
-use Rattle.map65.specs.Items.{item_len}
-use Rattle.map65.specs.MapView.{MapView}
+use Rattle.map65.specs.Words.{MapView, item_len}
 use Rattle.da65.proofs.NextLine.NextLemmas.{shown-start}
 use Rattle.da65.proofs.listing.lines.is_shown.Goals as goal
 

@@ -1,6 +1,5 @@
 use Rattle.std.proofs.Common.{◌≡◌, ◌∙◌, ℕ, ◌+◌, ◌<◌, length, true, ap, arith, sym}
-use Rattle.map65.specs.MapView.{MapView}
-use Rattle.map65.specs.Roles.{is_skip, role_of}
+use Rattle.map65.specs.Words.{MapView, is_skip, role_of}
 use Rattle.da65.proofs.Groups.GroupLemmas.{place-skip}
 use Rattle.da65.proofs.NextLine.NextLemmas.{lines-end, lines-skip}
 use Rattle.da65.proofs.listing.lines.shown_from.Goals as goal

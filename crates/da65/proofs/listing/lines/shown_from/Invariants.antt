@@ -1,6 +1,5 @@
 use Rattle.std.proofs.Common.{◌≡◌}
-use Rattle.da65.specs.Groups.{IsGroupPlace}
-use Rattle.da65.specs.Lines.{groups_left}
+use Rattle.da65.specs.Words.{IsGroupPlace, groups_left}
 use Rattle.da65.proofs.listing.lines.shown_from.Given as goal
 
 abbrev pub invariant-loop-at : goal.invariant-loop-at

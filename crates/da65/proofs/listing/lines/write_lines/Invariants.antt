@@ -1,6 +1,6 @@
 use Rattle.std.proofs.Common.{◌≡◌, length}
-use Rattle.map65.specs.Device.{HasTaken}
-use Rattle.da65.specs.Listing.{text_of}
+use Rattle.map65.specs.Words.{HasTaken}
+use Rattle.da65.specs.Words.{text_of}
 use Rattle.da65.proofs.listing.lines.write_lines.Given as goal
 
 abbrev pub invariant-lines : goal.invariant-lines

@@ -1,5 +1,5 @@
 use Rattle.std.proofs.Common.{◌≡◌, drop}
-use Rattle.da65.specs.Files.{file_named, files_seen}
+use Rattle.da65.specs.Words.{file_named, files_seen}
 use Rattle.da65.proofs.runs.files.file_named.Given as goal
 
 abbrev pub invariant-loop-file : goal.invariant-loop-file

@@ -1,8 +1,8 @@
 use Rattle.std.proofs.Common.{◌≡◌, ◌∙◌, Bool, List, ap, arith, length, not, sym, true}
 use Rattle.std.specs.Prelude.{is_some}
 use Rattle.std.proofs.lemmas.Bool.{eqb-true}
-use Rattle.info65.specs.Views.{IncludeView, SettingsView}
-use Rattle.da65.specs.Files.{files_seen}
+use Rattle.info65.specs.Words.{IncludeView, SettingsView}
+use Rattle.da65.specs.Words.{files_seen}
 use Rattle.da65.proofs.Outcomes.IncludeLemmas.{all_of_none, seen_alike}
 use Rattle.da65.proofs.runs.preparing.add_includes.Goals as goal
 

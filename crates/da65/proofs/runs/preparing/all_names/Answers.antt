@@ -1,11 +1,8 @@
 use Rattle.std.proofs.Common.{◌∙◌, ◌<◌, List, ap, arith, length, subst, sym, ℕ, []}
 use Rattle.std.proofs.lemmas.Result.{err_from_is_err_and}
 use Rattle.std.specs.Prelude.{Ok, Result}
-use Rattle.info65.specs.Includes.{with_names}
-use Rattle.info65.specs.Names.{AreNames}
-use Rattle.info65.specs.Views.{InfoView, NameView}
-use Rattle.da65.specs.Code.Preparing.{Stops}
-use Rattle.da65.specs.Files.{files_seen}
+use Rattle.info65.specs.Words.{AreNames, InfoView, NameView, with_names}
+use Rattle.da65.specs.Words.{Stops, files_seen}
 use Rattle.da65.proofs.Outcomes.IncludeFacts.{file_rest, long_as, ok_same, same_files}
 use Rattle.da65.proofs.Outcomes.IncludeLemmas.{all_included, include_at, included_on, is_at, stops_at}
 use Rattle.da65.proofs.runs.preparing.all_names.Goals as goal

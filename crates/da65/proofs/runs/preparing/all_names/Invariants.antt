@@ -1,8 +1,6 @@
 use Rattle.std.proofs.Common.{◌≡◌, List, drop}
-use Rattle.info65.specs.Includes.{with_names}
-use Rattle.info65.specs.Views.{NameView}
-use Rattle.da65.specs.Files.{files_seen}
-use Rattle.da65.specs.Outcome.{with_includes}
+use Rattle.info65.specs.Words.{NameView, with_names}
+use Rattle.da65.specs.Words.{files_seen, with_includes}
 use Rattle.da65.proofs.runs.preparing.all_names.Given as goal
 
 abbrev pub invariant-loop-index : goal.invariant-loop-index

@@ -1,6 +1,5 @@
 use Rattle.std.proofs.Common.{◌∙◌}
-use Rattle.da65.specs.Files.{files_seen}
-use Rattle.da65.specs.Outcome.{info_message}
+use Rattle.da65.specs.Words.{files_seen, info_message}
 use Rattle.da65.proofs.Outcomes.IncludeLemmas.{listed_as, stops_first}
 use Rattle.da65.proofs.runs.preparing.prepare.Goals as goal
 

@@ -1,8 +1,7 @@
 use Rattle.std.proofs.Common.{◌≡◌, ℕ, List}
 use Rattle.std.specs.Prelude.{Result, Err}
-use Rattle.info65.specs.Views.{InfoView}
-use Rattle.da65.specs.Files.{files_seen}
-use Rattle.da65.specs.Outcome.{prepared_by}
+use Rattle.info65.specs.Words.{InfoView}
+use Rattle.da65.specs.Words.{files_seen, prepared_by}
 use Rattle.da65.proofs.Outcomes.RefusalLemmas.{refused_writes}
 use Rattle.da65.proofs.runs.running.run_read.Goals as goal
 

@@ -1,10 +1,9 @@
 use Rattle.std.proofs.Common.{◌≡◌, ◌∙◌, ◌+◌, ◌<◌, length, ap, arith, subst, sym}
-use Rattle.map65.specs.Items.{item_len}
-use Rattle.map65.specs.MapView.{MapView}
+use Rattle.map65.specs.Words.{MapView, item_len}
 use Rattle.std.proofs.lemmas.Bool.{eqb-true, OnFalse_at}
 use Rattle.std.proofs.lemmas.List.{nil_from_length}
 use Rattle.std.specs.Prelude.{ℕ}
-use Rattle.da65.specs.Groups.{IsGroupPlace, group_len}
+use Rattle.da65.specs.Words.{IsGroupPlace, group_len}
 use Rattle.da65.proofs.Reentry.ReentryLemmas.{byte-told, count-told, keyed-after, keys-told, known-back, known-end, known-first, known-next, known-skip, never-entered, none-seen, skip-told, start-told}
 use Rattle.da65.proofs.Groups.GroupLemmas.{first_place, group-some, item-begins, place-next, place-skip}
 use Rattle.da65.proofs.runs.segment_reentry.is_entered_again.Goals as goal

@@ -1,6 +1,5 @@
 use Rattle.std.proofs.Common.{◌-◌}
-use Rattle.da65.specs.Code.SegmentReentry.{IsKnownFrom}
-use Rattle.da65.specs.Groups.{IsGroupPlace}
+use Rattle.da65.specs.Words.{IsGroupPlace, IsKnownFrom}
 use Rattle.da65.proofs.runs.segment_reentry.is_entered_again.Given as goal
 
 abbrev pub invariant-groups : goal.invariant-groups

@@ -1,7 +1,6 @@
 use Rattle.std.proofs.Common.{◌∙◌, ap, arith, drop, map, option_map, sym, ◌+◌}
 use Rattle.std.specs.Option.{option_or}
-use Rattle.info65.specs.Code.Groups.{group_seen, value_seen}
-use Rattle.info65.specs.Groups.{global_given, value_in}
+use Rattle.info65.specs.Words.{global_given, group_seen, value_in, value_seen}
 use Rattle.info65.proofs.GroupLemmas.{value_more, value_none}
 use Rattle.info65.proofs.groups.group_values.global_value.Goals as goal
 

@@ -1,6 +1,5 @@
 use Rattle.std.proofs.Common.{◌≡◌, drop, map}
-use Rattle.info65.specs.Code.Groups.{group_seen}
-use Rattle.info65.specs.Groups.{global_given, value_in}
+use Rattle.info65.specs.Words.{global_given, group_seen, value_in}
 use Rattle.info65.proofs.groups.group_values.global_value.Given as goal
 
 abbrev pub invariant-loop-group : goal.invariant-loop-group

@@ -1,6 +1,5 @@
 use Rattle.std.proofs.Common.{◌≡◌, drop, map}
-use Rattle.info65.specs.Code.Groups.{assignment_seen}
-use Rattle.info65.specs.Groups.{value_in}
+use Rattle.info65.specs.Words.{assignment_seen, value_in}
 use Rattle.info65.proofs.groups.group_values.value_in.Given as goal
 
 abbrev pub invariant-loop-each : goal.invariant-loop-each

@@ -1,7 +1,5 @@
 use Rattle.std.proofs.Common.{◌∙◌, ◌+◌, ap, arith, drop, length, length-append, map, List}
-use Rattle.info65.specs.Code.Groups.{group_seen}
-use Rattle.info65.specs.IncludeGroups.{include_part, includes_of}
-use Rattle.info65.specs.Views.{IncludeView}
+use Rattle.info65.specs.Words.{IncludeView, group_seen, include_part, includes_of}
 use Rattle.info65.proofs.IncludeLemmas.{includes_next, includes_none, part_length}
 use Rattle.info65.proofs.groups.include_groups.count.Goals as goal
 

@@ -1,6 +1,5 @@
 use Rattle.std.proofs.Common.{◌≡◌, ◌+◌, ◌≤◌, drop, length, map}
-use Rattle.info65.specs.Code.Groups.{group_seen}
-use Rattle.info65.specs.IncludeGroups.{includes_of}
+use Rattle.info65.specs.Words.{group_seen, includes_of}
 use Rattle.info65.proofs.groups.include_groups.count.Given as goal
 
 abbrev pub invariant-loop-group : goal.invariant-loop-group

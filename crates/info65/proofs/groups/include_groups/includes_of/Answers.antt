@@ -1,8 +1,7 @@
 use Rattle.std.proofs.Common.{◌∙◌, ◌++◌, ap, append_assoc, arith, drop, map, sym, ◌+◌}
 use Rattle.std.specs.Prelude.{Ok}
 use Rattle.std.proofs.lemmas.List.{append-nil}
-use Rattle.info65.specs.Code.Groups.{group_seen}
-use Rattle.info65.specs.IncludeGroups.{include_part, includes_of}
+use Rattle.info65.specs.Words.{group_seen, include_part, includes_of}
 use Rattle.info65.proofs.IncludeLemmas.{formed_at, includes_next, includes_none}
 use Rattle.info65.proofs.groups.include_groups.includes_of.Goals as goal
 

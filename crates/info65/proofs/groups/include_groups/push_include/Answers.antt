@@ -1,5 +1,4 @@
-use Rattle.info65.specs.Code.Groups.{group_seen}
-use Rattle.info65.specs.Code.Includes.{named_seen}
+use Rattle.info65.specs.Words.{group_seen, named_seen}
 use Rattle.info65.proofs.IncludeLemmas.{part_file}
 use Rattle.info65.proofs.groups.include_groups.push_include.Goals as goal
 

@@ -1,5 +1,5 @@
 use Rattle.std.proofs.Common.{◌∙◌, ◌<◌, ap, arith, sym}
-use Rattle.info65.specs.Closing.{optional_name_fault}
+use Rattle.info65.specs.Words.{optional_name_fault}
 use Rattle.info65.proofs.IndexLemmas.{overlaps_marked, range_apart, range_overlaps}
 use Rattle.info65.proofs.RangeLemmas.{bounded_in}
 use Rattle.info65.proofs.groups.range_groups.range_fault.Goals as goal

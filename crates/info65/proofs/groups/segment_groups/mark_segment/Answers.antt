@@ -1,5 +1,4 @@
-use Rattle.info65.specs.Code.Groups.{group_seen}
-use Rattle.info65.specs.Code.Segments.{parts_seen}
+use Rattle.info65.specs.Words.{group_seen, parts_seen}
 use Rattle.info65.proofs.SegmentLemmas.{marked_more, marked_same, part_ordered}
 use Rattle.info65.proofs.groups.segment_groups.mark_segment.Goals as goal
 

@@ -1,7 +1,5 @@
 use Rattle.std.proofs.Common.{◌∙◌, ◌<◌, arith, map, sym}
-use Rattle.info65.specs.Code.Groups.{assignment_seen}
-use Rattle.info65.specs.Code.Segments.{parts_seen}
-use Rattle.info65.specs.Views.{SegmentView}
+use Rattle.info65.specs.Words.{SegmentView, assignment_seen, parts_seen}
 use Rattle.info65.proofs.SegmentLemmas.{meets_marked, segment_apart, segment_meets, segment_ordered}
 use Rattle.info65.proofs.groups.segment_groups.segment_fault.Goals as goal
 

@@ -1,10 +1,7 @@
 use Rattle.std.proofs.Common.{◌≡◌, ◌∙◌, ◌++◌, ◌∷◌, [], ap, append_assoc, arith, drop, map, sym, ◌+◌}
 use Rattle.std.specs.Prelude.{Ok}
 use Rattle.std.proofs.lemmas.List.{append-nil, map-append}
-use Rattle.info65.specs.Code.Groups.{group_seen}
-use Rattle.info65.specs.Code.Segments.{segment_seen}
-use Rattle.info65.specs.Segments.{segment_part, segments_of}
-use Rattle.info65.specs.Views.{SegmentView}
+use Rattle.info65.specs.Words.{SegmentView, group_seen, segment_part, segment_seen, segments_of}
 use Rattle.info65.proofs.SegmentLemmas.{segments_next, segments_none}
 use Rattle.info65.proofs.groups.segment_groups.segments_of.Goals as goal
 use Rattle.info65.proofs.groups.segment_groups.segments_of.Goals.{in-Some+in_ok-segment+in_ok-push, in_default}

@@ -1,7 +1,5 @@
 use Rattle.std.proofs.Common.{◌≡◌, ◌++◌, drop, map}
-use Rattle.info65.specs.Code.Groups.{group_seen}
-use Rattle.info65.specs.Code.Segments.{segment_seen}
-use Rattle.info65.specs.Segments.{segments_of}
+use Rattle.info65.specs.Words.{group_seen, segment_seen, segments_of}
 use Rattle.info65.proofs.groups.segment_groups.segments_of.Given as goal
 
 abbrev pub invariant-loop-group : goal.invariant-loop-group

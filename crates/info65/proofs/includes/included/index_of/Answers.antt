@@ -1,9 +1,7 @@
 use Rattle.std.proofs.Common.{◌∙◌, ◌++◌, ◌∷◌, [], List, ap, arith, sym, take}
 use Rattle.std.specs.Prelude.{Ok}
 use Rattle.std.proofs.lemmas.List.{take_all, take_more}
-use Rattle.info65.specs.Code.Names.{given_seen}
-use Rattle.info65.specs.Names.{blank_name}
-use Rattle.info65.specs.Views.{NameView}
+use Rattle.info65.specs.Words.{NameView, blank_name, given_seen}
 use Rattle.info65.proofs.IncludedLemmas.{fresh}
 use Rattle.info65.proofs.includes.included.index_of.Goals as goal
 

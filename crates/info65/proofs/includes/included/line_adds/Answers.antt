@@ -1,8 +1,5 @@
 use Rattle.std.proofs.Common.{option_map, subst}
-use Rattle.info65.specs.Code.Results.{Sees}
-use Rattle.info65.specs.Code.Names.{given_seen}
-use Rattle.info65.specs.Includes.{line_adds}
-use Rattle.info65.specs.Views.{IncludeView}
+use Rattle.info65.specs.Words.{IncludeView, Sees, given_seen, line_adds}
 use Rattle.info65.proofs.IncludedLemmas.{line_seen}
 use Rattle.info65.proofs.includes.included.line_adds.Goals as goal
 

@@ -4,10 +4,7 @@ use Rattle.std.proofs.lemmas.Bool.Decides.{nat_tests}
 use Rattle.std.proofs.lemmas.List.{append-nil}
 use Rattle.std.proofs.lemmas.Result.{err_from_is_err_and}
 use Rattle.text65.specs.Lines.{text_lines}
-use Rattle.info65.specs.Code.Includes.{with_added}
-use Rattle.info65.specs.Code.Names.{given_seen}
-use Rattle.info65.specs.Views.{NameView}
-use Rattle.info65.specs.declared.information.name.Given.{Given}
+use Rattle.info65.specs.Words.{Given, NameView, given_seen, with_added}
 use Rattle.info65.proofs.IncludeFileLemmas.{all_given, line_joins}
 use Rattle.info65.proofs.IncludedLemmas.{accepted, last_line, next_lines, refused}
 use Rattle.info65.proofs.includes.included.with_file.Goals as goal

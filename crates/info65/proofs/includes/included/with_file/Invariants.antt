@@ -1,6 +1,6 @@
 use Rattle.std.proofs.Common.{◌≡◌, ◌≤◌, ◌+◌, length}
 use Rattle.text65.specs.Lines.{text_lines}
-use Rattle.info65.specs.Includes.{names_with}
+use Rattle.info65.specs.Words.{names_with}
 use Rattle.info65.proofs.includes.included.with_file.Given as goal
 
 abbrev pub invariant-lines : goal.invariant-lines

@@ -1,16 +1,7 @@
 use Rattle.std.proofs.Common.{◌≡◌, ◌∙◌, arith, false, length, nat_lt, refl, subst, sym, ℕ}
 use Rattle.std.specs.Prelude.{List, Ok}
 use Rattle.std.proofs.lemmas.Bool.Decides.{nat_tests}
-use Rattle.info65.specs.Code.Kept.{kept_of}
-use Rattle.info65.specs.Groups.{GroupView, global_given}
-use Rattle.info65.specs.IncludeGroups.{AreIncludes, includes_of}
-use Rattle.info65.specs.Labels.{by_address, names_said}
-use Rattle.info65.specs.Names.{AreNames}
-use Rattle.info65.specs.Ranges.{AreRanges, ranges_of}
-use Rattle.info65.specs.Segments.{AreSegments, segments_of}
-use Rattle.info65.specs.Reader.{groups_of, information}
-use Rattle.info65.specs.Settings.{settings_of}
-use Rattle.info65.specs.Views.{AreInLimits, InfoView, OptionsView}
+use Rattle.info65.specs.Words.{AreInLimits, AreIncludes, AreNames, AreRanges, AreSegments, GroupView, InfoView, OptionsView, by_address, global_given, groups_of, includes_of, information, kept_of, names_said, ranges_of, segments_of, settings_of}
 use Rattle.info65.proofs.FormLemmas.{all_formed, settings_in_limits, text_read}
 use Rattle.info65.proofs.IncludeLemmas.{includes_sound}
 use Rattle.info65.proofs.KeptLemmas.{formed_kept, global_kept, includes_kept, segments_kept}

@@ -1,13 +1,8 @@
 use Rattle.std.proofs.Common.{◌∙◌, ◌≤◌, ℕ, ap, map, refl, subst, sym}
 use Rattle.std.specs.Prelude.{IfSome, Option}
 use Rattle.std.specs.Option.{option_or, unwrap_or}
-use Rattle.info65.specs.Code.Groups.{group_seen}
-use Rattle.info65.specs.Attributes.{form_of}
+use Rattle.info65.specs.Words.{AreOptions, IsColumn, OptionsView, as_name, as_number, form_of, global_given, group_seen, settings_of, value_in}
 use Rattle.info65.specs.declared.syntax.attribute.Attribute.TheVariants as attribute
-use Rattle.info65.specs.Groups.{global_given, value_in}
-use Rattle.info65.specs.Settings.{settings_of}
-use Rattle.info65.specs.Values.{as_name, as_number}
-use Rattle.info65.specs.Views.{AreOptions, IsColumn, OptionsView}
 use Rattle.info65.proofs.FormLemmas.{file_name_formed, lent_name, settings_in_limits}
 use Rattle.info65.proofs.information.merge.settings_of.Goals as goal
 

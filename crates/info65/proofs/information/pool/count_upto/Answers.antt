@@ -1,6 +1,6 @@
 use Rattle.std.proofs.Common.{leb, leb-false, rules}
 use Rattle.std.proofs.lemmas.List.Sorted.{IsPartitionPoint-from_clause, IsPartitionedBy-leb}
-use Rattle.info65.specs.Code.Pool.{blank_entry}
+use Rattle.info65.specs.Words.{blank_entry}
 use Rattle.info65.specs.declared.information.pool.Entry.{Entry}
 use Rattle.info65.proofs.information.pool.count_upto.Goals as goal
 

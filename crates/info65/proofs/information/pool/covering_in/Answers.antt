@@ -1,8 +1,6 @@
 use Rattle.std.proofs.Common.{◌≡◌, ◌∙◌, ◌-◌, ◌<◌, ◌≤◌, ap, sym, arith, length, map, get_or, true, false}
 use Rattle.std.specs.Prelude.{Some}
-use Rattle.info65.specs.Code.Pool.{blank_entry, entry_seen}
-use Rattle.info65.specs.Names.{covers}
-use Rattle.info65.specs.Views.{NameView}
+use Rattle.info65.specs.Words.{NameView, blank_entry, covers, entry_seen}
 use Rattle.info65.proofs.PoolLemmas.{below_hit, below_miss, below_none, covering_rest, entries_rise, passed_over, seen_at}
 use Rattle.info65.proofs.information.pool.covering_in.Goals as goal
 

@@ -1,6 +1,5 @@
 use Rattle.std.proofs.Common.{◌≡◌, ◌≤◌, map, length}
-use Rattle.info65.specs.Code.Pool.{entry_seen}
-use Rattle.info65.specs.Names.{covering, covering_below}
+use Rattle.info65.specs.Words.{covering, covering_below, entry_seen}
 use Rattle.info65.proofs.information.pool.covering_in.Given as goal
 
 abbrev pub invariant-left : goal.invariant-left

@@ -1,5 +1,5 @@
 use Rattle.std.proofs.Common.{◌≤◌, length}
-use Rattle.info65.specs.Code.Pool.{ReachTo}
+use Rattle.info65.specs.Words.{ReachTo}
 use Rattle.info65.proofs.information.pool.most_reached.Given as goal
 
 abbrev pub invariant-left : goal.invariant-left

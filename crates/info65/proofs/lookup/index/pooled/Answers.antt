@@ -1,10 +1,7 @@
 use Rattle.std.proofs.Common.{◌≡◌, ◌∙◌, ◌*◌, ◌++◌, ◌∷◌, [], ap, arith, map, sym}
 use Rattle.std.specs.Prelude.{List, None, Ok, Some}
 use Rattle.std.proofs.lemmas.List.{append-nil}
-use Rattle.info65.specs.Code.Index.{numbered}
-use Rattle.info65.specs.Code.Names.{given_seen}
-use Rattle.info65.specs.Labels.{by_address, named_at, names_from}
-use Rattle.info65.specs.Views.{NameView}
+use Rattle.info65.specs.Words.{NameView, by_address, given_seen, named_at, names_from, numbered}
 use Rattle.info65.proofs.NamesLemmas.{names_next, page_passed}
 use Rattle.info65.proofs.lookup.index.pooled.Goals as goal
 

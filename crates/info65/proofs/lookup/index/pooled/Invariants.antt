@@ -1,6 +1,5 @@
 use Rattle.std.proofs.Common.{◌≡◌, ◌*◌, map}
-use Rattle.info65.specs.Code.Names.{given_seen}
-use Rattle.info65.specs.Labels.{named_at, names_from}
+use Rattle.info65.specs.Words.{given_seen, named_at, names_from}
 use Rattle.info65.proofs.lookup.index.pooled.Given as goal
 
 abbrev pub invariant-loop-page : goal.invariant-loop-page

@@ -1,5 +1,5 @@
 use Rattle.std.proofs.Common.{◌≡◌, ◌+◌, ◌-◌, ◌||◌}
-use Rattle.info65.specs.Code.Index.{any_in}
+use Rattle.info65.specs.Words.{any_in}
 use Rattle.info65.proofs.lookup.marks.is_marked.Given as goal
 
 abbrev pub invariant-loop-address : goal.invariant-loop-address

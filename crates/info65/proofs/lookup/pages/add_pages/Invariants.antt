@@ -1,5 +1,5 @@
 use Rattle.std.proofs.Common.{◌+◌, ◌-◌, length}
-use Rattle.info65.specs.Code.Numbers.{SamePages}
+use Rattle.info65.specs.Words.{SamePages}
 use Rattle.info65.proofs.lookup.pages.add_pages.Given as goal
 
 abbrev pub invariant-pages : goal.invariant-pages

@@ -1,5 +1,5 @@
 use Rattle.std.proofs.Common.{◌≡◌, ◌<◌, drop}
-use Rattle.info65.specs.Code.Texts.{hash_from}
+use Rattle.info65.specs.Words.{hash_from}
 use Rattle.info65.proofs.lookup.texts.hash_of.Given as goal
 
 abbrev pub invariant-loop-byte : goal.invariant-loop-byte

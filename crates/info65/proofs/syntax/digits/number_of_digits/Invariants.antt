@@ -1,6 +1,6 @@
 use Rattle.std.proofs.Common.{◌≡◌, ◌≤◌, min, drop}
 use Rattle.std.specs.Str.Parse.{digits_value, digits_value_after}
-use Rattle.info65.specs.Lexemes.{are_digits}
+use Rattle.info65.specs.Words.{are_digits}
 use Rattle.info65.proofs.syntax.digits.number_of_digits.Given as goal
 
 abbrev pub invariant-loop-digit : goal.invariant-loop-digit

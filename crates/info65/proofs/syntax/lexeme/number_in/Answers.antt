@@ -1,6 +1,6 @@
 use Rattle.std.proofs.Common.{arith}
 use Rattle.std.specs.Prelude.{Some, None}
-use Rattle.info65.specs.Lexemes.{number_in}
+use Rattle.info65.specs.Words.{number_in}
 use Rattle.info65.proofs.NumberLemmas.{number_great, number_none, number_small}
 use Rattle.info65.proofs.syntax.lexeme.number_in.Goals as goal
 

@@ -1,6 +1,6 @@
 use Rattle.std.proofs.Common.{◌≡◌, ◌+◌, drop}
 use Rattle.std.specs.List.{prefix_len}
-use Rattle.info65.specs.Lexemes.{in_class}
+use Rattle.info65.specs.Words.{in_class}
 use Rattle.info65.proofs.syntax.lexeme.run_len.Given as goal
 
 abbrev pub invariant-loop-i : goal.invariant-loop-i

@@ -1,5 +1,5 @@
 use Rattle.std.proofs.Common.{◌≡◌, ◌+◌, ◌≤◌, length}
-use Rattle.info65.specs.Tokens.{tokens_of}
+use Rattle.info65.specs.Words.{tokens_of}
 use Rattle.info65.proofs.syntax.lexer.after_blanks.Given as goal
 
 abbrev pub invariant-bytes : goal.invariant-bytes

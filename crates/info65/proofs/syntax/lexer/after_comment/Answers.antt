@@ -1,7 +1,7 @@
 use Rattle.std.proofs.Common.{◌∙◌, ℕ, List, ap, arith, get_or, sym}
 use Rattle.std.proofs.lemmas.Bool.{eq-eqb, eqb-true}
 use Rattle.std.proofs.lemmas.List.{drop_all}
-use Rattle.info65.specs.Tokens.{tokens_of}
+use Rattle.info65.specs.Words.{tokens_of}
 use Rattle.info65.proofs.TokenLemmas.{to_line_feed}
 use Rattle.info65.proofs.syntax.lexer.after_comment.Goals as goal
 

@@ -1,8 +1,7 @@
 use Rattle.std.proofs.Common.{arith, ◌∙◌, ◌∷◌, [], ap, inl, map, refl, sym}
 use Rattle.std.proofs.lemmas.List.{map-append}
 use Rattle.std.proofs.lemmas.Result.{err_from_is_err_and}
-use Rattle.info65.specs.Code.Groups.{assignment_seen}
-use Rattle.info65.specs.Reader.{finish, inside, read}
+use Rattle.info65.specs.Words.{assignment_seen, finish, inside, read}
 use Rattle.info65.proofs.ReaderLemmas.{attribute_refused, close_refused, close_taken, missing, read_next}
 use Rattle.info65.proofs.syntax.parser.attributes.Goals as goal
 

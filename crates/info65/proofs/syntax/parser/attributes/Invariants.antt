@@ -1,6 +1,5 @@
 use Rattle.std.proofs.Common.{◌≡◌, ◌≤◌, [], length, map}
-use Rattle.info65.specs.Code.Groups.{assignment_seen}
-use Rattle.info65.specs.Reader.{inside, read}
+use Rattle.info65.specs.Words.{assignment_seen, inside, read}
 use Rattle.info65.proofs.syntax.parser.attributes.Given as goal
 
 abbrev pub invariant-attributes : goal.invariant-attributes

@@ -1,6 +1,6 @@
 use Rattle.std.proofs.Common.{◌∙◌, arith, refl}
 use Rattle.std.proofs.lemmas.Result.{err_from_is_err_and}
-use Rattle.info65.specs.Reader.{finish, opening}
+use Rattle.info65.specs.Words.{finish, opening}
 use Rattle.info65.proofs.ReaderLemmas.{brace_refused, brace_taken, missing, read_next}
 use Rattle.info65.proofs.syntax.parser.brace.Goals as goal
 

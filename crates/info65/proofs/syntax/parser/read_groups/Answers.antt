@@ -1,10 +1,7 @@
 use Rattle.std.proofs.Common.{◌&&◌, ◌≡◌, ◌∙◌, ap, false, inl, sym}
 use Rattle.std.proofs.lemmas.Result.{err_from_is_err_and}
-use Rattle.info65.specs.Code.Reading.{is_semicolon, place_after}
+use Rattle.info65.specs.Words.{closed, groups_of, is_semicolon, kind_seen, place_after, read, tokens_of}
 use Rattle.std.proofs.lemmas.Bool.{and_left, and_right}
-use Rattle.info65.specs.Tokens.{tokens_of}
-use Rattle.info65.specs.Reader.{closed, groups_of, read}
-use Rattle.info65.specs.Code.Steps.{kind_seen}
 use Rattle.info65.proofs.ReaderLemmas.{between_end, between_fault, between_group, between_separator, fails_along}
 use Rattle.info65.proofs.syntax.parser.read_groups.Goals as goal
 use Rattle.info65.proofs.syntax.parser.read_groups.Goals.{else-after_group-via-then-after_group+else-is_semicolon, else-after_group-via-else-after_group}

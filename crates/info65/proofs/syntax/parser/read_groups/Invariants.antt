@@ -1,6 +1,5 @@
 use Rattle.std.proofs.Common.{◌≡◌, length}
-use Rattle.info65.specs.Code.Reading.{place_after}
-use Rattle.info65.specs.Reader.{groups_of, read}
+use Rattle.info65.specs.Words.{groups_of, place_after, read}
 use Rattle.info65.proofs.syntax.parser.read_groups.Given as goal
 
 abbrev pub invariant-groups : goal.invariant-groups

@@ -1,6 +1,6 @@
 use Rattle.std.proofs.Common.{◌∙◌, arith, refl}
 use Rattle.std.proofs.lemmas.Result.{err_from_is_err_and}
-use Rattle.info65.specs.Reader.{assigned, finish}
+use Rattle.info65.specs.Words.{assigned, finish}
 use Rattle.info65.proofs.ReaderLemmas.{missing, read_next, separator_refused, separator_taken}
 use Rattle.info65.proofs.syntax.parser.separator.Goals as goal
 

@@ -1,17 +1,8 @@
 use Rattle.std.proofs.Common.{refl, List, ◌∷◌, ◌++◌, []}
 use Rattle.std.specs.Prelude.{Result, Ok, Err}
 use Rattle.std.proofs.lemmas.Result.{err_from_is_err_and}
-use Rattle.info65.specs.Code.Results.{Sees}
-use Rattle.info65.specs.Code.Groups.{value_seen}
-use Rattle.info65.specs.Groups.{AssignmentView, GroupView}
-use Rattle.info65.specs.Code.Reading.{Leads}
-use Rattle.info65.specs.Reader.{assigned, finish, one, read, read_token, value_at, valued}
-use Rattle.info65.specs.Tokens.{Stream, TokenView}
-use Rattle.info65.specs.Views.{OptionsView}
-use Rattle.info65.specs.declared.syntax.attribute.Attribute.{Attribute}
-use Rattle.info65.specs.declared.syntax.attribute.GroupKind.{GroupKind}
-use Rattle.info65.specs.declared.fault.InfoFault.{InfoFault}
-use Rattle.info65.specs.declared.syntax.assignment.Value.{Value}
+use Rattle.info65.specs.Words.{AssignmentView, Attribute, GroupKind, GroupView, InfoFault, Leads, OptionsView, Sees, Stream, TokenView, Value, assigned, finish, one, read, read_token, value_seen, valued}
+use Rattle.info65.specs.Reader.{value_at}
 use Rattle.info65.proofs.ReaderLemmas.{missing, read_next, value_refused, value_taken}
 use Rattle.info65.proofs.syntax.parser.value.Goals as goal
 

@@ -1,5 +1,5 @@
 use Rattle.std.proofs.Common.{◌≡◌, [], length}
-use Rattle.info65.specs.Tags.{tags_from}
+use Rattle.info65.specs.Words.{tags_from}
 use Rattle.info65.specs.declared.tags.place.Place.TheVariants as place
 use Rattle.info65.proofs.tags.reader.tags_in.Given as goal
 

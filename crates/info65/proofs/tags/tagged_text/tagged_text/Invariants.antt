@@ -1,5 +1,5 @@
 use Rattle.std.proofs.Common.{◌≡◌, ◌+◌, ◌++◌, length}
-use Rattle.info65.specs.Tags.{tagged_from, tagged_text}
+use Rattle.info65.specs.Words.{tagged_from, tagged_text}
 use Rattle.info65.proofs.tags.tagged_text.tagged_text.Given as goal
 
 abbrev pub invariant-bytes : goal.invariant-bytes

@@ -1,5 +1,5 @@
 use Rattle.std.proofs.Common.{rules}
-use Rattle.isa65.specs.Cpu.{cpu_named}
+use Rattle.isa65.specs.Words.{cpu_named}
 use Rattle.isa65.proofs.CpuNames.{cpu_name, cpu_named-is}
 use Rattle.isa65.proofs.cpu.Cpu.from_bytes.Goals as goal
 

@@ -1,7 +1,6 @@
 use Rattle.std.proofs.Common.{rules, None, arith}
 use Rattle.std.proofs.lemmas.List.Edits.{fill_by_more}
-use Rattle.isa65.specs.Cpu.{table_of}
-use Rattle.isa65.specs.Opcodes.{decoded}
+use Rattle.isa65.specs.Words.{decoded, table_of}
 use Rattle.isa65.proofs.decode_table.DecodeTable.new.Goals as goal
 
 pub bytes-preserved : goal.bytes-preserved

@@ -1,6 +1,5 @@
 use Rattle.std.proofs.Common.{◌≡◌, ℕ, ◌<◌, None, length, slice_index_or}
-use Rattle.isa65.specs.Cpu.{table_of}
-use Rattle.isa65.specs.Opcodes.{decoded}
+use Rattle.isa65.specs.Words.{decoded, table_of}
 use Rattle.isa65.proofs.decode_table.DecodeTable.new.Given as goal
 
 abbrev pub invariant-bytes : goal.invariant-bytes

@@ -1,6 +1,5 @@
 use Rattle.std.proofs.Common.{◌≡◌, sym, arith}
-use Rattle.isa65.specs.Cpu.{table_of}
-use Rattle.isa65.specs.CpuLaws.{table_of-sound}
+use Rattle.isa65.specs.Words.{table_of, table_of-sound}
 use Rattle.isa65.proofs.FilledLemmas.{filled-none, filled-next, filled-all}
 use Rattle.isa65.proofs.encode_table.EncodeTable.new.Goals as goal
 

@@ -1,4 +1,4 @@
-use Rattle.isa65.specs.Cpu.{table_of}
+use Rattle.isa65.specs.Words.{table_of}
 use Rattle.isa65.proofs.FilledLemmas.{IsFilled}
 use Rattle.isa65.proofs.encode_table.EncodeTable.new.Given as goal
 

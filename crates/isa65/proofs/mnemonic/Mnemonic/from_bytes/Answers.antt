@@ -1,7 +1,7 @@
 use Rattle.std.proofs.Common.{◌∙◌, ap, ap₂}
 use Rattle.std.specs.Bool.{then_some}
 use Rattle.std.specs.Str.{str_eq_ignore_ascii_case}
-use Rattle.isa65.specs.Mnemonic.{text_of}
+use Rattle.isa65.specs.Words.{text_of}
 use Rattle.isa65.proofs.MnemonicLaws.{mnemonic_named-is}
 use Rattle.isa65.proofs.CandidateLaws.{candidate-is}
 use Rattle.isa65.proofs.mnemonic.Mnemonic.from_bytes.Goals as goal

@@ -1,5 +1,5 @@
 use Rattle.std.proofs.Common.{◌≡◌, ◌-◌, ◌≤◌}
-use Rattle.map65.specs.Code.Passing.{Takes}
+use Rattle.map65.specs.Words.{Takes}
 use Rattle.map65.proofs.devices.taking.pass_over.Given as goal
 
 abbrev pub invariant-passes : goal.invariant-passes

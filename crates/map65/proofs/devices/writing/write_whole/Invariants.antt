@@ -1,5 +1,5 @@
 use Rattle.std.proofs.Common.{◌≡◌, length}
-use Rattle.map65.specs.Device.{HasTaken}
+use Rattle.map65.specs.Words.{HasTaken}
 use Rattle.map65.proofs.devices.writing.write_whole.Given as goal
 
 abbrev pub invariant-writes : goal.invariant-writes

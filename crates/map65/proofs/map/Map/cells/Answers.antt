@@ -1,6 +1,5 @@
 use Rattle.std.proofs.Common.{List, subst, sym, ℕ}
-use Rattle.map65.specs.Cells.{AreCellsOf}
-use Rattle.map65.specs.MapView.{MapView}
+use Rattle.map65.specs.Words.{AreCellsOf, MapView}
 use Rattle.map65.proofs.NamingLemmas.{described}
 use Rattle.map65.proofs.map.Map.cells.Goals as goal
 

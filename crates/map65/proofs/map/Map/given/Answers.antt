@@ -1,11 +1,8 @@
 use Rattle.std.proofs.Common.{◌≡◌, ◌∙◌, ◌≤◌, List, ap, length, sym, ℕ}
 use Rattle.std.specs.Prelude.{IfSome, None, Option, Some}
 use Rattle.std.specs.Option.{option_map}
-use Rattle.info65.specs.Code.Names.{given_seen}
-use Rattle.info65.specs.Names.{AreNames, covering}
-use Rattle.info65.specs.Views.{NameView}
-use Rattle.info65.specs.declared.information.name.Given.{Given}
-use Rattle.map65.specs.MapView.{MapView}
+use Rattle.info65.specs.Words.{AreNames, NameView, covering, given_seen}
+use Rattle.map65.specs.Words.{Given, MapView}
 use Rattle.map65.proofs.NameLemmas.{name-low, name-short}
 use Rattle.map65.proofs.map.Map.given.Goals as goal
 

@@ -1,8 +1,8 @@
 use Rattle.std.proofs.Common.{◌≡◌, ◌∙◌, ap, sym, true}
 use Rattle.std.specs.Prelude.{None, Some}
 use Rattle.std.specs.Option.{option_map}
-use Rattle.info65.specs.Code.Names.{given_seen}
-use Rattle.map65.specs.Names.{base_at, given_base, has_name, entry_base}
+use Rattle.info65.specs.Words.{given_seen}
+use Rattle.map65.specs.Words.{base_at, entry_base, given_base, has_name}
 use Rattle.map65.proofs.NameLemmas.{base-covered, base_entry_start, base-none, kind_of, text_of}
 use Rattle.map65.proofs.map.Map.name.Goals as goal
 

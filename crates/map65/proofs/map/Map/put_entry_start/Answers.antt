@@ -1,11 +1,8 @@
 use Rattle.std.proofs.Common.{◌≡◌, ◌∙◌, ◌-◌, ap, ap₂, sym, ℕ}
 use Rattle.std.specs.Prelude.{None, Some}
 use Rattle.std.specs.Option.{option_map}
-use Rattle.info65.specs.Code.Names.{given_seen}
-use Rattle.info65.specs.Names.{covering, default_name}
-use Rattle.map65.specs.Names.{Base, entry_start, kind_by, place_of}
-use Rattle.map65.specs.declared.name.NameKind.{NameKind}
-use Rattle.map65.specs.declared.name.Place.{Place}
+use Rattle.info65.specs.Words.{covering, default_name, given_seen}
+use Rattle.map65.specs.Words.{Base, NameKind, Place, entry_start, kind_by, place_of}
 use Rattle.map65.proofs.NameLemmas.{entry_start-default, entry_start-given}
 use Rattle.map65.proofs.map.Map.put_entry_start.Goals as goal
 

@@ -1,5 +1,5 @@
 use Rattle.std.proofs.Common.{◌≡◌, ◌<◌, ◌≤◌, ℕ, true}
-use Rattle.reach65.specs.Pieces.{is_same}
+use Rattle.reach65.specs.Words.{is_same}
 use Rattle.reach65.proofs.pieces.Ground.filler_end.Given as goal
 
 abbrev pub invariant-filler : goal.invariant-filler

@@ -1,6 +1,6 @@
 use Rattle.std.proofs.Common.{◌≡◌, ◌-◌, ◌<◌, ◌∙◌, false, nat_le, ap, arith, length, sym}
 use Rattle.std.proofs.Math.ListN.{length-set}
-use Rattle.reach65.specs.Pieces.{is_filler}
+use Rattle.reach65.specs.Words.{is_filler}
 use Rattle.reach65.proofs.PieceLemmas.{filler_run}
 use Rattle.reach65.proofs.SearchLemmas.{marks_put}
 use Rattle.reach65.proofs.pieces.Ground.fillers.Goals as goal

@@ -1,8 +1,6 @@
 use Rattle.std.proofs.Common.{◌≡◌, ◌+◌, ◌<◌, ◌≤◌, ℕ, false, length}
-use Rattle.map65.specs.ImageView.{end_of}
-use Rattle.reach65.specs.Code.Cutting.{IsRun}
-use Rattle.reach65.specs.Pieces.{is_filler}
-use Rattle.reach65.specs.Reached.{is_marked}
+use Rattle.map65.specs.Words.{end_of}
+use Rattle.reach65.specs.Words.{IsRun, is_filler, is_marked}
 use Rattle.reach65.proofs.pieces.Ground.fillers.Given as goal
 
 abbrev pub invariant-back : goal.invariant-back

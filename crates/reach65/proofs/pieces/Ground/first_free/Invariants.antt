@@ -1,5 +1,5 @@
 use Rattle.std.proofs.Common.{◌≡◌, ◌<◌, ◌≤◌, ℕ, false}
-use Rattle.reach65.specs.Pieces.{is_free}
+use Rattle.reach65.specs.Words.{is_free}
 use Rattle.reach65.proofs.pieces.Ground.first_free.Given as goal
 
 abbrev pub invariant-free : goal.invariant-free

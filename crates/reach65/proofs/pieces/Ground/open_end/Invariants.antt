@@ -1,5 +1,5 @@
 use Rattle.std.proofs.Common.{◌≡◌, ◌<◌, ◌≤◌, ℕ, true}
-use Rattle.reach65.specs.Pieces.{is_open}
+use Rattle.reach65.specs.Words.{is_open}
 use Rattle.reach65.proofs.pieces.Ground.open_end.Given as goal
 
 abbrev pub invariant-open : goal.invariant-open

@@ -1,7 +1,6 @@
 use Rattle.std.proofs.Common.{◌≡◌, ◌<◌, ◌≤◌, ℕ, get_or, length}
-use Rattle.map65.specs.ImageView.{end_of}
-use Rattle.reach65.specs.Code.Cutting.{AreTails}
-use Rattle.reach65.specs.Pieces.{text_len}
+use Rattle.map65.specs.Words.{end_of}
+use Rattle.reach65.specs.Words.{AreTails, text_len}
 use Rattle.reach65.proofs.pieces.Ground.text_lens.Given as goal
 
 abbrev pub invariant-back : goal.invariant-back

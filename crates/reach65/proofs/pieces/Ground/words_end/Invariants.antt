@@ -1,5 +1,5 @@
 use Rattle.std.proofs.Common.{◌≡◌, ◌<◌, ◌≤◌, ℕ, true}
-use Rattle.reach65.specs.Code.Cutting.{is_of}
+use Rattle.reach65.specs.Words.{is_of}
 use Rattle.reach65.proofs.pieces.Ground.words_end.Given as goal
 
 abbrev pub invariant-words : goal.invariant-words

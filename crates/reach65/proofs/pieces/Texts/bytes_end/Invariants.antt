@@ -1,5 +1,5 @@
 use Rattle.std.proofs.Common.{◌≡◌, ◌<◌, ◌≤◌, ℕ, false}
-use Rattle.reach65.specs.Pieces.{is_break}
+use Rattle.reach65.specs.Words.{is_break}
 use Rattle.reach65.proofs.pieces.Texts.bytes_end.Given as goal
 
 abbrev pub invariant-bytes : goal.invariant-bytes

@@ -1,6 +1,5 @@
 use Rattle.std.proofs.Common.{◌-◌, ◌≤◌, ◌++◌, List}
-use Rattle.info65.specs.declared.information.range.RangeSpec.{RangeSpec}
-use Rattle.reach65.specs.Pieces.{ArePieces}
+use Rattle.reach65.specs.Words.{ArePieces, RangeSpec}
 use Rattle.reach65.proofs.pieces.Texts.pieces.Given as goal
 
 abbrev pub invariant-pieces : goal.invariant-pieces

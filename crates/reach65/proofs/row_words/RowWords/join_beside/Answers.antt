@@ -1,5 +1,5 @@
 use Rattle.std.proofs.Common.{Ok, ap, subst, sym}
-use Rattle.reach65.specs.Growth.{AreBeside}
+use Rattle.reach65.specs.Words.{AreBeside}
 use Rattle.reach65.proofs.GrowthLemmas.{is_in_row}
 use Rattle.reach65.proofs.row_words.RowWords.join_beside.Goals as goal
 

@@ -1,5 +1,5 @@
 use Rattle.std.proofs.Common.{◌≡◌, ◌<◌, ◌≤◌, ℕ, false}
-use Rattle.reach65.specs.Rows.{is_any_row}
+use Rattle.reach65.specs.Words.{is_any_row}
 use Rattle.reach65.proofs.rows.Words.next_row.Given as goal
 
 abbrev pub invariant-rows : goal.invariant-rows

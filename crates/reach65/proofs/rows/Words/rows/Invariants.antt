@@ -1,6 +1,5 @@
 use Rattle.std.proofs.Common.{◌-◌, ◌≤◌, ◌++◌, List}
-use Rattle.info65.specs.declared.information.range.RangeSpec.{RangeSpec}
-use Rattle.reach65.specs.Rows.{AreRows}
+use Rattle.reach65.specs.Words.{AreRows, RangeSpec}
 use Rattle.reach65.proofs.rows.Words.rows.Given as goal
 
 abbrev pub invariant-rows : goal.invariant-rows

@@ -1,5 +1,5 @@
 use Rattle.std.proofs.Common.{◌∙◌, ap₂}
-use Rattle.reach65.specs.Code.Searching.{put_entry}
+use Rattle.reach65.specs.Words.{put_entry}
 use Rattle.reach65.proofs.TrialLemmas.{has_begun}
 use Rattle.reach65.proofs.search.Search.begin_trial.Goals as goal
 

@@ -1,5 +1,5 @@
 use Rattle.std.proofs.Common.{◌≡◌}
-use Rattle.reach65.specs.Code.Searching.{IsBegun}
+use Rattle.reach65.specs.Words.{IsBegun}
 use Rattle.reach65.proofs.SearchLemmas.{left_to_do}
 use Rattle.reach65.proofs.search.Search.finish.Given as goal
 

@@ -1,5 +1,5 @@
 use Rattle.std.proofs.Common.{◌≡◌}
-use Rattle.reach65.specs.Code.Searching.{AreChecked, IsBegun, KeepsTrial}
+use Rattle.reach65.specs.Words.{AreChecked, IsBegun, KeepsTrial}
 use Rattle.reach65.proofs.SearchLemmas.{left_to_do}
 use Rattle.reach65.proofs.search.Search.finish_trial.Given as goal
 

@@ -1,5 +1,5 @@
 use Rattle.std.proofs.Common.{◌≡◌, length}
-use Rattle.reach65.specs.Code.Searching.{unset}
+use Rattle.reach65.specs.Words.{unset}
 use Rattle.reach65.proofs.search.Search.unmark_added.Given as goal
 
 abbrev pub invariant-undo : goal.invariant-undo

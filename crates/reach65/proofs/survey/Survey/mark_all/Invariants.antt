@@ -1,8 +1,7 @@
 use Rattle.std.proofs.Common.{◌&&◌}
 use Rattle.std.specs.List.{list_any}
-use Rattle.reach65.specs.Code.Surveying.{Adds}
-use Rattle.reach65.specs.Reached.{is_marked}
-use Rattle.map65.specs.Spans.{addresses}
+use Rattle.reach65.specs.Words.{Adds, is_marked}
+use Rattle.map65.specs.Words.{addresses}
 use Rattle.reach65.proofs.survey.Survey.mark_all.Given as goal
 
 abbrev pub invariant-survey : goal.invariant-survey

@@ -1,6 +1,6 @@
 use Rattle.std.proofs.Common.{◌≡◌, drop}
 use Rattle.std.specs.List.{list_all}
-use Rattle.reach65.specs.Texts.{is_char}
+use Rattle.reach65.specs.Words.{is_char}
 use Rattle.reach65.proofs.texts.Alphabet.are_chars.Given as goal
 
 abbrev pub invariant-chars : goal.invariant-chars

@@ -1,8 +1,7 @@
 use Rattle.std.proofs.Common.{◌∙◌, refl}
 use Rattle.std.specs.Prelude.{Ok}
 use Rattle.std.proofs.lemmas.Result.{err_from_is_err_and}
-use Rattle.stmt65.specs.Definitions.{definitions_of}
-use Rattle.stmt65.specs.Sources.{source_readings}
+use Rattle.stmt65.specs.Words.{definitions_of, source_readings}
 use Rattle.stmt65.proofs.AddressLemmas.{lines_exact}
 use Rattle.stmt65.proofs.HeldLemmas.{definitions_held}
 use Rattle.stmt65.proofs.PassLaws.{means}

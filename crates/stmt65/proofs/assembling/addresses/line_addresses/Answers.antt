@@ -1,5 +1,5 @@
 use Rattle.std.proofs.Common.{refl}
-use Rattle.stmt65.specs.Sources.{source_meaning}
+use Rattle.stmt65.specs.Words.{source_meaning}
 use Rattle.stmt65.proofs.AddressLemmas.{lines_exact}
 use Rattle.stmt65.proofs.assembling.addresses.line_addresses.Goals as goal
 

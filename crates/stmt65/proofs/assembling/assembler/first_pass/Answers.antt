@@ -1,8 +1,5 @@
 use Rattle.std.proofs.Common.{◌++◌, ◌∙◌, ℕ, List, ap, arith}
-use Rattle.stmt65.specs.Meaning.{readings}
-use Rattle.stmt65.specs.Coding.{State}
-use Rattle.stmt65.specs.Sources.{source_readings}
-use Rattle.stmt65.specs.Code.LateViews.{state_in}
+use Rattle.stmt65.specs.Words.{State, readings, source_readings, state_in}
 use Rattle.stmt65.proofs.AddressLemmas.{addresses_step, found_lines, held_addresses}
 use Rattle.stmt65.proofs.PassLaws.{at_start, at_next, passed}
 use Rattle.stmt65.proofs.assembling.assembler.first_pass.Goals as goal

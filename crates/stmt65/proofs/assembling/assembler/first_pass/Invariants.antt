@@ -1,8 +1,5 @@
 use Rattle.std.proofs.Common.{◌≡◌, ◌≤◌, ◌+◌, ◌++◌, length, true}
-use Rattle.stmt65.specs.Meaning.{readings}
-use Rattle.stmt65.specs.Sources.{source_readings, source_state}
-use Rattle.stmt65.specs.Code.MeaningViews.{held_final}
-use Rattle.stmt65.specs.Code.LateViews.{held_coded, state_in}
+use Rattle.stmt65.specs.Words.{held_coded, held_final, readings, source_readings, source_state, state_in}
 use Rattle.stmt65.proofs.AddressLemmas.{held_addresses}
 use Rattle.stmt65.proofs.PassLaws.{AtLine}
 use Rattle.stmt65.proofs.assembling.assembler.first_pass.Given as goal

@@ -1,8 +1,6 @@
 use Rattle.std.proofs.Common.{ap, refl}
 use Rattle.std.specs.Prelude.{Result, Ok, Err, OnOk}
-use Rattle.stmt65.specs.Coding.{State}
-use Rattle.stmt65.specs.Code.LateViews.{state_in}
-use Rattle.stmt65.specs.Code.MeaningViews.{held_after}
+use Rattle.stmt65.specs.Words.{State, held_after, state_in}
 use Rattle.stmt65.proofs.assembling.assembler.pass_source.Goals as goal
 
 on_ok : {T E P Q : Type 0} (r : Result T E) → OnOk r P → (P → Q) → OnOk r Q

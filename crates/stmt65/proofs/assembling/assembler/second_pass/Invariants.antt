@@ -1,7 +1,6 @@
 use Rattle.std.proofs.Common.{◌≡◌, drop, []}
 use Rattle.std.specs.Prelude.{Ok}
-use Rattle.stmt65.specs.Meaning.{with_front}
-use Rattle.stmt65.specs.Code.LateViews.{coded_late, fault_or, work_of}
+use Rattle.stmt65.specs.Words.{coded_late, fault_or, with_front, work_of}
 use Rattle.stmt65.proofs.assembling.assembler.second_pass.Given as goal
 
 abbrev pub invariant-late : goal.invariant-late

@@ -1,5 +1,5 @@
 use Rattle.std.proofs.Common.{List, Some, ap}
-use Rattle.stmt65.specs.Coding.{Fragment, coding}
+use Rattle.stmt65.specs.Words.{Fragment, coding}
 use Rattle.stmt65.proofs.assembling.coding.coding.Goals as goal
 
 pub returns-in-Segment : goal.returns-in-Segment

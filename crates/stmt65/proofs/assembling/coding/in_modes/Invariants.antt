@@ -1,6 +1,5 @@
 use Rattle.std.proofs.Common.{◌≡◌, map, drop}
-use Rattle.stmt65.specs.Code.SourceLineViews.{value_of}
-use Rattle.stmt65.specs.Coding.{first_way, way_in}
+use Rattle.stmt65.specs.Words.{first_way, value_of, way_in}
 use Rattle.stmt65.proofs.assembling.coding.in_modes.Given as goal
 
 abbrev pub invariant-modes : goal.invariant-modes

@@ -1,7 +1,6 @@
 use Rattle.std.proofs.Common.{◌≡◌, drop}
 use Rattle.std.specs.List.{list_all}
-use Rattle.stmt65.specs.Coding.{is_fragment_known}
-use Rattle.stmt65.specs.Code.CodingViews.{data_fragments}
+use Rattle.stmt65.specs.Words.{data_fragments, is_fragment_known}
 use Rattle.stmt65.proofs.assembling.emit.are_data_known.Given as goal
 
 abbrev pub invariant-data : goal.invariant-data

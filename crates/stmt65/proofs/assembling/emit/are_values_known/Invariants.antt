@@ -1,7 +1,6 @@
 use Rattle.std.proofs.Common.{◌≡◌, drop}
 use Rattle.std.specs.List.{list_all}
-use Rattle.stmt65.specs.Coding.{is_fragment_known}
-use Rattle.stmt65.specs.Code.CodingViews.{entry_fragments}
+use Rattle.stmt65.specs.Words.{entry_fragments, is_fragment_known}
 use Rattle.stmt65.proofs.assembling.emit.are_values_known.Given as goal
 
 abbrev pub invariant-values : goal.invariant-values

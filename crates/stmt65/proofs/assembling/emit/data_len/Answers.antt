@@ -1,6 +1,6 @@
 use Rattle.std.proofs.Common.{ap, arith, drop}
 use Rattle.std.proofs.Math.ListN.{drop_of_length-le}
-use Rattle.stmt65.specs.Code.CodingViews.{data_fragments}
+use Rattle.stmt65.specs.Words.{data_fragments}
 use Rattle.stmt65.proofs.CodingLemmas.{data_step, len_end}
 use Rattle.stmt65.proofs.assembling.emit.data_len.Goals as goal
 

@@ -1,7 +1,5 @@
 use Rattle.std.proofs.Common.{◌≡◌, ◌+◌, drop}
-use Rattle.stmt65.specs.Coding.{coding_len}
-use Rattle.stmt65.specs.Code.CodingViews.{data_fragments}
-use Rattle.stmt65.specs.Code.Held.{held}
+use Rattle.stmt65.specs.Words.{coding_len, data_fragments, held}
 use Rattle.stmt65.proofs.assembling.emit.data_len.Given as goal
 
 abbrev pub invariant-data : goal.invariant-data

@@ -1,7 +1,6 @@
 use Rattle.std.proofs.Common.{◌≡◌, ◌++◌, drop}
 use Rattle.std.specs.List.{flat_map, list_all}
-use Rattle.stmt65.specs.Coding.{fragment_bytes, fragment_fits}
-use Rattle.stmt65.specs.Code.CodingViews.{data_fragments}
+use Rattle.stmt65.specs.Words.{data_fragments, fragment_bytes, fragment_fits}
 use Rattle.stmt65.proofs.assembling.emit.put_data.Given as goal
 
 abbrev pub invariant-data : goal.invariant-data

@@ -1,7 +1,6 @@
 use Rattle.std.proofs.Common.{◌≡◌, ◌++◌, drop}
 use Rattle.std.specs.List.{flat_map, list_all}
-use Rattle.stmt65.specs.Coding.{fragment_bytes, fragment_fits}
-use Rattle.stmt65.specs.Code.CodingViews.{entry_fragments}
+use Rattle.stmt65.specs.Words.{entry_fragments, fragment_bytes, fragment_fits}
 use Rattle.stmt65.proofs.assembling.emit.put_values.Given as goal
 
 abbrev pub invariant-values : goal.invariant-values

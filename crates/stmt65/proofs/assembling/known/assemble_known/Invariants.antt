@@ -1,5 +1,5 @@
 use Rattle.std.proofs.Common.{length, take}
-use Rattle.stmt65.specs.Code.MeaningViews.{state_of}
+use Rattle.stmt65.specs.Words.{state_of}
 use Rattle.stmt65.proofs.KnownLaws.{Known}
 use Rattle.stmt65.proofs.assembling.known.assemble_known.Given as goal
 

@@ -1,5 +1,5 @@
 use Rattle.std.proofs.Common.{◌≡◌, drop}
-use Rattle.stmt65.specs.Meaning.{first_of}
+use Rattle.stmt65.specs.Words.{first_of}
 use Rattle.stmt65.proofs.assembling.line_faults.first_of.Given as goal
 
 abbrev pub invariant-loop-kind : goal.invariant-loop-kind

@@ -1,6 +1,5 @@
 use Rattle.std.proofs.Common.{◌∙◌}
-use Rattle.stmt65.specs.Code.SourceLineViews.{source_of}
-use Rattle.stmt65.specs.Code.MeaningViews.{state_of}
+use Rattle.stmt65.specs.Words.{source_of, state_of}
 use Rattle.stmt65.proofs.HeldLemmas.{next_held}
 use Rattle.stmt65.proofs.assembling.state.place.Goals as goal
 

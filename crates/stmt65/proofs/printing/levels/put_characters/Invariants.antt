@@ -1,5 +1,5 @@
 use Rattle.std.proofs.Common.{◌≡◌, ◌+◌, ◌++◌, length, take, map}
-use Rattle.stmt65.specs.Levels.{character}
+use Rattle.stmt65.specs.Words.{character}
 use Rattle.stmt65.proofs.printing.levels.put_characters.Given as goal
 
 abbrev pub invariant-loop-byte : goal.invariant-loop-byte

@@ -1,7 +1,6 @@
 use Rattle.std.proofs.Common.{◌≡◌, ◌+◌, ◌*◌, ◌++◌, length, take}
 use Rattle.std.specs.List.{flat_map}
-use Rattle.stmt65.specs.Digits.{hex2}
-use Rattle.stmt65.specs.Statements.{next_text}
+use Rattle.stmt65.specs.Words.{hex2, next_text}
 use Rattle.stmt65.proofs.printing.line.put_bytes.Given as goal
 
 abbrev pub invariant-loop-byte : goal.invariant-loop-byte

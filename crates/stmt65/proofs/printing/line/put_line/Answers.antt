@@ -1,6 +1,5 @@
 use Rattle.std.proofs.Common.{refl}
-use Rattle.stmt65.specs.Line.{line_of}
-use Rattle.stmt65.specs.Code.StatementViews.{statement_seen, remarks_seen}
+use Rattle.stmt65.specs.Words.{line_of, remarks_seen, statement_seen}
 use Rattle.stmt65.proofs.OneLine.{one_line}
 use Rattle.stmt65.proofs.ReadBack.{reads_back}
 use Rattle.stmt65.proofs.printing.line.put_line.Goals as goal

@@ -1,5 +1,5 @@
 use Rattle.std.proofs.Common.{◌≤◌, length, arith}
-use Rattle.stmt65.specs.Tables.{entry_len}
+use Rattle.stmt65.specs.Words.{entry_len}
 use Rattle.stmt65.proofs.TableTexts.{entries_step, entries_end}
 use Rattle.stmt65.proofs.printing.tables.put_entries.Goals as goal
 

@@ -1,7 +1,6 @@
 use Rattle.std.proofs.Common.{◌≡◌, ◌+◌, ◌*◌, ◌<◌, ◌++◌, length}
 use Rattle.std.specs.List.{flat_map}
-use Rattle.stmt65.specs.Statements.{entry_text, next_text, numbers_text}
-use Rattle.stmt65.specs.Tables.{entries}
+use Rattle.stmt65.specs.Words.{entries, entry_text, next_text, numbers_text}
 use Rattle.stmt65.proofs.printing.tables.put_entries.Given as goal
 
 abbrev pub invariant-entries : goal.invariant-entries

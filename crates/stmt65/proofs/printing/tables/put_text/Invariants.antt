@@ -1,7 +1,6 @@
 use Rattle.std.proofs.Common.{◌≡◌, ◌+◌, ◌*◌, ◌<◌, ◌++◌, length}
 use Rattle.std.specs.List.{flat_map}
-use Rattle.stmt65.specs.Statements.{data_text, datum_text, next_text}
-use Rattle.stmt65.specs.Tables.{cut_text}
+use Rattle.stmt65.specs.Words.{cut_text, data_text, datum_text, next_text}
 use Rattle.stmt65.proofs.printing.tables.put_text.Given as goal
 
 abbrev pub invariant-data : goal.invariant-data

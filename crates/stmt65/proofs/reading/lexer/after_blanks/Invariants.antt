@@ -1,6 +1,5 @@
 use Rattle.std.proofs.Common.{◌≡◌, drop}
-use Rattle.stmt65.specs.declared.language.Language.{Language}
-use Rattle.stmt65.specs.Lexing.{parts}
+use Rattle.stmt65.specs.Words.{Language, parts}
 use Rattle.stmt65.proofs.reading.lexer.after_blanks.Given as goal
 
 abbrev pub invariant-loop-i : goal.invariant-loop-i

@@ -1,5 +1,5 @@
 use Rattle.std.proofs.Common.{◌≡◌, length, map}
-use Rattle.stmt65.specs.Reading.{list_of}
+use Rattle.stmt65.specs.Words.{list_of}
 use Rattle.stmt65.proofs.ListLemmas.{fronted}
 use Rattle.stmt65.proofs.reading.operations.list_in.Given as goal
 

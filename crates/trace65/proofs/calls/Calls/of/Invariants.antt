@@ -1,4 +1,4 @@
-use Rattle.trace65.specs.Likely.{AreCounts}
+use Rattle.trace65.specs.Words.{AreCounts}
 use Rattle.trace65.proofs.calls.Calls.of.Given as goal
 
 abbrev pub invariant-calls : goal.invariant-calls

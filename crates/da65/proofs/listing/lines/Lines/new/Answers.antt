@@ -1,9 +1,6 @@
 use Rattle.std.proofs.Common.{◌∙◌, List, ap, map, sym}
-use Rattle.map65.specs.MapView.{MapView}
-use Rattle.da65.specs.Lines.{lines_from}
-use Rattle.da65.specs.Listing.{ListingLine, line_text, lines_of}
-use Rattle.da65.specs.Style.{style_of}
-use Rattle.da65.specs.declared.listing.place.ListingPlace.TheVariants.{Header}
+use Rattle.map65.specs.Words.{MapView}
+use Rattle.da65.specs.Words.{Header, ListingLine, line_text, lines_from, lines_of, style_of}
 use Rattle.da65.proofs.NextLine.NextLemmas.{lines-title}
 use Rattle.da65.proofs.listing.lines.Lines.new.Goals as goal
 

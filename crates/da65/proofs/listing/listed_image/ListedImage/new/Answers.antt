@@ -1,10 +1,7 @@
 use Rattle.std.proofs.Common.{◌≡◌, ◌∙◌, ap, not}
 use Rattle.std.specs.List.{list_any}
-use Rattle.info65.specs.Views.{InfoView}
-use Rattle.da65.specs.Groups.{is_skip_range}
-use Rattle.da65.specs.Marks.{has_marks}
-use Rattle.da65.specs.Style.{style_of}
-use Rattle.da65.specs.declared.listing.style.Style.{Style}
+use Rattle.info65.specs.Words.{InfoView}
+use Rattle.da65.specs.Words.{Style, has_marks, is_skip_range, style_of}
 use Rattle.da65.proofs.NextLine.NextLemmas.{style_cpu}
 use Rattle.da65.proofs.listing.listed_image.ListedImage.new.Goals as goal
 

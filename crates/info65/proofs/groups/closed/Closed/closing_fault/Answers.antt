@@ -1,10 +1,5 @@
 use Rattle.std.proofs.Common.{◌∙◌, List, ap, map, subst, sym}
-use Rattle.info65.specs.Closing.{closing_fault, label_fault}
-use Rattle.info65.specs.Code.Groups.{assignment_seen}
-use Rattle.info65.specs.Code.Index.{AreRanged}
-use Rattle.info65.specs.Labels.{label_in}
-use Rattle.info65.specs.Ranges.{ranges_of}
-use Rattle.info65.specs.Views.{NameView}
+use Rattle.info65.specs.Words.{AreRanged, NameView, assignment_seen, closing_fault, label_fault, label_in, ranges_of}
 use Rattle.info65.proofs.groups.closed.Closed.closing_fault.Goals as goal
 
 pub returns-in-Range : goal.returns-in-Range

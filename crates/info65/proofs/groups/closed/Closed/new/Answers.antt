@@ -1,8 +1,5 @@
 use Rattle.std.proofs.Common.{refl}
-use Rattle.info65.specs.Code.Kept.{kept_of}
-use Rattle.info65.specs.Labels.{names_said}
-use Rattle.info65.specs.Ranges.{ranges_of}
-use Rattle.info65.specs.Segments.{segments_of}
+use Rattle.info65.specs.Words.{kept_of, names_said, ranges_of, segments_of}
 use Rattle.info65.proofs.IndexLemmas.{no_ranges}
 use Rattle.info65.proofs.SegmentLemmas.{no_marks}
 use Rattle.info65.proofs.groups.closed.Closed.new.Goals as goal

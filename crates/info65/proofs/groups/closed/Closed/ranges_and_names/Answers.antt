@@ -1,5 +1,5 @@
 use Rattle.std.proofs.Common.{◌∙◌, ap, sym}
-use Rattle.info65.specs.Labels.{by_address, names_said}
+use Rattle.info65.specs.Words.{by_address, names_said}
 use Rattle.info65.proofs.Cases.{same_ok}
 use Rattle.info65.proofs.groups.closed.Closed.ranges_and_names.Goals as goal
 

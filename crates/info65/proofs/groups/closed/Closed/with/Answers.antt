@@ -1,14 +1,9 @@
 use Rattle.std.proofs.Common.{◌≡◌, ◌∙◌, ◌++◌, ap, ap₂, map, sym}
 use Rattle.std.specs.Prelude.{List, None}
-use Rattle.info65.specs.Closing.{closing_fault}
-use Rattle.info65.specs.Code.Groups.{assignment_seen, group_seen}
-use Rattle.info65.specs.Code.Kept.{kept_part}
-use Rattle.info65.specs.Groups.{GroupView}
-use Rattle.info65.specs.Views.{NameView}
+use Rattle.info65.specs.Words.{GroupView, NameView, RangeSpec, assignment_seen, closing_fault, group_seen, kept_part}
 use Rattle.info65.proofs.IndexLemmas.{name_fine, names_more}
 use Rattle.info65.proofs.KeptLemmas.{kept_more}
 use Rattle.info65.proofs.RangeLemmas.{ranges_more, some_ordered}
-use Rattle.info65.specs.declared.information.range.RangeSpec.{RangeSpec}
 use Rattle.info65.proofs.groups.closed.Closed.with.Goals as goal
 
 pub add_optional-requires : goal.add_optional-requires

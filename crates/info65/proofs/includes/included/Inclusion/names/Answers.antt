@@ -1,6 +1,5 @@
 use Rattle.std.proofs.Common.{subst}
-use Rattle.info65.specs.Names.{AreNames}
-use Rattle.info65.specs.Views.{InfoView}
+use Rattle.info65.specs.Words.{AreNames, InfoView}
 use Rattle.info65.proofs.NamesLemmas.{sorted_names}
 use Rattle.info65.proofs.includes.included.Inclusion.names.Goals as goal
 

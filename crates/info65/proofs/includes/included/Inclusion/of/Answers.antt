@@ -1,9 +1,6 @@
 use Rattle.std.proofs.Common.{◌∙◌, ap, subst, sym}
 use Rattle.std.specs.Prelude.{List, Ok}
-use Rattle.info65.specs.Includes.{with_names}
-use Rattle.info65.specs.Labels.{by_address}
-use Rattle.info65.specs.Names.{AreGiven}
-use Rattle.info65.specs.Views.{NameView}
+use Rattle.info65.specs.Words.{AreGiven, NameView, by_address, with_names}
 use Rattle.info65.proofs.Cases.{same_ok}
 use Rattle.info65.proofs.NamesLemmas.{given_names, names_sorted}
 use Rattle.info65.proofs.includes.included.Inclusion.of.Goals as goal

@@ -1,6 +1,6 @@
 use Rattle.std.proofs.Common.{◌∙◌, subst, sym}
 use Rattle.std.proofs.lemmas.Result.{err_from_is_err_and}
-use Rattle.info65.specs.Code.Results.{Fails}
+use Rattle.info65.specs.Words.{Fails}
 use Rattle.info65.proofs.IncludedLemmas.{file_at, file_sorted, included_fails, included_fault, included_names, included_same}
 use Rattle.info65.proofs.includes.included.Inclusion.with.Goals as goal
 

@@ -1,8 +1,6 @@
 use Rattle.std.proofs.Common.{◌∙◌, ◌++◌, ◌∷◌, [], ◌+◌, List, ℕ, refl, ap, arith, length, map, subst}
 use Rattle.std.specs.Prelude.{option_map}
-use Rattle.info65.specs.Code.Names.{given_seen}
-use Rattle.info65.specs.Code.Pool.{ReachTo, block_start, entry_seen, optional, span_of}
-use Rattle.info65.specs.Views.{NameView}
+use Rattle.info65.specs.Words.{NameView, ReachTo, block_start, entry_seen, given_seen, optional, span_of}
 use Rattle.info65.specs.declared.information.pool.Entry.{Entry}
 use Rattle.info65.proofs.PoolLemmas.{IsPut, put_seen}
 use Rattle.info65.proofs.information.pool.NamePool.add.Goals as goal

@@ -1,12 +1,8 @@
 use Rattle.std.proofs.Common.{◌≡◌, ◌∙◌, ◌==◌, ◌++◌, ◌∷◌, ◌+◌, ℕ, [], List, ap, arith, length, map, subst, if◌then◌else◌}
 use Rattle.std.specs.Prelude.{None}
 use Rattle.std.proofs.lemmas.List.{length-map, map-append}
-use Rattle.info65.specs.Code.Names.{given_seen}
+use Rattle.info65.specs.Words.{AddsText, Given, NameView, given_seen, name_fault, texts_seen}
 use Rattle.info65.specs.Code.Numbers.{number_at}
-use Rattle.info65.specs.Code.Texts.{AddsText, texts_seen}
-use Rattle.info65.specs.Labels.{name_fault}
-use Rattle.info65.specs.Views.{NameView}
-use Rattle.info65.specs.declared.information.name.Given.{Given}
 use Rattle.info65.proofs.IndexLemmas.{name_added}
 use Rattle.info65.proofs.lookup.index.Index.add.Goals as goal
 

@@ -1,5 +1,5 @@
 use Rattle.std.proofs.Common.{◌∙◌, ap, sym}
-use Rattle.info65.specs.Code.Names.{given_seen}
+use Rattle.info65.specs.Words.{given_seen}
 use Rattle.info65.proofs.IndexLemmas.{elsewhere_by, elsewhere_is}
 use Rattle.info65.proofs.lookup.index.Index.is_elsewhere.Goals as goal
 

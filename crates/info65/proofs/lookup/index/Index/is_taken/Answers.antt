@@ -1,8 +1,7 @@
 use Rattle.std.proofs.Common.{◌∙◌, ap, ap₂}
 use Rattle.std.specs.Prelude.{is_some}
 use Rattle.std.specs.List.{list_any}
-use Rattle.info65.specs.Code.Index.{numbered}
-use Rattle.info65.specs.Labels.{is_at}
+use Rattle.info65.specs.Words.{is_at, numbered}
 use Rattle.info65.proofs.IndexLemmas.{taken_found}
 use Rattle.info65.proofs.lookup.index.Index.is_taken.Goals as goal
 

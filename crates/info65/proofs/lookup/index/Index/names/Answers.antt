@@ -1,11 +1,6 @@
 use Rattle.std.proofs.Common.{◌∙◌, List, ap, map, subst, sym}
 use Rattle.std.specs.Prelude.{Ok}
-use Rattle.info65.specs.Code.Index.{IsFoundAt}
-use Rattle.info65.specs.Code.Names.{given_seen}
-use Rattle.info65.specs.Code.Results.{Gives}
-use Rattle.info65.specs.Labels.{by_address}
-use Rattle.info65.specs.Views.{NameView}
-use Rattle.info65.specs.declared.information.name.Given.{Given}
+use Rattle.info65.specs.Words.{Given, Gives, IsFoundAt, NameView, by_address, given_seen}
 use Rattle.info65.proofs.lookup.index.Index.names.Goals as goal
 
 pub pooled-requires : goal.pooled-requires

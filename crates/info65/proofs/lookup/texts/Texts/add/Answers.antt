@@ -3,7 +3,7 @@ use Rattle.std.specs.Str.{bytes_eq}
 use Rattle.std.proofs.lemmas.Bool.{eq-eqb, eqb-true}
 use Rattle.std.proofs.lemmas.Map.Text.{btree_map_updates_str}
 use Rattle.std.proofs.lemmas.Slice.Eq.{bytes_eq-Decides}
-use Rattle.info65.specs.Code.Texts.{slot_of}
+use Rattle.info65.specs.Words.{slot_of}
 use Rattle.info65.proofs.Cases.{by_test}
 use Rattle.info65.proofs.IndexLemmas.{other_way, same_text}
 use Rattle.info65.proofs.lookup.texts.Texts.add.Goals as goal

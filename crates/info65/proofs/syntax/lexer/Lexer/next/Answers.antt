@@ -1,10 +1,7 @@
 use Rattle.std.proofs.Common.{rules, ◌≡◌, ◌+◌, ◌∙◌, ℕ, ap, ap₂, drop, false, refl, sym, List}
 use Rattle.std.proofs.lemmas.Result.{err_from_is_err_and}
 use Rattle.std.specs.Prelude.{Result}
-use Rattle.info65.specs.Tokens.{tokens_of, found, with_token}
-use Rattle.info65.specs.Lexemes.{LexemeView, lexeme_at}
-use Rattle.info65.specs.Code.Steps.{kind_seen}
-use Rattle.info65.specs.declared.fault.InfoFault.{InfoFault}
+use Rattle.info65.specs.Words.{InfoFault, LexemeView, found, kind_seen, lexeme_at, tokens_of, with_token}
 use Rattle.info65.proofs.TokenLemmas.{at_end, at_token}
 use Rattle.info65.proofs.syntax.lexer.Lexer.next.Goals as goal
 use Rattle.info65.proofs.syntax.lexer.Lexer.next.Goals.{After-lexeme_at}

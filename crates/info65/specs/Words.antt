@@ -1,0 +1,70 @@
+-- The words of clauses and proofs, here and in the crates above, from one place.
+pub use Rattle.info65.specs.Types.{Address, Attribute, BadByte, BadInclude, BadName, BadNumber, BigEndian, Character, Class, Cpu, Expected, Form, Given, GivenTwice, Group, GroupKind, InfoFault, InfoFaultKind, Instruction, LittleEndian, Missing, NameTwice, Next, Number, OpenString, OutOfRange, RangeSpec, RangeType, RangesOverlap, ReservedName, Return, SegmentSpec, SegmentsOverlap, Skipped, Span, Start, TokenKind, TooLarge, UnknownAttribute, UnknownGroup, Value}
+unfoldable pub use Rattle.info65.specs.Attributes.{attribute_named, boolean_named, form_of, group_named, type_named}
+pub use Rattle.info65.specs.Closing.{include_fault, label_fault, optional_name_fault, range_fault, segment_fault}
+unfoldable pub use Rattle.info65.specs.Closing.{closing_fault}
+pub use Rattle.info65.specs.Code.Classes.{bit_of}
+unfoldable pub use Rattle.info65.specs.Code.Classes.{classes_of}
+pub use Rattle.info65.specs.Code.GroupLists.{before_seen}
+pub use Rattle.info65.specs.Code.Groups.{IsAtMost, assignment_seen, group_seen, value_seen}
+pub use Rattle.info65.specs.Code.Includes.{Includes, ReadsFile, name_result_seen, named_seen, with_added}
+pub use Rattle.info65.specs.Code.Index.{AreMarked, AreRanged, AreSetToo, IsFoundAt, IsIndex, StandsIn, numbered, stands_by, text_at}
+unfoldable pub use Rattle.info65.specs.Code.Index.{any_in}
+pub use Rattle.info65.specs.Code.Kept.{AreKept, kept_part}
+unfoldable pub use Rattle.info65.specs.Code.Kept.{kept_of}
+pub use Rattle.info65.specs.Code.Lookup.{IsRangeFault, IsSegmentFault, RangesToo, SegmentsToo}
+pub use Rattle.info65.specs.Code.Names.{given_seen}
+pub use Rattle.info65.specs.Code.Numbers.{ArePages, HasCell, IsSet, NumbersView, SamePages}
+pub use Rattle.info65.specs.Code.Pool.{AreAbove, AreBlocks, IsPool, IsWithin, ReachTo, blank_entry, bytes_of, entry_covers, entry_seen, optional, reach_of, span_of}
+unfoldable pub use Rattle.info65.specs.Code.Pool.{block_start}
+pub use Rattle.info65.specs.Code.Reading.{AlwaysMoves, Leads, Moves, ReadsGroup, TakesToken, is_semicolon, place_after}
+pub use Rattle.info65.specs.Code.Results.{Fails, Gives, Sees}
+pub use Rattle.info65.specs.Code.SegmentTable.{AreFound, AreKeys, AreStarts, IsHolder, IsKeyAt, IsOrder, IsPlace, IsRest, IsSlotted, IsSplit, IsStart, IsTable, blank_start, key_by, key_found, start_at}
+pub use Rattle.info65.specs.Code.Segments.{parts_seen, segment_seen}
+pub use Rattle.info65.specs.Code.Steps.{Hands, Steps, kind_seen, lexeme_seen, seen}
+pub use Rattle.info65.specs.Code.Texts.{AddsText, StandsAlike, TextsView, texts_seen}
+unfoldable pub use Rattle.info65.specs.Code.Texts.{hash_from, slot_of}
+pub use Rattle.info65.specs.Code.Turns.{Turns, done, stepped, turn_of}
+pub use Rattle.info65.specs.Comments.{unless_empty}
+unfoldable pub use Rattle.info65.specs.Comments.{comment_in, lacks_name}
+unfoldable pub use Rattle.info65.specs.Digits.{number_of_digits}
+pub use Rattle.info65.specs.Faults.{fault, fault_text, out_of_memory, ◌>>=◌}
+pub use Rattle.info65.specs.Grammar.{Accepts, AreGroups, AreNew, IsGroup, IsInformation, IsToken, Item, Spells, attribute_name, end_items, given_items, group_items, group_name, value, without_marks}
+pub use Rattle.info65.specs.Groups.{AreAllFormed, AreFormed, AssignmentView, GroupView, given_before, global_part, is_of}
+unfoldable pub use Rattle.info65.specs.Groups.{global_given, has, has_instead, is_given, value_in}
+pub use Rattle.info65.specs.IncludeGroups.{AreIncludes, include_from, include_part}
+unfoldable pub use Rattle.info65.specs.IncludeGroups.{has_room, include_in, includes_of}
+pub use Rattle.info65.specs.IncludeLaws.{AreDigitsOf, EndsLine, IncludesSaid, IsAssignment, IsBlankLine, IsGivenOr, IsSpelling, IsText, LinesSpelled, SaysInclude, WritesAddress}
+pub use Rattle.info65.specs.Includes.{after_sign, before_sign, blank_include, optional_adds, or_bad, plain_name, trimmed_end, unless_ignored, with_names}
+unfoldable pub use Rattle.info65.specs.Includes.{address_written, assignment_in, included, is_identifier, line_adds, line_in, name_adds, names_included, names_with, trimmed, without_comment}
+pub use Rattle.info65.specs.Labels.{is_at, is_elsewhere, label_from, label_sized, name_part}
+unfoldable pub use Rattle.info65.specs.Labels.{by_address, label_in, name_fault, named_at, names_from, names_said, range_name}
+pub use Rattle.info65.specs.Laws.{AcceptsFiles, AreOnce, GivenOnce, GlobalOnce, IsFaultless, IsOfEnd, IsOfToken, IsOnce, OverlapsShare, RangesApart, RefusesFirst, SaysRange}
+pub use Rattle.info65.specs.Layouts.{IsEntry, IsNumber, layout_of, row}
+pub use Rattle.info65.specs.Lexemes.{KindView, LexemeView, are_digits, character, closing_brace, number, opening_brace, semicolon, starts_word, string, word}
+unfoldable pub use Rattle.info65.specs.Lexemes.{character_at, in_class, lexeme_at, number_in, string_at, word_at}
+pub use Rattle.info65.specs.NameLaws.{CoversHighest, IsHighest, NamesGiven, OwnAddressWins}
+pub use Rattle.info65.specs.Names.{AreGiven, AreNames, IsComment, IsName, blank_name, covers, default_label, is_comment_byte, is_upper_hex, name_at}
+unfoldable pub use Rattle.info65.specs.Names.{covering, covering_below, default_name, has_comment_form, is_like_default, is_reserved}
+pub use Rattle.info65.specs.Ranges.{AreRanges, has_address, last_from, range_between, range_from, range_part}
+unfoldable pub use Rattle.info65.specs.Ranges.{overlaps, range_in, range_of_parts, ranges_of}
+pub use Rattle.info65.specs.Reader.{Place, State, after_group, assigned, at_attribute, at_brace, at_group, at_semicolon, closed, closed_by, group, inside, one, opened, opening, outside, valued, wanted}
+unfoldable pub use Rattle.info65.specs.Reader.{attribute_at, finish, groups_of, information, read, read_from, read_token, step}
+pub use Rattle.info65.specs.SegmentLaws.{CoversOne, SaysSegment, SegmentsApart, SegmentsShare}
+pub use Rattle.info65.specs.Segments.{AreSegments, IsSegment, blank_segment, contains, segment_at, segment_from, segment_part}
+unfoldable pub use Rattle.info65.specs.Segments.{first_named, meets, segment_covering, segment_in, segment_key, segments_of}
+pub use Rattle.info65.specs.Settings.{info_of}
+unfoldable pub use Rattle.info65.specs.Settings.{settings_of}
+pub use Rattle.info65.specs.Sound.{IsSound}
+pub use Rattle.info65.specs.Standing.{Stand, TokensStand, feeds, is_gap, is_solid}
+pub use Rattle.info65.specs.Tags.{at_assigned, at_closed, at_inside, at_opening, at_outside, at_valued, attributed, blank_tag, ended_at, is_backward, is_value, lacks, tagged_text, with_value}
+unfoldable pub use Rattle.info65.specs.Tags.{spot_after, tag_attribute, tag_end, tag_named, tag_step, tagged_byte, tagged_from, tags_from, tags_of}
+pub use Rattle.info65.specs.Tokens.{Stream, TokenView, ended, found, is_blank, opens_comment, refused, stops, tokens_of, with_token}
+unfoldable pub use Rattle.info65.specs.Tokens.{tokens_after}
+pub use Rattle.info65.specs.Values.{HasForm, ValueView, a_boolean, a_character, a_comment, a_name, a_number, a_type, address_value, an_address, are_printable, as_boolean, as_character, as_comment, as_cpu, as_name, as_number, as_type, boolean_of, boolean_value, comment_value, cpu_value, in_form, label_value, number_value, type_value}
+unfoldable pub use Rattle.info65.specs.Values.{is_file_name, is_on_command_line, name_value, value_of}
+pub use Rattle.info65.specs.Views.{AreInLimits, AreOptionNumbers, AreOptions, AreSettingNumbers, IncludeView, InfoView, IsColumn, NameView, OptionsView, SegmentView, SettingsView, default_settings, name_seen, no_options}
+pub use Rattle.info65.specs.declared.information.range.RangeType.TheVariants.{ByteTable, Code, DbyteTable, DwordTable, WordTable}
+pub use Rattle.info65.specs.declared.syntax.token.TokenKind.TheVariants.{Word}
+pub use Rattle.info65.specs.declared.tags.place.Outcome.{Outcome}
+pub use Rattle.isa65.specs.declared.cpu.Cpu.TheVariants.{M65C02, M65SC02}
