@@ -8,7 +8,7 @@ import sys
 
 sys.dont_write_bytecode = True
 
-import columns, contracts, edits, manual, memory, names, page, pages, promises, readings, words  # noqa: E401
+import columns, contracts, edits, imports, manual, memory, names, page, pages, promises, readings, words  # noqa: E401
 from source import Refused
 
 CHECKS = {
@@ -16,6 +16,7 @@ CHECKS = {
     promises: "each promise of docs/PROOFS.md has its clause",
     edits: "each edit that must fail can be applied, and each wrong body has its edit or its test",
     memory: "every answer out of memory is made in a listed place",
+    imports: "definitions are imported from the Words of their crate, and its types from Types",
     readings: "a listing and the meaning of a text share no definition but those listed",
     words: "an information file has the words of docs/INFORMATION_FILE.md and no others",
     manual: "docs/da65.info.5 is made from docs/INFORMATION_FILE.md",

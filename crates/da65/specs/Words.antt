@@ -26,7 +26,6 @@ unfoldable pub use Rattle.da65.specs.Listing.{ending_lines, group_lines, line_te
 pub use Rattle.da65.specs.ListingRows.{Example, WorkedListings, code_at, label, range, with_labels, with_ranges}
 pub use Rattle.da65.specs.Marks.{has_comment, has_marks}
 pub use Rattle.da65.specs.NeededFiles.{needs_in, needs_of, nothing}
-pub use Rattle.da65.specs.NeedsView.{NeedsView}
 pub use Rattle.da65.specs.Outcome.{Outcome, done, or_message, outcome_by, outcome_of, prepared, refusal_with, warnings, warnings_for, with_all_includes, with_file, with_include, with_input, ◌>>=◌}
 unfoldable pub use Rattle.da65.specs.Outcome.{image_message, include_message, info_message, missing_message, no_input_message, prepared_by, with_includes}
 pub use Rattle.da65.specs.ReassemblyLaw.{CodesInMode, ExpressionsHaveTheirValues, ForcedWhereNeeded, GivesBytes, GroupGivesItsBytes, GroupsAreGroups, HasKnownSize, IsGroup, IsWritten, ItemGivesItsBytes, ListingGivesImage, ModeIsChosenBack, NamesAreDefinedOnce, NamesAreSound, TargetIsInRange, TextGivesImage, UnwrittenIsBytes, WrittenIsInstruction, fragments_in, item_in, operand_fragment, reading_of_line, readings_of, row_fragments}

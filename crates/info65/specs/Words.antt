@@ -5,24 +5,23 @@ pub use Rattle.info65.specs.Closing.{include_fault, label_fault, optional_name_f
 unfoldable pub use Rattle.info65.specs.Closing.{closing_fault}
 pub use Rattle.info65.specs.Code.Classes.{bit_of}
 unfoldable pub use Rattle.info65.specs.Code.Classes.{classes_of}
-pub use Rattle.info65.specs.Code.GroupLists.{before_seen}
 pub use Rattle.info65.specs.Code.Groups.{IsAtMost, assignment_seen, group_seen, value_seen}
 pub use Rattle.info65.specs.Code.Includes.{Includes, ReadsFile, name_result_seen, named_seen, with_added}
 pub use Rattle.info65.specs.Code.Index.{AreMarked, AreRanged, AreSetToo, IsFoundAt, IsIndex, StandsIn, numbered, stands_by, text_at}
 unfoldable pub use Rattle.info65.specs.Code.Index.{any_in}
-pub use Rattle.info65.specs.Code.Kept.{AreKept, kept_part}
+pub use Rattle.info65.specs.Code.Kept.{kept_part}
 unfoldable pub use Rattle.info65.specs.Code.Kept.{kept_of}
 pub use Rattle.info65.specs.Code.Lookup.{IsRangeFault, IsSegmentFault, RangesToo, SegmentsToo}
 pub use Rattle.info65.specs.Code.Names.{given_seen}
-pub use Rattle.info65.specs.Code.Numbers.{ArePages, HasCell, IsSet, NumbersView, SamePages}
+pub use Rattle.info65.specs.Code.Numbers.{NumbersView, SamePages}
 pub use Rattle.info65.specs.Code.Pool.{AreAbove, AreBlocks, IsPool, IsWithin, ReachTo, blank_entry, bytes_of, entry_covers, entry_seen, optional, reach_of, span_of}
 unfoldable pub use Rattle.info65.specs.Code.Pool.{block_start}
 pub use Rattle.info65.specs.Code.Reading.{AlwaysMoves, Leads, Moves, ReadsGroup, TakesToken, is_semicolon, place_after}
 pub use Rattle.info65.specs.Code.Results.{Fails, Gives, Sees}
-pub use Rattle.info65.specs.Code.SegmentTable.{AreFound, AreKeys, AreStarts, IsHolder, IsKeyAt, IsOrder, IsPlace, IsRest, IsSlotted, IsSplit, IsStart, IsTable, blank_start, key_by, key_found, start_at}
+pub use Rattle.info65.specs.Code.SegmentTable.{AreFound, AreKeys, AreStarts, IsHolder, IsKeyAt, IsOrder, IsPlace, IsRest, IsSlotted, IsSplit, IsStart, blank_start, key_by, key_found, start_at}
 pub use Rattle.info65.specs.Code.Segments.{parts_seen, segment_seen}
-pub use Rattle.info65.specs.Code.Steps.{Hands, Steps, kind_seen, lexeme_seen, seen}
-pub use Rattle.info65.specs.Code.Texts.{AddsText, StandsAlike, TextsView, texts_seen}
+pub use Rattle.info65.specs.Code.Steps.{Steps, kind_seen, lexeme_seen, seen}
+pub use Rattle.info65.specs.Code.Texts.{AddsText, TextsView, texts_seen}
 unfoldable pub use Rattle.info65.specs.Code.Texts.{hash_from, slot_of}
 pub use Rattle.info65.specs.Code.Turns.{Turns, done, stepped, turn_of}
 pub use Rattle.info65.specs.Comments.{unless_empty}
@@ -55,7 +54,6 @@ pub use Rattle.info65.specs.Segments.{AreSegments, IsSegment, blank_segment, con
 unfoldable pub use Rattle.info65.specs.Segments.{first_named, meets, segment_covering, segment_in, segment_key, segments_of}
 pub use Rattle.info65.specs.Settings.{info_of}
 unfoldable pub use Rattle.info65.specs.Settings.{settings_of}
-pub use Rattle.info65.specs.Sound.{IsSound}
 pub use Rattle.info65.specs.Standing.{Stand, TokensStand, feeds, is_gap, is_solid}
 pub use Rattle.info65.specs.Tags.{at_assigned, at_closed, at_inside, at_opening, at_outside, at_valued, attributed, blank_tag, ended_at, is_backward, is_value, lacks, tagged_text, with_value}
 unfoldable pub use Rattle.info65.specs.Tags.{spot_after, tag_attribute, tag_end, tag_named, tag_step, tagged_byte, tagged_from, tags_from, tags_of}
@@ -63,7 +61,7 @@ pub use Rattle.info65.specs.Tokens.{Stream, TokenView, ended, found, is_blank, o
 unfoldable pub use Rattle.info65.specs.Tokens.{tokens_after}
 pub use Rattle.info65.specs.Values.{HasForm, ValueView, a_boolean, a_character, a_comment, a_name, a_number, a_type, address_value, an_address, are_printable, as_boolean, as_character, as_comment, as_cpu, as_name, as_number, as_type, boolean_of, boolean_value, comment_value, cpu_value, in_form, label_value, number_value, type_value}
 unfoldable pub use Rattle.info65.specs.Values.{is_file_name, is_on_command_line, name_value, value_of}
-pub use Rattle.info65.specs.Views.{AreInLimits, AreOptionNumbers, AreOptions, AreSettingNumbers, IncludeView, InfoView, IsColumn, NameView, OptionsView, SegmentView, SettingsView, default_settings, name_seen, no_options}
+pub use Rattle.info65.specs.Views.{AreInLimits, AreOptions, IncludeView, InfoView, IsColumn, NameView, OptionsView, SegmentView, SettingsView, default_settings, name_seen, no_options}
 pub use Rattle.info65.specs.declared.information.range.RangeType.TheVariants.{ByteTable, Code, DbyteTable, DwordTable, WordTable}
 pub use Rattle.info65.specs.declared.syntax.token.TokenKind.TheVariants.{Word}
 pub use Rattle.info65.specs.declared.tags.place.Outcome.{Outcome}

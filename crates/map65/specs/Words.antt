@@ -9,7 +9,7 @@ pub use Rattle.map65.specs.Code.Marking.{AreMarkedBelow, ArePainted, Changes, Ke
 unfoldable pub use Rattle.map65.specs.Code.Marking.{is_joined_in, role_by}
 pub use Rattle.map65.specs.Code.Passing.{Passes, Takes}
 pub use Rattle.map65.specs.Device.{AppendsFront, Counts, HasTaken, IsFailure, TakesUpTo, has_failed, one_more}
-pub use Rattle.map65.specs.Image.{GivesImage, ReadCount, StopsAt, image_fault, is_short, most_of, read_limit, sized, start_of}
+pub use Rattle.map65.specs.Image.{GivesImage, ReadCount, StopsAt, is_short, most_of, read_limit, sized, start_of}
 unfoldable pub use Rattle.map65.specs.Image.{image_by, image_of}
 pub use Rattle.map65.specs.ImageView.{AreBytes, ImageView, IsPlaced, byte_at, bytes_from, end_of, is_inside}
 pub use Rattle.map65.specs.Items.{AreItems, CanBegin, EndsBefore, ItemLaw, code_size, size_for}

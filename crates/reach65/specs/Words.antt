@@ -12,9 +12,9 @@ pub use Rattle.reach65.specs.Entries.{code_start, has_vectors, word_at}
 unfoldable pub use Rattle.reach65.specs.Entries.{code_starts, entries_of, entries_with, plain_entries_of, pointer_at, pointer_for, pointers, vectors}
 pub use Rattle.reach65.specs.Flow.{FlowView, LeadsTo, goal_by, if_whole, is, is_last, next_of, op_in, row_goal, text_by}
 unfoldable pub use Rattle.reach65.specs.Flow.{end_after, goal_at, goal_of, instruction_at, next_at, text_at, text_of}
-pub use Rattle.reach65.specs.Growth.{AreBeside, AreFollowed, BeginsCode, Extent, Grows, IsCandidate, IsSoundAt, IsWordOf, MayJoin, after, alone, before, behind, goes_on_from, in_halves, in_row, in_table, unchanged}
+pub use Rattle.reach65.specs.Growth.{AreBeside, AreFollowed, BeginsCode, Grows, IsCandidate, IsSoundAt, IsWordOf, MayJoin, after, alone, before, behind, goes_on_from, in_halves, in_row, in_table, unchanged}
 unfoldable pub use Rattle.reach65.specs.Growth.{is_entered, is_run_into}
-pub use Rattle.reach65.specs.Halves.{AreHalves, Choice}
+pub use Rattle.reach65.specs.Halves.{AreHalves}
 unfoldable pub use Rattle.reach65.specs.Halves.{keep, keep_rank, keep_ranked, kept_of}
 unfoldable pub use Rattle.reach65.specs.Inlines.{inline_of, is_inline, text_end, zero_end}
 pub use Rattle.reach65.specs.Labels.{AreNewLabels, label_at}

@@ -8,8 +8,8 @@ pub use Rattle.stmt65.specs.Code.LateViews.{Codes, CodesEarly, Follows, GoesOn, 
 unfoldable pub use Rattle.stmt65.specs.Code.LateViews.{coded_late, fronts, held_coded}
 pub use Rattle.stmt65.specs.Code.MeaningViews.{IsPlaced, defined_in, definitions_in, fragments_in, held_definition, state_of}
 unfoldable pub use Rattle.stmt65.specs.Code.MeaningViews.{held_after, held_final}
-pub use Rattle.stmt65.specs.Code.PartViews.{part_of, parts_from}
-pub use Rattle.stmt65.specs.Code.Shortens.{Shortens, next_datum-Shortens, next_half-Shortens, next_value-Shortens}
+pub use Rattle.stmt65.specs.Code.PartViews.{part_of}
+pub use Rattle.stmt65.specs.Code.Shortens.{Shortens}
 pub use Rattle.stmt65.specs.Code.SourceLineViews.{datum_of, numeral_of, source_of, value_of}
 pub use Rattle.stmt65.specs.Code.StatementViews.{expr_seen, in_hex, operands_seen, remarks_seen, statement_seen, target_seen}
 pub use Rattle.stmt65.specs.Code.SymbolViews.{IsIndex, definition_of, if_named, is_named, place_of}
@@ -28,7 +28,6 @@ pub use Rattle.stmt65.specs.Layout.{Layout, free, is_before, start_of, with_star
 pub use Rattle.stmt65.specs.Levels.{character, fields_after, level_fields, spaced_byte}
 pub use Rattle.stmt65.specs.Lexing.{alone_at, hex_len, is_binary_digit, is_character, is_text_byte, is_word_start, parts}
 unfoldable pub use Rattle.stmt65.specs.Lexing.{part_at, parts_after}
-pub use Rattle.stmt65.specs.Limits.{ConvertsWithin}
 pub use Rattle.stmt65.specs.Line.{plain_line, with_fields}
 unfoldable pub use Rattle.stmt65.specs.Line.{filled, line_of}
 pub use Rattle.stmt65.specs.LineAddresses.{FindsLine, GivesByte, address_after, line_past}

@@ -16,7 +16,6 @@ pub use Rattle.trace65.specs.Request.{addresses_in, asked_of, entries_given, is_
 unfoldable pub use Rattle.trace65.specs.Request.{asked, asked_in, entries_in, traced_in}
 pub use Rattle.trace65.specs.Said.{entry_said, is_after}
 unfoldable pub use Rattle.trace65.specs.Said.{entries_said, has_after}
-pub use Rattle.trace65.specs.declared.failure.Failure.TheVariants.{File, Image, Memory, Usage}
 pub use Rattle.info65.specs.declared.information.range.RangeSpec.{RangeSpec}
 pub use Rattle.info65.specs.declared.tags.tag.Tag.{Tag}
 pub use Rattle.isa65.specs.declared.op.Op.{Op}
