@@ -12,7 +12,7 @@ CLAUSE, SCRIPT, PAGE, MANUAL = 100, 140, 120, 80
 WIDER = {
     "isa65": 2,
     "text65": 1,
-    "stmt65": 83,
+    "stmt65": 21,
     "info65": 51,
     "map65": 13,
     "usage65": 5,

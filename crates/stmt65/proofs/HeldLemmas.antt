@@ -7,12 +7,12 @@ use Rattle.std.specs.Str.{bytes_eq}
 use Rattle.std.proofs.lemmas.List.{map-append}
 use Rattle.std.proofs.lemmas.Bool.{cases_lt, ltb-false, ltb-true}
 use Rattle.std.proofs.lemmas.Bool.Decides.{nat_tests}
-use Rattle.stmt65.specs.Words.{AsmFaultKind, Assignment, Coded, Codes, DefinedTwice, Definition, DifferenceValue, Directive, Distance, Entry, Fill, Fixed, Form, Fragment, Instr, IsPlaced, Language, Layout, Minus, NameValue, NoSuchForm, NumberValue, One, Operation, OutOfRange, Oversized, PastEnd, PastStart, PlaceAssignment, Placed, PutsAll, Segment, SourceLine, State, Statement, Two, Undefined, UnknownCpu, Value, Zero, address_of, after, below, bytes_of, coded, coded_of, coding, coding_len, defined_by, definitions_in, entry_in, entry_limit, fault_of, final, find_name, first_of, fragment_bytes, fragment_fits, fragments_in, fragments_of, gap, has_no_form, has_unknown_cpu, has_zero_page_size, held, held_after, held_coded, held_definition, held_final, held_value, initial, is_before, is_constant, is_fragment_known, is_known, is_near, is_out_of_range, is_past_end, is_past_start, is_short, is_small, is_twice, is_undefined, lowered, meaning_in, meaning_of, next_of, operation_in, readings, start_of, value_in, word_in}
+use Rattle.stmt65.specs.Words.{AsmFaultKind, Assignment, Coded, Codes, DefinedTwice, Definition, DifferenceValue, Directive, Distance, Entry, Fill, Fixed, Form, Fragment, Instr, IsCoding, IsPlaced, Language, Layout, Minus, NameValue, NoSuchForm, NumberValue, One, Operation, OutOfRange, Oversized, PastEnd, PastStart, PlaceAssignment, Placed, PutsAll, Segment, SourceLine, State, Statement, Two, Undefined, UnknownCpu, Value, Zero, address_of, after, below, bytes_of, coded, coded_of, coding, coding_len, defined_by, definitions_in, entry_in, entry_limit, fault_of, final, find_name, first_of, fragment_bytes, fragment_fits, fragments_in, fragments_of, gap, has_no_form, has_unknown_cpu, has_zero_page_size, have_room, held, held_after, held_coded, held_definition, held_final, held_value, initial, is_before, is_constant, is_fragment_known, is_known, is_near, is_out_of_range, is_past_end, is_past_start, is_short, is_small, is_twice, is_undefined, lowered, meaning_in, meaning_of, next_of, operation_in, readings, start_of, value_in, word_in}
 use Rattle.stmt65.specs.declared.directive.Directive.TheVariants.{Word}
 use Rattle.stmt65.proofs.Cases.{by_option, by_test}
 
 -- the address after a line
-pub next_held : (s : State) (source : SourceLine) (coded : Option Coded) (len : ℕ) → option_map coded_of coded ≡ coding s (operation_in source) → len ≡ held (coding_len (fragments_in coded))
+pub next_held : (s : State) (source : SourceLine) (coded : Option Coded) (len : ℕ) → IsCoding coded s (operation_in source) → len ≡ held (coding_len (fragments_in coded))
     → held (s.at + len) ≡ held (next_of s source)
 unfolding next_of fragments_of
 next_held s source coded len e f = rw (f, ← e) (omega arith)
@@ -151,7 +151,7 @@ flip a false e = rw e refl
 pub fault_is : (all : List Definition) (p : Placed) (s : State) (source : SourceLine) → IsPlaced p s source → (none known twice out past end : Bool)
     → is_some p.coded ≡ not none → known ≡ list_all (is_fragment_known all) (fragments_in p.coded)
     → twice ≡ list_any (λ d. is_some (find_name d.name s.above)) (definitions_in p.definition)
-    → out ≡ (list_any (λ d. ltb 65535 d.value) (definitions_in p.definition) || not (list_all (fragment_fits all p.next) (fragments_in p.coded)))
+    → out ≡ (list_any (λ d. ltb 65535 d.value) (definitions_in p.definition) || not (have_room all p))
     → past ≡ p.is_past_start → end ≡ ltb 65536 p.next
     → first_of ((UnknownCpu, has_unknown_cpu (operation_in source)) ∷ (NoSuchForm, none) ∷ (Undefined, not known) ∷ (DefinedTwice, twice) ∷ (OutOfRange, out) ∷ (PastStart, past) ∷ (PastEnd, end) ∷ []) ≡ fault_of all s (Some source)
 unfolding fault_of has_no_form is_undefined is_twice is_out_of_range is_past_end
@@ -163,7 +163,7 @@ fault_is all p s source h none known twice out past end a b c d f e =
     c ∙ ap (list_any (λ d. is_some (find_name d.name s.above))) h.definition ∙ any_named-held (λ w. is_some (find_name w s.above)) (defined_by s.at source) in
     let large : list_any (λ d. ltb 65535 d.value) (definitions_in p.definition) ≡ list_any (λ d. ltb 65535 d.value) (defined_by s.at source) =
     ap (list_any (λ d. ltb 65535 d.value)) h.definition ∙ any_large-held (defined_by s.at source) in
-    let room : list_all (fragment_fits all p.next) (fragments_in p.coded) ≡ list_all (fragment_fits all (next_of s source)) (fragments_of s source) =
+    let room : have_room all p ≡ list_all (fragment_fits all (next_of s source)) (fragments_of s source) =
     ap (λ (n : ℕ). list_all (fragment_fits all n) (fragments_in p.coded)) h.next ∙ ap (list_all (fragment_fits all (held (next_of s source)))) fragments ∙ all_fit-held all (next_of s source) (fragments_of s source) in
     let end' : end ≡ ltb 65536 (next_of s source) = e ∙ ap (ltb 65536) h.next ∙ past-held (next_of s source) in
     rw (none', known', twice', d, large, room, f ∙ h.past, end') refl

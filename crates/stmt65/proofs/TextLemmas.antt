@@ -4,14 +4,14 @@ use Rattle.std.specs.Prelude.{Result, Ok, Err}
 use Rattle.std.proofs.lemmas.List.{length-replicate}
 use Rattle.std.specs.List.{All, flat_map}
 use Rattle.std.proofs.lemmas.List.Elements.{All-cons, All-head, All-tail}
-use Rattle.stmt65.specs.Words.{AsmFault, AsmFaultKind, Definition, Entry, Fill, Fragment, IsFaultless, IsFirstFault, Line, MeansBytes, MeansFault, SourceLine, StandsAtItsBytes, State, after, bytes_of, coded, coding_len, entry_or_zero, fault_of, fragment_bytes, fragment_len, fragments_of, initial, line_bytes, lines_below, low, meaning_of, next_of, unless, with_front}
+use Rattle.stmt65.specs.Words.{AsmFault, AsmFaultKind, Definition, Entry, Fill, Fragment, IsFaultless, IsFirstFault, Line, MeansBytes, MeansFault, SourceLine, StandsAtItsBytes, State, after, bytes_of, coded, coding_len, entry_in, fault_of, fragment_bytes, fragment_len, fragments_of, initial, line_bytes, lines_below, low, meaning_of, next_of, or_zero, unless, with_front}
 use Rattle.stmt65.proofs.EntryLaws.{entry_bytes-length}
 
 -- ---- lengths
 
 fragment_len-bytes : (all : List Definition) (next : ℕ) (f : Fragment) → length (fragment_bytes all next f) ≡ fragment_len f
 unfolding fragment_bytes
-fragment_len-bytes all next (Entry d v) = entry_bytes-length d (entry_or_zero all d v)
+fragment_len-bytes all next (Entry d v) = entry_bytes-length d (or_zero (entry_in all d v))
 fragment_len-bytes all next (Fill n b) = length-replicate n (low b)
 fragment_len-bytes all next _ = refl
 

@@ -6,7 +6,7 @@
 -- on the CPU is taken. The coding depends on the CPU, the earlier lines and the written form alone. It shares no definition with the
 -- printing of a statement, so that the law of reassembly compares two readings.
 use Rattle.std.specs.Prelude.{ℕ, ◌+◌, ◌-◌, ◌/◌, ◌%◌, Bool, true, false, ◌&&◌, List, [], ◌∷◌, length, map, replicate, nat_le, nat_lt, if◌then◌else◌, Option, Some, None, is_some, unwrap_or}
-use Rattle.std.specs.List.{flat_map}
+use Rattle.std.specs.List.{flat_map, list_all}
 use Rattle.stmt65.specs.Types.{Abs, Absindx, Absx, Absy, Acc, Addr, Cpu, Dbyt, Directive, Dword, High, Imm, Imp, Ind, Indx, Indy, Low, Mnemonic, Mode, Notation, OperandKind, Rel, Zp, Zpind, Zprel, Zpx, Zpy}
 use Rattle.isa65.specs.Words.{encoded, table_of}
 use Rattle.isa65.specs.declared.row.OperandKind.TheVariants as kind
@@ -79,6 +79,9 @@ is_fragment_known all (Distance v) = is_known all v
 is_fragment_known all (HalfOf half v) = is_known all v
 is_fragment_known all (Fill n b) = true
 
+abbrev pub are_known : List Definition → List Fragment → Bool
+are_known all fs = list_all (is_fragment_known all) fs
+
 -- from 128 below the address `next` to 127 above it
 abbrev pub is_near : ℕ → Option ℕ → Bool
 is_near next None = false
@@ -100,11 +103,8 @@ fragment_fits all next (HalfOf half v) = is_some (word_in all v)
 fragment_fits all next (Fill n b) = nat_lt n 65536 && nat_lt b 256
 
 -- the value of a fragment that has room for it
-abbrev pub word_or_zero : List Definition → Value → ℕ
-word_or_zero all v = unwrap_or (word_in all v) 0
-
-abbrev pub entry_or_zero : List Definition → Directive → Value → ℕ
-entry_or_zero all d v = unwrap_or (entry_in all d v) 0
+abbrev pub or_zero : Option ℕ → ℕ
+or_zero value = unwrap_or value 0
 
 -- the signed distance from `next` as a byte
 abbrev pub distance : ℕ → ℕ → ℕ
@@ -118,12 +118,12 @@ half_of High n = n / 0x100
 -- the bytes of a fragment that has room for its value
 unfoldable pub fragment_bytes : List Definition → ℕ → Fragment → List ℕ
 fragment_bytes all next (Fixed b) = b ∷ []
-fragment_bytes all next (Single v) = low (word_or_zero all v) ∷ []
-fragment_bytes all next (ZeroPage v) = low (word_or_zero all v) ∷ []
-fragment_bytes all next (Oversized v) = low (word_or_zero all v) ∷ []
-fragment_bytes all next (Entry d v) = entry_bytes d (entry_or_zero all d v)
-fragment_bytes all next (Distance v) = distance next (word_or_zero all v) ∷ []
-fragment_bytes all next (HalfOf half v) = half_of half (word_or_zero all v) ∷ []
+fragment_bytes all next (Single v) = low (or_zero (word_in all v)) ∷ []
+fragment_bytes all next (ZeroPage v) = low (or_zero (word_in all v)) ∷ []
+fragment_bytes all next (Oversized v) = low (or_zero (word_in all v)) ∷ []
+fragment_bytes all next (Entry d v) = entry_bytes d (or_zero (entry_in all d v))
+fragment_bytes all next (Distance v) = distance next (or_zero (word_in all v)) ∷ []
+fragment_bytes all next (HalfOf half v) = half_of half (or_zero (word_in all v)) ∷ []
 fragment_bytes all next (Fill n b) = replicate n (low b)
 
 -- ---- instructions

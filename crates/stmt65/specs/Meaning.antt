@@ -13,7 +13,7 @@ use Rattle.stmt65.specs.Reading.{reading_of}
 use Rattle.stmt65.specs.Symbols.{Definition, find_name}
 use Rattle.isa65.specs.Words.{cpu_named}
 use Rattle.stmt65.specs.Layout.{Layout, free, start_of, is_before}
-use Rattle.stmt65.specs.Coding.{State, Fragment, fragment_fits, fragment_bytes, is_fragment_known, coding, coding_len}
+use Rattle.stmt65.specs.Coding.{State, Fragment, fragment_fits, fragment_bytes, are_known, coding, coding_len}
 
 -- ---- a line in its state
 
@@ -54,16 +54,20 @@ has_no_form s source = not (is_some (coding s (operation_in source)))
 
 -- a name that no line of the text defines
 unfoldable pub is_undefined : List Definition → State → SourceLine → Bool
-is_undefined all s source = not (list_all (is_fragment_known all) (fragments_of s source))
+is_undefined all s source = not (are_known all (fragments_of s source))
 
 -- a name that a line above defines
 unfoldable pub is_twice : State → SourceLine → Bool
 is_twice s source = list_any (λ d. is_some (find_name d.name s.above)) (defined_by s.at source)
 
+-- a definition whose value is no address
+abbrev pub has_large : List Definition → Bool
+has_large ds = list_any (λ d. nat_lt 65535 d.value) ds
+
 -- a definition or an operand whose value has no room
 unfoldable pub is_out_of_range : List Definition → State → SourceLine → Bool
 is_out_of_range all s source =
-    list_any (λ d. nat_lt 65535 d.value) (defined_by s.at source) || not (list_all (fragment_fits all (next_of s source)) (fragments_of s source))
+    has_large (defined_by s.at source) || not (list_all (fragment_fits all (next_of s source)) (fragments_of s source))
 
 -- a segment that is entered past its start
 unfoldable pub is_past_start : State → Operation → Bool

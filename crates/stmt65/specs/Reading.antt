@@ -59,9 +59,13 @@ whole x (p ∷ ps) = None
 
 -- ---- expressions
 
+-- what is read where a name has to stand
+abbrev pub if_name : {X : Type 0} → List ℕ → Option X → Option X
+if_name w read = if is_name w then read else None
+
 -- a name, and the parts after it
 abbrev pub name_in : List Part → Option (List ℕ × List Part)
-name_in (Word w ∷ ps) = if is_name w then Some (w, ps) else None
+name_in (Word w ∷ ps) = if_name w (Some (w, ps))
 name_in _ = None
 
 -- after a name and `-`: in a repair another name
@@ -82,7 +86,7 @@ named_at language w ps = if is_mark plus ps then (number_in (drop 1 ps) >>= λ n
 
 unfoldable pub next_value : Language → List Part → Option (Value × List Part)
 next_value language (Number t ∷ ps) = Some (NumberValue (number_of t), ps)
-next_value language (Word w ∷ ps) = if is_name w then named_at language w ps else None
+next_value language (Word w ∷ ps) = if_name w (named_at language w ps)
 next_value language _ = None
 
 -- ---- halves
@@ -94,7 +98,7 @@ bracketed_in ps = next_value Repair ps >>= λ v. if is_mark right_paren v.1 then
 -- what `<` and `>` take: a number, a name, or an expression in parentheses, since ca65 reads `<name+1` as one more than the half
 unfoldable pub halved_in : List Part → Option (Value × List Part)
 halved_in (Number t ∷ ps) = Some (NumberValue (number_of t), ps)
-halved_in (Word w ∷ ps) = if is_name w then Some (NameValue w 0 Zero, ps) else None
+halved_in (Word w ∷ ps) = if_name w (Some (NameValue w 0 Zero, ps))
 halved_in (Mark b ∷ ps) = if b == left_paren then bracketed_in ps else None
 halved_in _ = None
 
@@ -157,7 +161,7 @@ list_of read ps = joined read (suc (length ps)) ps
 -- after the word w: in a repair an expression with this name
 unfoldable pub word_datum : Language → List ℕ → List Part → Option (Datum × List Part)
 word_datum Listing w ps = None
-word_datum Repair w ps = if is_name w then (named_at Repair w ps >>= λ v. Some (ValueDatum v.0, v.1)) else None
+word_datum Repair w ps = if_name w (named_at Repair w ps >>= λ v. Some (ValueDatum v.0, v.1))
 
 -- after `<` or `>`
 abbrev pub half_datum : Half → List Part → Option (Datum × List Part)
@@ -277,9 +281,9 @@ is_equals Repair ps = is_mark equals ps
 -- a line that begins with the word w
 unfoldable pub line_at : Language → List ℕ → List Part → Option SourceLine
 line_at language w ps =
-    if is_mark colon ps then (if is_name w then stated (Some w) (operation_of language (drop 1 ps)) else None)
-    else (if is_define ps then (if is_name w then constant_of w (drop 1 ps) else None)
-    else (if is_equals language ps then (if is_name w then number_of_name w (drop 1 ps) else None)
+    if is_mark colon ps then if_name w (stated (Some w) (operation_of language (drop 1 ps)))
+    else (if is_define ps then if_name w (constant_of w (drop 1 ps))
+    else (if is_equals language ps then if_name w (number_of_name w (drop 1 ps))
     else stated None (operation_at language w ps)))
 
 -- what the parts of a line say, or nothing if they are no line

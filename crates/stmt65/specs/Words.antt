@@ -1,21 +1,22 @@
 -- The words of clauses and proofs, here and in the crates above, from one place.
 pub use Rattle.stmt65.specs.Types.{ALL, Abs, Absindx, AbsoluteX, AbsoluteY, Absx, Absy, Acc, Addr, AddressSize, Asl, AsmFault, AsmFaultKind, Automatic, BigEndian, ByteOrder, Coded, Columns, Cpu, Dbyt, DefinedTwice, Direct, DirectX, DirectY, Directive, Dword, High, Imm, Immediate, Imp, Inc, Ind, Indirect, IndirectX, IndirectY, Indx, Indy, Language, Late, Listing, LittleEndian, Low, M6502, Memory, Minus, Mnemonic, Mode, NoSuchForm, OperandKind, OutOfRange, PastEnd, PastStart, Pattern, Placed, Plain, Rel, Repair, Ror, Row, Syntax, Undefined, UnknownCpu, Work, Zero, Zp, Zpind, Zprel, Zpx, Zpy}
 pub use Rattle.stmt65.specs.Answer.{Assembles, out_of_memory}
-pub use Rattle.stmt65.specs.Code.CodingViews.{IsFirstOf, IsFirstWay, Puts, PutsAll, PutsOne, coded_of, data_fragments, entry_fragments, fragment_of, operand_of}
-pub use Rattle.stmt65.specs.Code.Found.{Gives, Reads}
+pub use Rattle.stmt65.specs.Code.CodingViews.{Adds, AddsAll, AddsOne, IsFirstOf, IsFirstWay, Puts, PutsAll, coded_of, data_fragments, entry_fragments, fragment_of, operand_of}
+pub use Rattle.stmt65.specs.Code.Found.{Gives, GivesIfOk, Reads}
 pub use Rattle.stmt65.specs.Code.Held.{held, held_value}
-pub use Rattle.stmt65.specs.Code.LateViews.{Codes, CodesEarly, Follows, GoesOn, IsIdle, IsOf, IsPassed, IsSound, Takes, TakesEarly, fault_at, fault_or, fault_past, late_state, state_in, work_of}
+pub use Rattle.stmt65.specs.Code.LateViews.{Codes, CodesEarly, Follows, GoesOn, IsIdle, IsOf, IsPassed, IsSound, Keeps, Takes, TakesEarly, fault_at, fault_or, fault_past, late_state, state_in, work_of}
 unfoldable pub use Rattle.stmt65.specs.Code.LateViews.{coded_late, fronts, held_coded}
-pub use Rattle.stmt65.specs.Code.MeaningViews.{IsPlaced, defined_in, definitions_in, fragments_in, held_definition, state_of}
+pub use Rattle.stmt65.specs.Code.LineViews.{Lists, Prints, len_with}
+pub use Rattle.stmt65.specs.Code.MeaningViews.{IsCoding, IsPlaced, defined_in, definitions_in, fragments_in, have_room, held_definition, held_definitions, line_operation, state_of}
 unfoldable pub use Rattle.stmt65.specs.Code.MeaningViews.{held_after, held_final}
-pub use Rattle.stmt65.specs.Code.PartViews.{part_of}
-pub use Rattle.stmt65.specs.Code.Shortens.{Shortens}
+pub use Rattle.stmt65.specs.Code.PartViews.{cut_by, part_of, parts_from}
+pub use Rattle.stmt65.specs.Code.Shortens.{Shortens, next_datum-Shortens, next_half-Shortens, next_value-Shortens}
 pub use Rattle.stmt65.specs.Code.SourceLineViews.{datum_of, numeral_of, source_of, value_of}
 pub use Rattle.stmt65.specs.Code.StatementViews.{expr_seen, in_hex, operands_seen, remarks_seen, statement_seen, target_seen}
 pub use Rattle.stmt65.specs.Code.SymbolViews.{IsIndex, definition_of, if_named, is_named, place_of}
 unfoldable pub use Rattle.stmt65.specs.Code.SymbolViews.{first_at}
 pub use Rattle.stmt65.specs.Code.Widths.{AreBytes, AreWordWide, IsInWidth, IsWordWide}
-pub use Rattle.stmt65.specs.Coding.{Distance, Entry, Fill, Fixed, Fragment, HalfOf, Oversized, Single, State, Way, ZeroPage, byte_fragment, datum_fragments, distance, entry_bytes, entry_limit, entry_or_zero, first_way, fragment_len, gap, half_of, is_fragment_known, is_near, is_short, kind_fragment, low, modes_in, way_in, word_operand, zero_page}
+pub use Rattle.stmt65.specs.Coding.{Distance, Entry, Fill, Fixed, Fragment, HalfOf, Oversized, Single, State, Way, ZeroPage, are_known, byte_fragment, datum_fragments, distance, entry_bytes, entry_limit, first_way, fragment_len, gap, half_of, is_fragment_known, is_near, is_short, kind_fragment, low, modes_in, or_zero, way_in, word_operand, zero_page}
 unfoldable pub use Rattle.stmt65.specs.Coding.{coding, coding_len, entry_in, fragment_bytes, fragment_fits, ways}
 pub use Rattle.stmt65.specs.Columns.{default_columns, fits_label}
 unfoldable pub use Rattle.stmt65.specs.Definitions.{definitions_of}
@@ -32,7 +33,7 @@ pub use Rattle.stmt65.specs.Line.{plain_line, with_fields}
 unfoldable pub use Rattle.stmt65.specs.Line.{filled, line_of}
 pub use Rattle.stmt65.specs.LineAddresses.{FindsLine, GivesByte, address_after, line_past}
 unfoldable pub use Rattle.stmt65.specs.LineAddresses.{line_addresses}
-pub use Rattle.stmt65.specs.Meaning.{Test, cpu_set, first_of, initial, meaning, operation_in, readings, tests_of, unless, with_front}
+pub use Rattle.stmt65.specs.Meaning.{Test, cpu_set, first_of, has_large, initial, meaning, operation_in, readings, tests_of, unless, with_front}
 unfoldable pub use Rattle.stmt65.specs.Meaning.{after, bytes_of, coded, cpu_after, defined_by, fault_of, final, fragments_of, has_no_form, has_unknown_cpu, is_out_of_range, is_past_end, is_past_start, is_twice, is_undefined, meaning_in, meaning_of, next_of}
 pub use Rattle.stmt65.specs.ModeLaws.{EachWay, HasMode, IsModeOf, IsWay, LacksForm, ModesAreWays, NeedsMode, TakesMode, TakesModes, WaysAreModes, is_way, mode_fragments}
 pub use Rattle.stmt65.specs.Names.{same}
@@ -43,7 +44,7 @@ pub use Rattle.stmt65.specs.Parts.{Define, Mark, Number, Part, Text, Word, begin
 pub use Rattle.stmt65.specs.Printable.{AreOperands, IsLong, IsNameLong, IsOperand, IsPrintable, IsShort, IsTable, IsWrittenIn, MayBeForced, MayBeLabelled, TakesLabel}
 pub use Rattle.stmt65.specs.Printed.{HasLabelName, HasName, HasNames, HasNamesIn, PrintsAs, ReadsBack, address_size, entry_value, row_form, source_line, source_value, with_label}
 unfoldable pub use Rattle.stmt65.specs.Printed.{source_form}
-pub use Rattle.stmt65.specs.Reading.{bracketed_in, data_of, half_datum, half_form, is_define, is_equals, is_mark, is_nil, is_number_here, is_word_here, less_name, list_of, number_in, number_of_name, operand_in, reserve_of, segment_of, set_cpu_of, stated, takes_accumulator, values_of, whole, ◌>>=◌}
+pub use Rattle.stmt65.specs.Reading.{bracketed_in, data_of, half_datum, half_form, if_name, is_define, is_equals, is_mark, is_nil, is_number_here, is_word_here, less_name, list_of, number_in, number_of_name, operand_in, reserve_of, segment_of, set_cpu_of, stated, takes_accumulator, values_of, whole, ◌>>=◌}
 unfoldable pub use Rattle.stmt65.specs.Reading.{constant_of, further_at, halved_in, immediate_of, inner_at, joined, less_one, line_at, mark_datum, named_at, next_datum, next_half, next_value, operation_at, other_at, reading_of, tail_at, text_in, word_datum}
 pub use Rattle.stmt65.specs.ReadingLaws.{ReadsLines, ReadsSpellings, SpellsOne, TakesParts}
 pub use Rattle.stmt65.specs.SourceLine.{Accumulator, Assignment, Code, Data, Datum, DifferenceValue, Empty, Form, HalfDatum, Instr, NameValue, Nothing, NumberDatum, NumberValue, One, Operation, PlaceAssignment, Reserve, Segment, SetCpu, SourceLine, Statement, StringDatum, Two, Value, ValueDatum, Values, is_absolute}

@@ -1,5 +1,6 @@
 -- What the fragments of a statement stand for.
-use Rattle.std.specs.Prelude.{◌≡◌, ℕ, Bool, List, [], ◌∷◌, ◌++◌, map, Option}
+use Rattle.std.specs.Prelude.{◌≡◌, ℕ, Bool, List, [], ◌∷◌, ◌++◌, map, Option, Result, IfOk}
+use Rattle.std.specs.declared.vec.Vec.{Vec}
 use Rattle.std.specs.Option.{option_map}
 use Rattle.std.specs.Bool.{OnTrue}
 use Rattle.std.specs.List.{flat_map, list_all}
@@ -61,10 +62,16 @@ pub record Puts (answer fits : Bool) (bytes old new : List ℕ) : Type 0 where
   pub says : answer ≡ fits
   pub adds : OnTrue answer (new ≡ old ++ bytes)
 
--- the same of the bytes of a fragment, with the address after its statement
-abbrev pub PutsOne : Bool → List Definition → ℕ → Fragment → List ℕ → List ℕ → Type 0
-PutsOne answer all next f old new = Puts answer (fragment_fits all next f) (fragment_bytes all next f) old new
-
 -- the same of the bytes of a coding, with the address after it
 abbrev pub PutsAll : Bool → List Definition → ℕ → List Fragment → List ℕ → List ℕ → Type 0
 PutsAll answer all next fs old new = Puts answer (list_all (fragment_fits all next) fs) (flat_map (fragment_bytes all next) fs) old new
+
+-- the same of what a function answers, unless it is out of memory
+abbrev pub Adds : {A E : Type 0} → Result Bool E → Bool → List ℕ → Vec ℕ A → Vec ℕ A → Type 0
+Adds result fits bytes old new = IfOk result (λ answer. Puts answer fits bytes old.items new.items)
+
+abbrev pub AddsOne : {A E : Type 0} → Result Bool E → List Definition → ℕ → Fragment → Vec ℕ A → Vec ℕ A → Type 0
+AddsOne result all next f old new = Adds result (fragment_fits all next f) (fragment_bytes all next f) old new
+
+abbrev pub AddsAll : {A E : Type 0} → Result Bool E → List Definition → ℕ → List Fragment → Vec ℕ A → Vec ℕ A → Type 0
+AddsAll result all next fs old new = IfOk result (λ answer. PutsAll answer all next fs old.items new.items)

@@ -9,8 +9,9 @@ use Rattle.stmt65.specs.SourceLine.{SourceLine}
 use Rattle.stmt65.specs.Symbols.{Definition}
 use Rattle.stmt65.specs.Layout.{Layout}
 use Rattle.stmt65.specs.Coding.{State}
-use Rattle.stmt65.specs.Meaning.{bytes_of, fault_of, unless, with_front}
+use Rattle.stmt65.specs.Meaning.{bytes_of, fault_of, next_of, unless, with_front}
 use Rattle.stmt65.specs.Sources.{source_readings, source_state}
+use Rattle.stmt65.specs.Code.Held.{held}
 use Rattle.stmt65.specs.Code.SourceLineViews.{source_of}
 use Rattle.stmt65.specs.Code.MeaningViews.{held_after, held_final, state_of}
 
@@ -93,8 +94,12 @@ pub record Takes {A : Type 0} (p q : Work A) (n : ℕ) (s : State) (line : Optio
   pub same : IsSound p → (all more : List Definition) (rest : Result (List ℕ) AsmFault) → all ≡ s.above ++ more
       → work_of all s.layout q rest ≡ work_of all s.layout p (unless n (fault_of all s line) (with_front (bytes_of all s line) rest))
 
+-- a late line is added, whatever stands above it, if this is the address after it
+abbrev pub Keeps : {A : Type 0} → Late A → ℕ → Work A → Work A → Type 0
+Keeps l next p q = (s : State) → IsOf l s → next ≡ held (next_of s (source_of l.source)) → Takes p q l.number s (Some (source_of l.source))
+
 -- a line is added if it is coded early, or else nothing is
-pub record CodesEarly {A : Type 0} (taken : Bool) (p q : Work A) (n : ℕ) (s : State) (source : SourceLine) : Type 0 where
+pub record CodesEarly {A : Type 0} (p q : Work A) (n : ℕ) (s : State) (source : SourceLine) (taken : Bool) : Type 0 where
   pub takes : OnTrue taken (Takes p q n s (Some source))
   pub leaves : OnFalse taken ((q ≡ p) × (p.fault ≡ None))
 
@@ -110,9 +115,9 @@ pub record GoesOn {A L : Type 0} (p q : Pass A L) (n : ℕ) (line : Option Sourc
   pub work : Takes p.work q.work n (state_in p) line
 
 -- the same, and the line is added if it is coded early
-pub record TakesEarly {A L : Type 0} (taken : Bool) (p q : Pass A L) (n : ℕ) (source : SourceLine) : Type 0 where
+pub record TakesEarly {A L : Type 0} (p q : Pass A L) (n : ℕ) (source : SourceLine) (taken : Bool) : Type 0 where
   pub state : state_in q ≡ held_after (state_in p) (Some source)
-  pub work : CodesEarly taken p.work q.work n (state_in p) source
+  pub work : CodesEarly p.work q.work n (state_in p) source taken
 
 -- below all lines of a text
 pub record IsPassed {A L M : Type 0} (p : Pass A L) (source : Source M) : Type 0 where

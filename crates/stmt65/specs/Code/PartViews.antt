@@ -1,5 +1,5 @@
 -- What a part of the code stands for.
-use Rattle.std.specs.Prelude.{ℕ, List, [], ◌∷◌, Option, Some, None}
+use Rattle.std.specs.Prelude.{ℕ, List, [], ◌∷◌, Option, Some, None, drop, slice_index}
 use Rattle.stmt65.specs.declared.reading.lexer.Part.{Part as CodePart}
 use Rattle.stmt65.specs.declared.reading.lexer.Part.TheVariants as code
 use Rattle.stmt65.specs.Types.{Language}
@@ -17,3 +17,7 @@ part_of (code.Mark b) = Mark b
 abbrev pub parts_from : Language → Option CodePart → List ℕ → List Part
 parts_from language None rest = []
 parts_from language (Some part) rest = part_of part ∷ parts language rest
+
+-- what is cut from bytes, by the first of them and those after it
+abbrev pub cut_by : {X : Type 0} → (ℕ → List ℕ → X) → List ℕ → X
+cut_by cut bytes = cut (slice_index bytes 0) (drop 1 bytes)

@@ -1,7 +1,7 @@
 //! The address after each line of a text.
 
 ghost use Rattle.std.specs.Prelude.{◌≡◌, ◌⊎◌, Err, IfErr, IfOk, Ok, map};
-ghost use Rattle.stmt65.specs.Words.{held, held_definition, out_of_memory, source_addresses, source_definitions, source_meaning};
+ghost use Rattle.stmt65.specs.Words.{held, held_definitions, out_of_memory, source_addresses, source_definitions, source_meaning};
 
 use crate::assembling::assembler::{Pass, Source, first_pass, second_pass};
 use crate::assembling::fault::AsmFault;
@@ -43,7 +43,7 @@ pub fn assemble_lines<'a, 'b, L: Allocator + Clone, A: Allocator>(
     ensures bytes { IfOk result (λ a. source_meaning source.now ≡ Ok a.bytes.items) }
     ensures fault { IfErr result (λ e. (source_meaning source.now ≡ Err e) ⊎ (e ≡ out_of_memory)) }
     ensures ends { IfOk result (λ a. a.ends.items ≡ source_addresses source.now) }
-    ensures names { IfOk result (λ a. a.names ≡ map held_definition (source_definitions source.now)) }
+    ensures names { IfOk result (λ a. a.names ≡ held_definitions (source_definitions source.now)) }
 {
     let mut ends = Vec::new(alloc);
     let Pass {

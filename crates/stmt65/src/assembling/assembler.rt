@@ -50,7 +50,7 @@ fn pass_over<'a, L: Allocator + Clone, A: Allocator + Clone, B: Allocator>(
     number: usize,
     source: &SourceLine<'a, B>,
 ) -> Result<bool, AllocError>
-    ensures { IfOk result (λ is_taken. TakesEarly is_taken pass.old pass.new number (source_of source.now)) }
+    ensures { IfOk result (TakesEarly pass.old pass.new number (source_of source.now)) }
 {
     let above = pass.names.all();
     let placed = place(&pass.state, &above, source);

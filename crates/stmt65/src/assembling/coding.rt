@@ -1,8 +1,7 @@
 //! How a statement is coded: what each of its bytes stands for.
 
 ghost use Rattle.std.specs.Prelude.{◌≡◌, List, [], ◌∷◌};
-ghost use Rattle.std.specs.Option.{option_map};
-ghost use Rattle.stmt65.specs.Words.{Definition, IsFirstOf, IsFirstWay, One, coded_of, coding, fragment_of, gap, kind_fragment, modes_in, operand_of, start_of, state_of, value_of, ways, zero_page};
+ghost use Rattle.stmt65.specs.Words.{Definition, IsCoding, IsFirstOf, IsFirstWay, One, coded_of, fragment_of, gap, kind_fragment, modes_in, operand_of, start_of, state_of, value_of, ways, zero_page};
 ghost use Rattle.stmt65.specs.Code.SourceLineViews.{form_of, operation_of};
 
 use crate::assembling::state::State;
@@ -204,7 +203,8 @@ fn instruction_in<'s, 'a, A: Allocator + Clone>(
 
 /// What is missing before the start of a segment.
 fn gap<'s, 'a, L: Allocator + Clone>(state: &State<'_, '_, L>, name: &[u8]) -> Coded<'s, 'a>
-    ensures { (above : List Definition) → coded_of result ≡ gap (state_of state.now above).layout state.now.address (start_of state.now.layout.now name.now) }
+    ensures { (above : List Definition) → coded_of result ≡ gap (state_of state.now above).layout
+        state.now.address (start_of state.now.layout.now name.now) }
 {
     match state.layout.start_of(name) {
         Some(start) => {
@@ -222,7 +222,7 @@ pub fn coding<'s, 'a, L: Allocator + Clone, A: Allocator + Clone, B: Allocator>(
     above: &Names<'_, '_, A>,
     operation: &'s Operation<'a, B>,
 ) -> Option<Coded<'s, 'a>>
-    ensures { option_map coded_of result ≡ coding (state_of state.now above.now) (operation_of operation.now) }
+    ensures { IsCoding result (state_of state.now above.now) (operation_of operation.now) }
 {
     match operation {
         Operation::Instr(mnemonic, form) => {

@@ -21,13 +21,13 @@ impl<'t, 'l, 'n, 'b, L: Allocator, A: Allocator> Model for Definitions<'t, 'l, '
     ghost use Rattle.std.specs.Prelude.{◌≡◌, List, map};
     ghost use Rattle.stmt65.specs.Symbols.{Definition};
     ghost use Rattle.stmt65.specs.Sources.{source_definitions};
-    ghost use Rattle.stmt65.specs.Code.MeaningViews.{held_definition};
+    ghost use Rattle.stmt65.specs.Code.MeaningViews.{held_definitions};
 
     ghost Value = { List Definition };
 
     ghost view = { λ d. source_definitions d.source.now };
 
-    ghost invariant = { λ d. d.names ≡ map held_definition (source_definitions d.source.now) };
+    ghost invariant = { λ d. d.names ≡ held_definitions (source_definitions d.source.now) };
 }
 
 impl<'t, 'l, 'n, 'b, L: Allocator + Clone, A: Allocator> Definitions<'t, 'l, 'n, 'b, L, A> {

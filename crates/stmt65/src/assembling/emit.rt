@@ -1,8 +1,7 @@
 //! The length of a coding, whether it can be emitted, and its bytes.
 
-ghost use Rattle.std.specs.Prelude.{◌≡◌, [], ◌∷◌, IfOk};
-ghost use Rattle.std.specs.List.{list_all};
-ghost use Rattle.stmt65.specs.Words.{PutsAll, coded_of, coding_len, data_fragments, datum_fragments, datum_of, entry_fragments, fragment_len, fragment_of, held, is_fragment_known, operand_of};
+ghost use Rattle.std.specs.Prelude.{◌≡◌, [], ◌∷◌};
+ghost use Rattle.stmt65.specs.Words.{AddsAll, are_known, coded_of, coding_len, data_fragments, datum_fragments, datum_of, entry_fragments, fragment_len, fragment_of, held, operand_of};
 ghost use Rattle.stmt65.specs.Code.CodingViews.{instruction_of};
 
 use crate::assembling::coding::{Coded, Fragment, Instruction, Operand};
@@ -94,7 +93,7 @@ pub fn coded_len(coded: Coded) -> u64
 // ---- whether each name has a definition
 
 fn is_datum_known<A: Allocator + Clone>(names: &Names<'_, '_, A>, datum: &Datum) -> bool
-    ensures { result ≡ list_all (is_fragment_known names.now) (datum_fragments (datum_of datum.now)) }
+    ensures { result ≡ are_known names.now (datum_fragments (datum_of datum.now)) }
 {
     match datum {
         Datum::Number(number) => is_known(names, &Value::Number(*number)),
@@ -105,7 +104,7 @@ fn is_datum_known<A: Allocator + Clone>(names: &Names<'_, '_, A>, datum: &Datum)
 
 #[tactic(auto, using(crate::proofs::CodingLemmas::list_all_append))]
 fn are_data_known<A: Allocator + Clone>(names: &Names<'_, '_, A>, items: &[Datum]) -> bool
-    ensures { result ≡ list_all (is_fragment_known names.now) (data_fragments items.now) }
+    ensures { result ≡ are_known names.now (data_fragments items.now) }
 {
     'data: for datum in items {
         if !is_datum_known(names, datum) {
@@ -120,7 +119,7 @@ fn are_values_known<A: Allocator + Clone>(
     directive: Directive,
     values: &[Value],
 ) -> bool
-    ensures { result ≡ list_all (is_fragment_known names.now) (entry_fragments directive values.now) }
+    ensures { result ≡ are_known names.now (entry_fragments directive values.now) }
 {
     'values: for value in values {
         if !is_fragment_known(names, Fragment::Entry(directive, value)) {
@@ -131,7 +130,7 @@ fn are_values_known<A: Allocator + Clone>(
 }
 
 fn is_operand_known<A: Allocator + Clone>(names: &Names<'_, '_, A>, operand: Operand) -> bool
-    ensures { result ≡ list_all (is_fragment_known names.now) (operand_of operand.entry) }
+    ensures { result ≡ are_known names.now (operand_of operand.entry) }
 {
     match operand {
         Operand::None => true,
@@ -144,7 +143,7 @@ fn is_operand_known<A: Allocator + Clone>(names: &Names<'_, '_, A>, operand: Ope
 
 /// Whether each name in the coding has a definition.
 pub fn are_known<A: Allocator + Clone>(names: &Names<'_, '_, A>, coded: Coded) -> bool
-    ensures { result ≡ list_all (is_fragment_known names.now) (coded_of coded.entry) }
+    ensures { result ≡ are_known names.now (coded_of coded.entry) }
 {
     match coded {
         Coded::Nothing => true,
@@ -164,7 +163,7 @@ fn put_datum<A: Allocator + Clone, B: Allocator>(
     next: u64,
     datum: &Datum,
 ) -> Result<bool, AllocError>
-    ensures { IfOk result (λ fits. PutsAll fits names.now next (datum_fragments (datum_of datum.now)) out.old.items out.new.items) }
+    ensures { AddsAll result names.now next (datum_fragments (datum_of datum.now)) out.old out.new }
 {
     match datum {
         Datum::Number(number) => {
@@ -187,7 +186,7 @@ fn put_data<A: Allocator + Clone, B: Allocator>(
     next: u64,
     items: &[Datum],
 ) -> Result<bool, AllocError>
-    ensures { IfOk result (λ fits. PutsAll fits names.now next (data_fragments items.now) out.old.items out.new.items) }
+    ensures { AddsAll result names.now next (data_fragments items.now) out.old out.new }
 {
     'data: for datum in items {
         if !put_datum(out, names, next, datum)? {
@@ -204,7 +203,7 @@ fn put_values<A: Allocator + Clone, B: Allocator>(
     directive: Directive,
     values: &[Value],
 ) -> Result<bool, AllocError>
-    ensures { IfOk result (λ fits. PutsAll fits names.now next (entry_fragments directive values.now) out.old.items out.new.items) }
+    ensures { AddsAll result names.now next (entry_fragments directive values.now) out.old out.new }
 {
     'values: for value in values {
         if !put_fragment(out, names, next, Fragment::Entry(directive, value))? {
@@ -221,7 +220,7 @@ fn put_operand<A: Allocator + Clone, B: Allocator>(
     next: u64,
     operand: Operand,
 ) -> Result<bool, AllocError>
-    ensures { IfOk result (λ fits. PutsAll fits names.now next (operand_of operand.entry) out.old.items out.new.items) }
+    ensures { AddsAll result names.now next (operand_of operand.entry) out.old out.new }
 {
     match operand {
         Operand::None => Ok(true),
@@ -238,7 +237,8 @@ fn put_two<A: Allocator + Clone, B: Allocator>(
     first: Fragment,
     second: Fragment,
 ) -> Result<bool, AllocError>
-    ensures { IfOk result (λ fits. PutsAll fits names.now next (fragment_of first.entry ∷ fragment_of second.entry ∷ []) out.old.items out.new.items) }
+    ensures { AddsAll result names.now next
+        (fragment_of first.entry ∷ fragment_of second.entry ∷ []) out.old out.new }
 {
     if !put_fragment(out, names, next, first)? {
         return Ok(false);
@@ -253,7 +253,7 @@ fn put_instruction<A: Allocator + Clone, B: Allocator>(
     next: u64,
     instruction: Instruction,
 ) -> Result<bool, AllocError>
-    ensures { IfOk result (λ fits. PutsAll fits names.now next (instruction_of instruction.entry) out.old.items out.new.items) }
+    ensures { AddsAll result names.now next (instruction_of instruction.entry) out.old out.new }
 {
     out.push(instruction.opcode)?;
     put_operand(out, names, next, instruction.operand)
@@ -266,7 +266,7 @@ pub fn put_coded<A: Allocator + Clone, B: Allocator>(
     next: u64,
     coded: Coded,
 ) -> Result<bool, AllocError>
-    ensures { IfOk result (λ fits. PutsAll fits names.now next (coded_of coded.entry) out.old.items out.new.items) }
+    ensures { AddsAll result names.now next (coded_of coded.entry) out.old out.new }
 {
     match coded {
         Coded::Nothing => Ok(true),

@@ -1,7 +1,7 @@
 //! The bytes of one fragment of a statement.
 
-ghost use Rattle.std.specs.Prelude.{◌≡◌, [], ◌∷◌, ◌&&◌, nat_lt, replicate, Some, true, is_some, unwrap_or, IfOk};
-ghost use Rattle.stmt65.specs.Words.{Puts, PutsOne, below, distance, entry_bytes, fragment_of, half_of, is_fragment_known, is_near, low, value_of};
+ghost use Rattle.std.specs.Prelude.{◌≡◌, [], ◌∷◌, ◌&&◌, nat_lt, replicate, Some, true, is_some};
+ghost use Rattle.stmt65.specs.Words.{Adds, AddsOne, below, distance, entry_bytes, fragment_of, half_of, is_fragment_known, is_near, low, or_zero};
 
 use crate::assembling::coding::Fragment;
 use crate::assembling::entries::put_number;
@@ -44,7 +44,7 @@ fn distance(next: u64, word: u16) -> u8
 }
 
 fn put_one<A: Allocator>(out: &mut Vec<u8, A>, byte: u8) -> Result<bool, AllocError>
-    ensures { IfOk result (λ fits. Puts fits true (byte ∷ []) out.old.items out.new.items) }
+    ensures { Adds result true (byte ∷ []) out.old out.new }
 {
     out.push(byte)?;
     Ok(true)
@@ -52,7 +52,7 @@ fn put_one<A: Allocator>(out: &mut Vec<u8, A>, byte: u8) -> Result<bool, AllocEr
 
 /// The value as a byte, if it is one.
 fn put_byte<A: Allocator>(out: &mut Vec<u8, A>, word: Option<u16>) -> Result<bool, AllocError>
-    ensures { IfOk result (λ fits. Puts fits (is_some (below 256 word)) (low (unwrap_or word 0) ∷ []) out.old.items out.new.items) }
+    ensures { Adds result (is_some (below 256 word)) (low (or_zero word) ∷ []) out.old out.new }
 {
     match word {
         Some(word) if word < 256 => put_one(out, word as u8),
@@ -66,7 +66,7 @@ fn put_distance<A: Allocator>(
     next: u64,
     word: Option<u16>,
 ) -> Result<bool, AllocError>
-    ensures { IfOk result (λ fits. Puts fits (is_near next word) (distance next (unwrap_or word 0) ∷ []) out.old.items out.new.items) }
+    ensures { Adds result (is_near next word) (distance next (or_zero word) ∷ []) out.old out.new }
 {
     match word {
         Some(word) if is_near(next, word) => put_one(out, distance(next, word)),
@@ -90,7 +90,7 @@ fn put_half<A: Allocator>(
     half: Half,
     word: Option<u16>,
 ) -> Result<bool, AllocError>
-    ensures { IfOk result (λ fits. Puts fits (is_some word) (half_of half (unwrap_or word 0) ∷ []) out.old.items out.new.items) }
+    ensures { Adds result (is_some word) (half_of half (or_zero word) ∷ []) out.old out.new }
 {
     match word {
         Some(word) => put_one(out, half_of(half, word)),
@@ -100,7 +100,7 @@ fn put_half<A: Allocator>(
 
 /// So many bytes of one value.
 fn put_fill<A: Allocator>(out: &mut Vec<u8, A>, count: u64, value: u64) -> Result<bool, AllocError>
-    ensures { IfOk result (λ fits. Puts fits (nat_lt count 65536 && nat_lt value 256) (replicate count (low value)) out.old.items out.new.items) }
+    ensures { Adds result (nat_lt count 65536 && nat_lt value 256) (replicate count (low value)) out.old out.new }
 {
     if count < 65536 && value < 256 {
         let len = out.len() + count as usize;
@@ -114,13 +114,13 @@ fn put_fill<A: Allocator>(out: &mut Vec<u8, A>, count: u64, value: u64) -> Resul
 fn put_entry<A: Allocator>(
     out: &mut Vec<u8, A>,
     directive: Directive,
-    number: Option<u32>,
+    value: Option<u32>,
 ) -> Result<bool, AllocError>
-    ensures { IfOk result (λ fits. Puts fits (is_some number) (entry_bytes directive (unwrap_or number 0)) out.old.items out.new.items) }
+    ensures { Adds result (is_some value) (entry_bytes directive (or_zero value)) out.old out.new }
 {
-    match number {
-        Some(number) => {
-            put_number(out, directive, number)?;
+    match value {
+        Some(value) => {
+            put_number(out, directive, value)?;
             Ok(true)
         }
         None => Ok(false),
@@ -135,7 +135,7 @@ pub fn put_fragment<A: Allocator + Clone, B: Allocator>(
     next: u64,
     fragment: Fragment,
 ) -> Result<bool, AllocError>
-    ensures { IfOk result (λ fits. PutsOne fits names.now next (fragment_of fragment.entry) out.old.items out.new.items) }
+    ensures { AddsOne result names.now next (fragment_of fragment.entry) out.old out.new }
 {
     match fragment {
         Fragment::Fixed(byte) => put_one(out, byte),

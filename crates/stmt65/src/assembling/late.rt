@@ -1,8 +1,7 @@
 //! The work on lines: a line whose names stand above it is coded at once, another one once all names are known.
 
-ghost use Rattle.std.specs.Prelude.{◌≡◌, IfOk, OnOk, List, None, Some, take, drop};
-ghost use Rattle.std.specs.List.{list_all};
-ghost use Rattle.stmt65.specs.Words.{Codes, CodesEarly, IsIdle, IsOf, IsPlaced, PutsAll, State as AState, Takes, fault_at, fault_past, fragments_in, held, late_state, next_of, source_of, state_of};
+ghost use Rattle.std.specs.Prelude.{◌≡◌, IfOk, OnOk, None, take, drop};
+ghost use Rattle.stmt65.specs.Words.{AddsAll, Codes, CodesEarly, IsIdle, IsPlaced, Keeps, State as AState, Takes, fault_at, fault_past, fragments_in, late_state, source_of, state_of};
 
 use crate::assembling::emit::put_coded;
 use crate::assembling::fault::{AsmFault, AsmFaultKind};
@@ -54,7 +53,7 @@ fn put_placed<A: Allocator + Clone, B: Allocator>(
     all: &Names<'_, '_, A>,
     placed: &Placed,
 ) -> Result<bool, AllocError>
-    ensures { IfOk result (λ fits. PutsAll fits all.now placed.now.next (fragments_in placed.now.coded) out.old.items out.new.items) }
+    ensures { AddsAll result all.now placed.now.next (fragments_in placed.now.coded) out.old out.new }
 {
     match placed.coded {
         Some(coded) => put_coded(out, all, placed.next, coded),
@@ -81,7 +80,8 @@ pub fn code_placed<
     out: &mut Vec<u8, C>,
 ) -> Result<Option<AsmFaultKind>, AllocError>
     requires { IsPlaced placed.now (state_of state.now above.now) (source_of source.now) }
-    ensures { IfOk result (λ kind. Codes kind all.now (state_of state.now above.now) (source_of source.now) out.old.items out.new.items) }
+    ensures { IfOk result (λ kind. Codes kind all.now (state_of state.now above.now)
+        (source_of source.now) out.old.items out.new.items) }
 {
     let has_room = put_placed(out, all, placed)?;
     Ok(fault_of(all, above, source, placed, has_room))
@@ -98,7 +98,8 @@ pub fn code_early<'a, L: Allocator + Clone, A: Allocator + Clone, B: Allocator>(
     placed: &Placed<'_, 'a>,
 ) -> Result<bool, AllocError>
     requires { IsPlaced placed.now (state_of state.now above.now) (source_of source.now) }
-    ensures { IfOk result (λ taken. CodesEarly taken work.old work.new number (state_of state.now above.now) (source_of source.now)) }
+    ensures { IfOk result (CodesEarly work.old work.new number (state_of state.now above.now)
+        (source_of source.now)) }
 {
     if let Some(_) = work.fault {
         return Ok(true);
@@ -135,7 +136,7 @@ pub fn keep<'a, A: Allocator + Clone>(
     next: u64,
 ) -> Result<(), AllocError>
     requires { work.now.fault ≡ None }
-    ensures { OnOk result ((s : AState) → IsOf late.entry s → next ≡ held (next_of s (source_of late.entry.source)) → Takes work.old work.new late.entry.number s (Some (source_of late.entry.source))) }
+    ensures { OnOk result (Keeps late.entry next work.old work.new) }
 {
     let len = work.settled.len();
     let number = late.number;
@@ -176,7 +177,8 @@ pub fn code_again<'a, L: Allocator + Clone, A: Allocator + Clone, C: Allocator>(
     late: &Late<'a, A>,
     out: &mut Vec<u8, C>,
 ) -> Result<Option<AsmFaultKind>, AllocError>
-    ensures codes { IfOk result (λ kind. Codes kind names.now (late_state names.now state.old.layout.now late.now) (source_of late.now.source) out.old.items out.new.items) }
+    ensures codes { IfOk result (λ kind. Codes kind names.now
+        (late_state names.now state.old.layout.now late.now) (source_of late.now.source) out.old.items out.new.items) }
     ensures layout { state.new.layout.now ≡ state.old.layout.now }
 {
     state.address = late.address;

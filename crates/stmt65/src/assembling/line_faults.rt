@@ -1,8 +1,8 @@
 //! What is wrong with a line.
 
-ghost use Rattle.std.specs.Prelude.{◌≡◌, ◌||◌, not, nat_lt, is_some, Some};
-ghost use Rattle.std.specs.List.{list_any, list_all};
-ghost use Rattle.stmt65.specs.Words.{IsPlaced, State, definitions_in, fault_of, find_name, first_of, fragment_fits, fragments_in, has_unknown_cpu, is_fragment_known, operation_in, source_of};
+ghost use Rattle.std.specs.Prelude.{◌≡◌, ◌||◌, not, is_some, Some};
+ghost use Rattle.std.specs.List.{list_any};
+ghost use Rattle.stmt65.specs.Words.{IsPlaced, State, definitions_in, fault_of, find_name, first_of, fragments_in, has_large, has_unknown_cpu, have_room, are_known, line_operation, source_of};
 
 use crate::assembling::emit::are_known;
 use crate::assembling::fault::AsmFaultKind;
@@ -13,7 +13,7 @@ use std::alloc::Allocator;
 
 #[tactic(auto, unfolding(crate::specs::Meaning::has_unknown_cpu))]
 fn has_unknown_cpu<'a, B: Allocator>(source: &SourceLine<'a, B>) -> bool
-    ensures { result ≡ has_unknown_cpu (operation_in (source_of source.now)) }
+    ensures { result ≡ has_unknown_cpu (line_operation source.now) }
 {
     match source {
         SourceLine::Statement {
@@ -26,7 +26,7 @@ fn has_unknown_cpu<'a, B: Allocator>(source: &SourceLine<'a, B>) -> bool
 
 /// Whether each name in the coding has a definition.
 pub fn are_names_known<A: Allocator + Clone>(all: &Names<'_, '_, A>, placed: &Placed) -> bool
-    ensures { result ≡ list_all (is_fragment_known all.now) (fragments_in placed.now.coded) }
+    ensures { result ≡ are_known all.now (fragments_in placed.now.coded) }
 {
     match placed.coded {
         Some(coded) => are_known(all, coded),
@@ -37,8 +37,8 @@ pub fn are_names_known<A: Allocator + Clone>(all: &Names<'_, '_, A>, placed: &Pl
 /// The same: so it has if the values have room, and then it is not looked up again.
 #[tactic(auto, using(crate::proofs::CodingLemmas::known_where_fit))]
 fn is_known<A: Allocator + Clone>(all: &Names<'_, '_, A>, placed: &Placed, has_room: bool) -> bool
-    requires { has_room ≡ list_all (fragment_fits all.now placed.now.next) (fragments_in placed.now.coded) }
-    ensures { result ≡ list_all (is_fragment_known all.now) (fragments_in placed.now.coded) }
+    requires { has_room ≡ have_room all.now placed.now }
+    ensures { result ≡ are_known all.now (fragments_in placed.now.coded) }
 {
     if has_room {
         return true;
@@ -56,7 +56,7 @@ fn is_above<A: Allocator + Clone>(above: &Names<'_, '_, A>, definition: Option<D
 }
 
 fn is_large(definition: Option<Definition>) -> bool
-    ensures { result ≡ list_any (λ d. nat_lt 65535 d.value) (definitions_in definition.entry) }
+    ensures { result ≡ has_large (definitions_in definition.entry) }
 {
     match definition {
         Some(definition) => definition.value > 65535,
@@ -65,7 +65,7 @@ fn is_large(definition: Option<Definition>) -> bool
 }
 
 fn is_out_of_range(definition: Option<Definition>, has_room: bool) -> bool
-    ensures { result ≡ (list_any (λ d. nat_lt 65535 d.value) (definitions_in definition.entry) || not has_room) }
+    ensures { result ≡ (has_large (definitions_in definition.entry) || not has_room) }
 {
     is_large(definition) || !has_room
 }
@@ -91,8 +91,9 @@ pub fn fault_of<'a, A: Allocator + Clone, B: Allocator>(
     placed: &Placed<'_, 'a>,
     has_room: bool,
 ) -> Option<AsmFaultKind>
-    requires { has_room ≡ list_all (fragment_fits all.now placed.now.next) (fragments_in placed.now.coded) }
-    ensures { (s : State) → s.above ≡ above.now → IsPlaced placed.now s (source_of source.now) → result ≡ fault_of all.now s (Some (source_of source.now)) }
+    requires { has_room ≡ have_room all.now placed.now }
+    ensures { (s : State) → s.above ≡ above.now → IsPlaced placed.now s (source_of source.now)
+        → result ≡ fault_of all.now s (Some (source_of source.now)) }
 {
     first_of(&[
         (AsmFaultKind::UnknownCpu, has_unknown_cpu(source)),

@@ -1,8 +1,7 @@
 //! What stands above a line, and what the line adds.
 
-ghost use Rattle.std.specs.Prelude.{◌≡◌, List, [], map, unwrap_or};
-ghost use Rattle.std.specs.Option.{option_map};
-ghost use Rattle.stmt65.specs.Words.{Definition as ADefinition, IsPlaced, coded_of, coding, coding_len, cpu_after, cpu_set, defined_by, definitions_in, fragments_in, held, held_definition, initial, is_past_start, operation_in, source_of, state_of};
+ghost use Rattle.std.specs.Prelude.{◌≡◌, List, [], unwrap_or};
+ghost use Rattle.stmt65.specs.Words.{Definition as ADefinition, IsCoding, IsPlaced, coding_len, cpu_after, cpu_set, defined_by, definitions_in, fragments_in, held, held_definitions, initial, is_past_start, line_operation, source_of, state_of};
 
 use crate::assembling::coding::{Coded, coding};
 use crate::assembling::emit::coded_len;
@@ -50,7 +49,7 @@ fn coding_in<'s, 'a, L: Allocator + Clone, A: Allocator + Clone, B: Allocator>(
     above: &Names<'_, '_, A>,
     source: &'s SourceLine<'a, B>,
 ) -> Option<Coded<'s, 'a>>
-    ensures { option_map coded_of result ≡ coding (state_of state.now above.now) (operation_in (source_of source.now)) }
+    ensures { IsCoding result (state_of state.now above.now) (line_operation source.now) }
 {
     match source {
         SourceLine::Statement { operation, .. } => coding(state, above, operation),
@@ -74,7 +73,7 @@ fn definition_in<'a, B: Allocator>(
     address: u64,
     source: &SourceLine<'a, B>,
 ) -> Option<Definition<'a>>
-    ensures { definitions_in result ≡ map held_definition (defined_by address (source_of source.now)) }
+    ensures { definitions_in result ≡ held_definitions (defined_by address (source_of source.now)) }
 {
     match source {
         SourceLine::Assignment(name, n) => Some(Definition {
@@ -105,7 +104,8 @@ fn is_past_start<'a, L: Allocator + Clone, B: Allocator>(
     state: &State<'_, '_, L>,
     source: &SourceLine<'a, B>,
 ) -> bool
-    ensures { (above : List ADefinition) → result ≡ is_past_start (state_of state.now above) (operation_in (source_of source.now)) }
+    ensures { (above : List ADefinition) → result
+        ≡ is_past_start (state_of state.now above) (line_operation source.now) }
 {
     match source {
         SourceLine::Statement {
@@ -166,7 +166,7 @@ fn table(opcodes: &mut EncodeTable, cpu: Cpu)
 /// Selects the CPU that the line sets. An unknown one leaves the opcodes as they were.
 #[tactic(auto, unfolding(crate::specs::Meaning::cpu_after))]
 fn follow<'a, B: Allocator>(opcodes: &mut EncodeTable, source: &SourceLine<'a, B>)
-    ensures { opcodes.new ≡ cpu_after opcodes.old (operation_in (source_of source.now)) }
+    ensures { opcodes.new ≡ cpu_after opcodes.old (line_operation source.now) }
 {
     match source {
         SourceLine::Statement {
@@ -185,7 +185,7 @@ pub fn advance<'a, L: Allocator, B: Allocator>(
 )
     ensures address { state.new.address ≡ placed.now.next }
     ensures layout { state.new.layout.now ≡ state.old.layout.now }
-    ensures cpu { state.new.opcodes ≡ cpu_after state.old.opcodes (operation_in (source_of source.now)) }
+    ensures cpu { state.new.opcodes ≡ cpu_after state.old.opcodes (line_operation source.now) }
 {
     follow(&mut state.opcodes, source);
     state.address = placed.next;

@@ -14,6 +14,7 @@ pub fn codes_alike()
 /// An instruction is coded in one of these modes that the mnemonic has on the CPU. If it has a
 /// zero-page and an absolute one that are written alike, the size of the operand decides. There is no
 /// coding exactly when the mnemonic has none of the modes.
+#[tactic(auto, using(crate::proofs::ModeLemmas::takes_modes, crate::proofs::ModeLemmas::needs_mode))]
 pub fn takes_modes()
     ensures takes { TakesModes }
     ensures needs { NeedsMode }
@@ -21,6 +22,7 @@ pub fn takes_modes()
 
 /// The fault of a line is of the lowest kind of which it has one, by one rule for each kind; a line
 /// that has none of any kind is without fault.
+#[tactic(auto, using(crate::proofs::FaultLemmas::finds_none))]
 pub fn finds_lowest_fault()
     ensures lowest { FindsLowest }
     ensures none { FindsNone }

@@ -1,8 +1,8 @@
 //! Names that a line defines.
 
-ghost use Rattle.std.specs.Prelude.{◌≡◌, ◌+◌, ◌≤◌, ◌++◌, codes, Some};
+ghost use Rattle.std.specs.Prelude.{◌+◌, ◌≤◌, ◌++◌, codes, Some, []};
 ghost use Rattle.arrayvec.specs.ArrayVec.{array_vec_len};
-ghost use Rattle.stmt65.specs.Words.{IsNameLong, definition_fields, distance_text, filled, hex4, in_hex, label_fields, with_fields};
+ghost use Rattle.stmt65.specs.Words.{IsNameLong, Prints, definition_fields, distance_text, hex4, in_hex, label_fields};
 
 use crate::printing::columns::{Column, Columns};
 use crate::printing::digits::{Offsets, put_distance, put_hex4};
@@ -13,7 +13,7 @@ use crate::printing::line::Line;
 pub(super) fn put_label(out: &mut Line, name: &[u8])
     requires room { array_vec_len out.old ≤ 82 }
     requires name { IsNameLong name.now }
-    ensures items { out.new.items ≡ with_fields out.old.items (label_fields (Some name.now)) }
+    ensures items { Prints out.old (label_fields (Some name.now)) out.new }
     ensures len { array_vec_len out.new ≤ array_vec_len out.old + 82 }
 {
     start_field(out, Column::first());
@@ -25,7 +25,7 @@ pub(super) fn put_label(out: &mut Line, name: &[u8])
 fn start_definition(out: &mut Line, columns: &Columns, name: &[u8])
     requires room { array_vec_len out.old ≤ 82 }
     requires name { IsNameLong name.now }
-    ensures items { out.new.items ≡ filled (filled out.old.items 1 ++ name.now) columns.now.argument ++ codes ":= " }
+    ensures items { Prints out.old (definition_fields columns.now name.now []) out.new }
     ensures len { array_vec_len out.new ≤ 256 }
 {
     start_field(out, Column::first());
@@ -38,7 +38,7 @@ fn start_definition(out: &mut Line, columns: &Columns, name: &[u8])
 pub(super) fn put_const(out: &mut Line, columns: &Columns, name: &[u8], number: u16)
     requires room { array_vec_len out.old ≤ 82 }
     requires name { IsNameLong name.now }
-    ensures items { out.new.items ≡ with_fields out.old.items (definition_fields columns.now name.now (hex4 number)) }
+    ensures items { Prints out.old (definition_fields columns.now name.now (hex4 number)) out.new }
     ensures len { array_vec_len out.new ≤ 340 }
 {
     start_definition(out, columns, name);
@@ -55,8 +55,8 @@ pub(super) fn put_forward(
 )
     requires room { array_vec_len out.old ≤ 82 }
     requires name { IsNameLong name.now }
-    ensures items { out.new.items ≡ with_fields out.old.items (definition_fields columns.now name.now
-        (codes "* + " ++ distance_text (in_hex offsets) distance)) }
+    ensures items { Prints out.old (definition_fields columns.now name.now
+        (codes "* + " ++ distance_text (in_hex offsets) distance)) out.new }
     ensures len { array_vec_len out.new ≤ 340 }
 {
     start_definition(out, columns, name);

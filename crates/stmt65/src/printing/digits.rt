@@ -1,8 +1,8 @@
 //! Numbers in hex digits and in decimal.
 
-ghost use Rattle.std.specs.Prelude.{◌≡◌, ◌+◌, ◌<◌, ◌≤◌, ◌++◌, decimal, true};
-ghost use Rattle.text65.specs.Digits.{hex_digit, digits4};
-ghost use Rattle.arrayvec.specs.ArrayVec.{array_vec_len};
+ghost use Rattle.std.specs.Prelude.{◌≡◌, ◌+◌, ◌≤◌, decimal, true};
+ghost use Rattle.text65.specs.Digits.{digits4};
+ghost use Rattle.arrayvec.specs.ArrayVec.{Extends, array_vec_len};
 ghost use Rattle.stmt65.specs.Words.{digits2, distance_text, hex2, hex4, in_hex, offset_text};
 
 use crate::printing::fields::put;
@@ -39,7 +39,7 @@ impl Offsets {
 /// Appends two hex digits.
 pub(super) fn put_digits2(out: &mut Line, number: u8)
     requires { array_vec_len out.old + 2 ≤ 512 }
-    ensures { out.new.items ≡ out.old.items ++ digits2 number }
+    ensures { Extends out.old (digits2 number) out.new }
 {
     out.push(hex_digit(number / 16));
     out.push(hex_digit(number % 16));
@@ -48,7 +48,7 @@ pub(super) fn put_digits2(out: &mut Line, number: u8)
 /// Appends four hex digits.
 pub(super) fn put_digits4(out: &mut Line, number: u16)
     requires { array_vec_len out.old + 4 ≤ 512 }
-    ensures { out.new.items ≡ out.old.items ++ digits4 number }
+    ensures { Extends out.old (digits4 number) out.new }
 {
     out.push(hex_digit((number / 4096 % 16) as u8));
     out.push(hex_digit((number / 256 % 16) as u8));
@@ -59,7 +59,7 @@ pub(super) fn put_digits4(out: &mut Line, number: u16)
 /// Appends `$` and two hex digits.
 pub(super) fn put_hex2(out: &mut Line, number: u8)
     requires { array_vec_len out.old + 3 ≤ 512 }
-    ensures { out.new.items ≡ out.old.items ++ hex2 number }
+    ensures { Extends out.old (hex2 number) out.new }
 {
     out.push(b'$');
     put_digits2(out, number);
@@ -68,7 +68,7 @@ pub(super) fn put_hex2(out: &mut Line, number: u8)
 /// Appends `$` and four hex digits.
 pub(super) fn put_hex4(out: &mut Line, number: u16)
     requires { array_vec_len out.old + 5 ≤ 512 }
-    ensures { out.new.items ≡ out.old.items ++ hex4 number }
+    ensures { Extends out.old (hex4 number) out.new }
 {
     out.push(b'$');
     put_digits4(out, number);
@@ -76,7 +76,7 @@ pub(super) fn put_hex4(out: &mut Line, number: u16)
 
 fn put_decimal(out: &mut Line, number: u16)
     requires { array_vec_len out.old + 5 ≤ 512 }
-    ensures items { out.new.items ≡ out.old.items ++ decimal number }
+    ensures items { Extends out.old (decimal number) out.new }
     ensures len { array_vec_len out.new ≤ array_vec_len out.old + 5 }
 {
     let mut buffer = Buffer::new();
@@ -86,7 +86,7 @@ fn put_decimal(out: &mut Line, number: u16)
 /// Appends an offset in two hex digits if it has no more, else in four.
 fn put_hex_offset(out: &mut Line, offset: u16)
     requires { array_vec_len out.old + 5 ≤ 512 }
-    ensures items { out.new.items ≡ out.old.items ++ offset_text true offset }
+    ensures items { Extends out.old (offset_text true offset) out.new }
     ensures len { array_vec_len out.new ≤ array_vec_len out.old + 5 }
 {
     if offset < 256 {
@@ -99,7 +99,7 @@ fn put_hex_offset(out: &mut Line, offset: u16)
 /// Appends what is added to a name.
 pub(super) fn put_offset(out: &mut Line, offsets: Offsets, offset: u16)
     requires { array_vec_len out.old + 5 ≤ 512 }
-    ensures items { out.new.items ≡ out.old.items ++ offset_text (in_hex offsets) offset }
+    ensures items { Extends out.old (offset_text (in_hex offsets) offset) out.new }
     ensures len { array_vec_len out.new ≤ array_vec_len out.old + 5 }
 {
     match offsets {
@@ -111,7 +111,7 @@ pub(super) fn put_offset(out: &mut Line, offsets: Offsets, offset: u16)
 /// Appends the distance of a name from its own line.
 pub(super) fn put_distance(out: &mut Line, offsets: Offsets, distance: u16)
     requires { array_vec_len out.old + 5 ≤ 512 }
-    ensures items { out.new.items ≡ out.old.items ++ distance_text (in_hex offsets) distance }
+    ensures items { Extends out.old (distance_text (in_hex offsets) distance) out.new }
     ensures len { array_vec_len out.new ≤ array_vec_len out.old + 5 }
 {
     match offsets {

@@ -1,7 +1,7 @@
 //! The fields of a line.
 
-ghost use Rattle.std.specs.Prelude.{◌≡◌, ◌+◌, ◌<◌, ◌≤◌, max, ◌++◌, length, replicate};
-ghost use Rattle.arrayvec.specs.ArrayVec.{array_vec_len};
+ghost use Rattle.std.specs.Prelude.{◌≡◌, ◌+◌, ◌<◌, ◌≤◌, max, length, replicate};
+ghost use Rattle.arrayvec.specs.ArrayVec.{Extends, array_vec_len};
 ghost use Rattle.stmt65.specs.Words.{filled};
 
 use crate::printing::columns::Column;
@@ -10,7 +10,7 @@ use crate::printing::line::Line;
 /// Appends the bytes.
 pub(super) fn put(out: &mut Line, bytes: &[u8])
     requires { array_vec_len out.old + length bytes.now ≤ 512 }
-    ensures { out.new.items ≡ out.old.items ++ bytes.now }
+    ensures { Extends out.old bytes.now out.new }
 {
     if bytes.is_empty() {
         return;
@@ -24,7 +24,7 @@ pub(super) fn put(out: &mut Line, bytes: &[u8])
 fn put_few_blanks(out: &mut Line, count: usize)
     requires few { count < 8 }
     requires room { array_vec_len out.old + count ≤ 512 }
-    ensures { out.new.items ≡ out.old.items ++ replicate count 32 }
+    ensures { Extends out.old (replicate count 32) out.new }
 {
     let mut left = count;
     if 4 <= left {
@@ -44,7 +44,7 @@ fn put_few_blanks(out: &mut Line, count: usize)
 #[inline(always)]
 fn put_blanks(out: &mut Line, count: usize)
     requires { array_vec_len out.old + count ≤ 512 }
-    ensures { out.new.items ≡ out.old.items ++ replicate count 32 }
+    ensures { Extends out.old (replicate count 32) out.new }
 {
     let mut left = count;
     'eights: while 8 <= left {

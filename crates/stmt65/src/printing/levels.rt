@@ -1,9 +1,9 @@
 //! What stands after a statement that has bytes, by the comment level.
 
-ghost use Rattle.std.specs.Prelude.{◌≡◌, ◌+◌, ◌*◌, ◌≤◌, ◌++◌, length, map};
+ghost use Rattle.std.specs.Prelude.{◌≡◌, ◌+◌, ◌≤◌, length, map};
 ghost use Rattle.std.specs.List.{flat_map};
-ghost use Rattle.arrayvec.specs.ArrayVec.{array_vec_len};
-ghost use Rattle.stmt65.specs.Words.{character, fields_after, level_fields, remarks_seen, spaced_byte, statement_seen, with_fields};
+ghost use Rattle.arrayvec.specs.ArrayVec.{Extends, array_vec_len};
+ghost use Rattle.stmt65.specs.Words.{Prints, character, fields_after, len_with, level_fields, remarks_seen, spaced_byte, statement_seen};
 
 use crate::printing::columns::Columns;
 use crate::printing::digits::{put_digits2, put_digits4};
@@ -14,9 +14,9 @@ use crate::statement::Statement;
 
 /// Appends the bytes in hex digits, each after a blank.
 fn put_spaced_bytes(out: &mut Line, bytes: &[u8])
-    requires { array_vec_len out.old + 3 * length bytes.now ≤ 512 }
-    ensures items { out.new.items ≡ out.old.items ++ flat_map spaced_byte bytes.now }
-    ensures len { array_vec_len out.new ≡ array_vec_len out.old + 3 * length bytes.now }
+    requires { len_with out.old 3 bytes.now ≤ 512 }
+    ensures items { Extends out.old (flat_map spaced_byte bytes.now) out.new }
+    ensures len { array_vec_len out.new ≡ len_with out.old 3 bytes.now }
 {
     for byte in bytes {
         out.push(b' ');
@@ -38,7 +38,7 @@ fn character(byte: u8) -> u8
 /// Appends the bytes as characters.
 fn put_characters(out: &mut Line, bytes: &[u8])
     requires { array_vec_len out.old + length bytes.now ≤ 512 }
-    ensures items { out.new.items ≡ out.old.items ++ map character bytes.now }
+    ensures items { Extends out.old (map character bytes.now) out.new }
     ensures len { array_vec_len out.new ≡ array_vec_len out.old + length bytes.now }
 {
     for byte in bytes {
@@ -52,7 +52,7 @@ fn put_remarked(out: &mut Line, columns: &Columns, level: u8, address: u16, byte
     requires level { 2 ≤ level }
     requires room { array_vec_len out.old ≤ 340 }
     requires few { length bytes.now ≤ 16 }
-    ensures items { out.new.items ≡ with_fields out.old.items (level_fields columns.now level address bytes.now) }
+    ensures items { Prints out.old (level_fields columns.now level address bytes.now) out.new }
     ensures len { array_vec_len out.new ≤ 511 }
 {
     start_field(out, columns.comment);
@@ -74,7 +74,7 @@ fn put_remarked(out: &mut Line, columns: &Columns, level: u8, address: u16, byte
 fn put_level(out: &mut Line, columns: &Columns, level: u8, address: u16, bytes: &[u8])
     requires room { array_vec_len out.old ≤ 340 }
     requires few { length bytes.now ≤ 16 }
-    ensures items { out.new.items ≡ with_fields out.old.items (level_fields columns.now level address bytes.now) }
+    ensures items { Prints out.old (level_fields columns.now level address bytes.now) out.new }
     ensures len { array_vec_len out.new ≤ 511 }
 {
     if level < 2 {
@@ -88,7 +88,8 @@ fn put_level(out: &mut Line, columns: &Columns, level: u8, address: u16, bytes: 
 pub(super) fn put_after(out: &mut Line, columns: &Columns, statement: &Statement, remarks: &Remarks)
     requires room { array_vec_len out.old ≤ 340 }
     requires few { length remarks.now.bytes.now ≤ 16 }
-    ensures items { out.new.items ≡ with_fields out.old.items (fields_after columns.now (statement_seen statement.now) (remarks_seen remarks.now)) }
+    ensures items { Prints out.old (fields_after columns.now (statement_seen statement.now)
+        (remarks_seen remarks.now)) out.new }
     ensures len { array_vec_len out.new ≤ 511 }
 {
     if statement.has_bytes() {

@@ -1,10 +1,10 @@
 //! Printing a statement as a line.
 
-ghost use Rattle.std.specs.Prelude.{◌≡◌, ◌+◌, ◌<◌, ◌≤◌, ◌*◌, [], ◌∷◌, ◌++◌, length, codes, Some, IfSome};
+ghost use Rattle.std.specs.Prelude.{◌≡◌, ◌+◌, ◌<◌, ◌≤◌, [], ◌∷◌, ◌++◌, length, codes, IfSome};
 ghost use Rattle.std.specs.Option.{option_copied, option_map};
-ghost use Rattle.arrayvec.specs.ArrayVec.{array_vec_len};
+ghost use Rattle.arrayvec.specs.ArrayVec.{Extends, array_vec_len};
 ghost use Rattle.isa65.specs.Words.{cpu_text};
-ghost use Rattle.stmt65.specs.Words.{AreBytes, AreWordWide, IsInWidth, IsNameLong, IsPrintable, IsTable, IsWrittenIn, MayBeLabelled, ReadsBack, bytes_text, cut_text, data_text, directive_text, fields_of, filled, has_operand, in_hex, instr_fields, is_absolute, label_fields, line_of, named_text, numbers_text, operands_seen, quoted, remark_fields, remarks_seen, return_text, statement_seen, target_seen, with_fields, with_operands};
+ghost use Rattle.stmt65.specs.Words.{AreBytes, AreWordWide, IsInWidth, IsNameLong, IsPrintable, IsTable, IsWrittenIn, MayBeLabelled, Prints, ReadsBack, bytes_text, cut_text, data_text, directive_text, fields_of, filled, has_operand, in_hex, instr_fields, is_absolute, label_fields, len_with, line_of, named_text, numbers_text, operands_seen, quoted, remark_fields, remarks_seen, return_text, statement_seen, target_seen, with_fields, with_operands};
 ghost use Rattle.stmt65.specs.Views as view;
 
 use crate::directive::Directive;
@@ -44,7 +44,7 @@ fn put_operation(out: &mut Line, columns: &Columns, operation: &[u8])
 #[inline(always)]
 fn put_mnemonic(out: &mut Line, text: &[u8])
     requires { array_vec_len out.old + length text.now ≤ 512 }
-    ensures { out.new.items ≡ out.old.items ++ text.now }
+    ensures { Extends out.old text.now out.new }
 {
     if let [first, second, third] = *text {
         out.push(first);
@@ -67,7 +67,8 @@ fn put_instr(
 )
     requires room { array_vec_len out.old ≤ 82 }
     requires written { IsWrittenIn op.mode (operands_seen operands.now) }
-    ensures items { out.new.items ≡ with_fields out.old.items (instr_fields columns.now (in_hex offsets) op (is_absolute size) (operands_seen operands.now)) }
+    ensures items { Prints out.old (instr_fields columns.now (in_hex offsets) op (is_absolute size)
+        (operands_seen operands.now)) out.new }
     ensures len { array_vec_len out.new ≤ 340 }
     ensures width { AreWordWide (operands_seen operands.now) }
 {
@@ -82,9 +83,9 @@ fn put_instr(
 #[tactic(auto, unfolding(crate::specs::Statements::comma_list))]
 fn put_bytes(out: &mut Line, bytes: &[u8])
     requires some { 1 ≤ length bytes.now }
-    requires room { array_vec_len out.old + 4 * length bytes.now ≤ 512 }
-    ensures items { out.new.items ≡ out.old.items ++ bytes_text bytes.now }
-    ensures len { array_vec_len out.new ≤ array_vec_len out.old + 4 * length bytes.now }
+    requires room { len_with out.old 4 bytes.now ≤ 512 }
+    ensures items { Extends out.old (bytes_text bytes.now) out.new }
+    ensures len { array_vec_len out.new ≤ len_with out.old 4 bytes.now }
 {
     let [first, rest @ ..] = bytes else {
         unreachable!()
@@ -101,7 +102,7 @@ fn put_data(out: &mut Line, columns: &Columns, bytes: &[u8])
     requires room { array_vec_len out.old ≤ 82 }
     requires some { 1 ≤ length bytes.now }
     requires few { length bytes.now ≤ 8 }
-    ensures items { out.new.items ≡ with_fields out.old.items (with_operands columns.now (codes ".byte") (bytes_text bytes.now)) }
+    ensures items { Prints out.old (with_operands columns.now (codes ".byte") (bytes_text bytes.now)) out.new }
     ensures len { array_vec_len out.new ≤ 340 }
     ensures width { AreBytes bytes.now }
 {
@@ -115,7 +116,7 @@ fn put_text_data(out: &mut Line, columns: &Columns, bytes: &[u8])
     requires room { array_vec_len out.old ≤ 82 }
     requires some { 1 ≤ length bytes.now }
     requires few { length bytes.now ≤ 16 }
-    ensures items { out.new.items ≡ with_fields out.old.items (with_operands columns.now (codes ".byte") (data_text (cut_text bytes.now))) }
+    ensures items { Prints out.old (with_operands columns.now (codes ".byte") (data_text (cut_text bytes.now))) out.new }
     ensures len { array_vec_len out.new ≤ 340 }
     ensures width { AreBytes bytes.now }
 {
@@ -128,7 +129,8 @@ fn put_text_data(out: &mut Line, columns: &Columns, bytes: &[u8])
 fn put_numbers(out: &mut Line, columns: &Columns, directive: Directive, bytes: &[u8])
     requires room { array_vec_len out.old ≤ 82 }
     requires table { IsTable directive bytes.now }
-    ensures items { out.new.items ≡ with_fields out.old.items (with_operands columns.now (directive_text directive) (numbers_text directive bytes.now)) }
+    ensures items { Prints out.old (with_operands columns.now (directive_text directive)
+        (numbers_text directive bytes.now)) out.new }
     ensures len { array_vec_len out.new ≤ 340 }
     ensures width { AreBytes bytes.now }
 {
@@ -142,7 +144,7 @@ fn put_string(out: &mut Line, columns: &Columns, operation: &[u8], text: &[u8])
     requires room { array_vec_len out.old ≤ 82 }
     requires short { length operation.now ≤ 8 }
     requires fits { length text.now ≤ 80 }
-    ensures items { out.new.items ≡ with_fields out.old.items (with_operands columns.now operation.now (quoted text.now)) }
+    ensures items { Prints out.old (with_operands columns.now operation.now (quoted text.now)) out.new }
     ensures len { array_vec_len out.new ≤ 340 }
 {
     put_operation(out, columns, operation);
@@ -155,7 +157,7 @@ fn put_string(out: &mut Line, columns: &Columns, operation: &[u8], text: &[u8])
 #[tactic(auto, using(isa65::proofs::CpuNames::cpu_len))]
 fn put_set_cpu(out: &mut Line, columns: &Columns, cpu: Cpu)
     requires room { array_vec_len out.old ≤ 82 }
-    ensures items { out.new.items ≡ with_fields out.old.items (with_operands columns.now (codes ".setcpu") (quoted (cpu_text cpu))) }
+    ensures items { Prints out.old (with_operands columns.now (codes ".setcpu") (quoted (cpu_text cpu))) out.new }
     ensures len { array_vec_len out.new ≤ 340 }
 {
     put_string(out, columns, b".setcpu", cpu.text());
@@ -164,8 +166,8 @@ fn put_set_cpu(out: &mut Line, columns: &Columns, cpu: Cpu)
 fn put_addr(out: &mut Line, columns: &Columns, offsets: Offsets, target: Target)
     requires room { array_vec_len out.old ≤ 82 }
     requires name { IsNameLong target.name.now }
-    ensures items { out.new.items ≡ with_fields out.old.items (with_operands columns.now (codes ".addr")
-        (named_text (in_hex offsets) target.entry.name.now target.entry.offset)) }
+    ensures items { Prints out.old (with_operands columns.now (codes ".addr")
+        (named_text (in_hex offsets) target.entry.name.now target.entry.offset)) out.new }
     ensures len { array_vec_len out.new ≤ 340 }
     ensures width { target.entry.offset < 65536 }
 {
@@ -178,7 +180,7 @@ fn put_addr(out: &mut Line, columns: &Columns, offsets: Offsets, target: Target)
 fn put_return(out: &mut Line, offsets: Offsets, target: Option<Target>)
     requires room { array_vec_len out.old ≤ 200 }
     requires name { IsPrintable (view.rts (option_map target_seen target)) }
-    ensures items { out.new.items ≡ out.old.items ++ return_text (in_hex offsets) (option_map target_seen target.entry) }
+    ensures items { Extends out.old (return_text (in_hex offsets) (option_map target_seen target.entry)) out.new }
     ensures len { array_vec_len out.new ≤ array_vec_len out.old + 88 }
     ensures width { IsInWidth (view.rts (option_map target_seen target.entry)) }
 {
@@ -194,8 +196,8 @@ fn put_return(out: &mut Line, offsets: Offsets, target: Option<Target>)
 fn put_rts(out: &mut Line, columns: &Columns, offsets: Offsets, target: Option<Target>)
     requires room { array_vec_len out.old ≤ 82 }
     requires name { IsPrintable (view.rts (option_map target_seen target)) }
-    ensures items { out.new.items ≡ with_fields out.old.items (with_operands columns.now (codes ".word")
-        (return_text (in_hex offsets) (option_map target_seen target.entry))) }
+    ensures items { Prints out.old (with_operands columns.now (codes ".word")
+        (return_text (in_hex offsets) (option_map target_seen target.entry))) out.new }
     ensures len { array_vec_len out.new ≤ 340 }
     ensures width { IsInWidth (view.rts (option_map target_seen target.entry)) }
 {
@@ -207,7 +209,7 @@ fn put_rts(out: &mut Line, columns: &Columns, offsets: Offsets, target: Option<T
 fn put_remark(out: &mut Line, text: &[u8])
     requires room { array_vec_len out.old ≤ 82 }
     requires fits { length text.now ≤ 200 }
-    ensures items { out.new.items ≡ with_fields out.old.items (remark_fields text.now) }
+    ensures items { Prints out.old (remark_fields text.now) out.new }
     ensures len { array_vec_len out.new ≤ 340 }
 {
     start_field(out, Column::first());
@@ -220,7 +222,8 @@ fn put_remark(out: &mut Line, text: &[u8])
 fn put_fields(out: &mut Line, columns: &Columns, offsets: Offsets, statement: &Statement)
     requires room { array_vec_len out.old ≤ 82 }
     requires printable { IsPrintable (statement_seen statement.now) }
-    ensures items { out.new.items ≡ with_fields out.old.items (fields_of columns.now (in_hex offsets) (statement_seen statement.now)) }
+    ensures items { Prints out.old (fields_of columns.now (in_hex offsets)
+        (statement_seen statement.now)) out.new }
     ensures len { array_vec_len out.new ≤ 340 }
     ensures width { IsInWidth (statement_seen statement.now) }
 {

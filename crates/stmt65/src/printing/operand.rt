@@ -1,7 +1,7 @@
 //! The operands of an instruction.
 
-ghost use Rattle.std.specs.Prelude.{◌≡◌, ◌+◌, ◌≤◌, ◌++◌, length};
-ghost use Rattle.arrayvec.specs.ArrayVec.{array_vec_len};
+ghost use Rattle.std.specs.Prelude.{◌+◌, ◌≤◌, length};
+ghost use Rattle.arrayvec.specs.ArrayVec.{Extends, array_vec_len};
 ghost use Rattle.isa65.specs.Words.{row_text};
 ghost use Rattle.stmt65.specs.Words.{AreOperands, AreWordWide, IsLong, IsOperand, IsShort, IsWordWide, IsWrittenIn, expr_seen, in_hex, in_row, is_absolute, kind_text, long_text, named_text, none, one, operand_text, operands_seen, prefix_text, short_text, two};
 
@@ -15,7 +15,7 @@ use isa65::{Mode, OperandKind, Pattern, Row};
 /// Appends a name, and `+` and the offset if that is not 0.
 pub(super) fn put_named(out: &mut Line, offsets: Offsets, name: &[u8], offset: u16)
     requires { array_vec_len out.old + length name.now + 6 ≤ 512 }
-    ensures items { out.new.items ≡ out.old.items ++ named_text (in_hex offsets) name.now offset }
+    ensures items { Extends out.old (named_text (in_hex offsets) name.now offset) out.new }
     ensures len { array_vec_len out.new ≤ array_vec_len out.old + length name.now + 6 }
 {
     put(out, name);
@@ -29,7 +29,7 @@ pub(super) fn put_named(out: &mut Line, offsets: Offsets, name: &[u8], offset: u
 fn put_short(out: &mut Line, offsets: Offsets, expr: &Expr)
     requires room { array_vec_len out.old ≤ 400 }
     requires short { IsShort (expr_seen expr.now) }
-    ensures items { out.new.items ≡ out.old.items ++ short_text (in_hex offsets) (expr_seen expr.now) }
+    ensures items { Extends out.old (short_text (in_hex offsets) (expr_seen expr.now)) out.new }
     ensures len { array_vec_len out.new ≤ array_vec_len out.old + 86 }
     ensures width { IsWordWide (expr_seen expr.now) }
 {
@@ -43,7 +43,7 @@ fn put_short(out: &mut Line, offsets: Offsets, expr: &Expr)
 fn put_long(out: &mut Line, offsets: Offsets, expr: &Expr)
     requires room { array_vec_len out.old ≤ 400 }
     requires long { IsLong (expr_seen expr.now) }
-    ensures items { out.new.items ≡ out.old.items ++ long_text (in_hex offsets) (expr_seen expr.now) }
+    ensures items { Extends out.old (long_text (in_hex offsets) (expr_seen expr.now)) out.new }
     ensures len { array_vec_len out.new ≤ array_vec_len out.old + 86 }
     ensures width { IsWordWide (expr_seen expr.now) }
 {
@@ -57,7 +57,7 @@ fn put_long(out: &mut Line, offsets: Offsets, expr: &Expr)
 fn put_kind(out: &mut Line, offsets: Offsets, kind: OperandKind, expr: &Expr)
     requires room { array_vec_len out.old ≤ 300 }
     requires operand { IsOperand kind (expr_seen expr.now) }
-    ensures items { out.new.items ≡ out.old.items ++ kind_text (in_hex offsets) kind (expr_seen expr.now) }
+    ensures items { Extends out.old (kind_text (in_hex offsets) kind (expr_seen expr.now)) out.new }
     ensures len { array_vec_len out.new ≤ array_vec_len out.old + 86 }
     ensures width { IsWordWide (expr_seen expr.now) }
 {
@@ -72,7 +72,7 @@ fn put_kind(out: &mut Line, offsets: Offsets, kind: OperandKind, expr: &Expr)
 fn put_one(out: &mut Line, offsets: Offsets, row: Row, expr: &Expr)
     requires room { array_vec_len out.old ≤ 200 }
     requires written { AreOperands row (one (expr_seen expr.now)) }
-    ensures items { out.new.items ≡ out.old.items ++ in_row (in_hex offsets) row (one (expr_seen expr.now)) }
+    ensures items { Extends out.old (in_row (in_hex offsets) row (one (expr_seen expr.now))) out.new }
     ensures len { array_vec_len out.new ≤ array_vec_len out.old + 190 }
     ensures width { IsWordWide (expr_seen expr.now) }
 {
@@ -115,7 +115,8 @@ fn put_one(out: &mut Line, offsets: Offsets, row: Row, expr: &Expr)
 fn put_two(out: &mut Line, offsets: Offsets, row: Row, first: &Expr, second: &Expr)
     requires room { array_vec_len out.old ≤ 200 }
     requires written { AreOperands row (two (expr_seen first.now) (expr_seen second.now)) }
-    ensures items { out.new.items ≡ out.old.items ++ in_row (in_hex offsets) row (two (expr_seen first.now) (expr_seen second.now)) }
+    ensures items { Extends out.old (in_row (in_hex offsets) row
+        (two (expr_seen first.now) (expr_seen second.now))) out.new }
     ensures len { array_vec_len out.new ≤ array_vec_len out.old + 190 }
     ensures width { AreWordWide (two (expr_seen first.now) (expr_seen second.now)) }
 {
@@ -131,7 +132,7 @@ fn put_two(out: &mut Line, offsets: Offsets, row: Row, first: &Expr, second: &Ex
 fn put_bare(out: &mut Line, row: Row)
     requires room { array_vec_len out.old ≤ 500 }
     requires written { AreOperands row none }
-    ensures items { out.new.items ≡ out.old.items ++ row_text row }
+    ensures items { Extends out.old (row_text row) out.new }
     ensures len { array_vec_len out.new ≤ array_vec_len out.old + 1 }
 {
     match row {
@@ -144,7 +145,7 @@ fn put_bare(out: &mut Line, row: Row)
 /// Appends the prefix that makes an operand absolute, if there is one.
 fn put_prefix(out: &mut Line, size: AddressSize)
     requires { array_vec_len out.old ≤ 500 }
-    ensures items { out.new.items ≡ out.old.items ++ prefix_text (is_absolute size) }
+    ensures items { Extends out.old (prefix_text (is_absolute size)) out.new }
     ensures len { array_vec_len out.new ≤ array_vec_len out.old + 2 }
 {
     match size {
@@ -165,7 +166,8 @@ pub(super) fn put_operands(
 )
     requires room { array_vec_len out.old ≤ 190 }
     requires written { IsWrittenIn mode (operands_seen operands.now) }
-    ensures items { out.new.items ≡ out.old.items ++ operand_text (in_hex offsets) mode (is_absolute size) (operands_seen operands.now) }
+    ensures items { Extends out.old (operand_text (in_hex offsets) mode (is_absolute size)
+        (operands_seen operands.now)) out.new }
     ensures len { array_vec_len out.new ≤ array_vec_len out.old + 200 }
     ensures width { AreWordWide (operands_seen operands.now) }
 {

@@ -1,9 +1,9 @@
 //! The operands of tables: numbers, and bytes as text.
 
-ghost use Rattle.std.specs.Prelude.{◌≡◌, ◌+◌, ◌<◌, ◌≤◌, ◌*◌, ◌++◌, length, reverse};
+ghost use Rattle.std.specs.Prelude.{◌≡◌, ◌+◌, ◌<◌, ◌≤◌, ◌*◌, length, reverse};
 ghost use Rattle.std.specs.List.{prefix_len, flat_map};
-ghost use Rattle.arrayvec.specs.ArrayVec.{array_vec_len};
-ghost use Rattle.stmt65.specs.Words.{cut_text, data_text, datum_text, digits2, entries, entry_len, entry_text, is_plain, next_text, numbers_text};
+ghost use Rattle.arrayvec.specs.ArrayVec.{Extends, array_vec_len};
+ghost use Rattle.stmt65.specs.Words.{Lists, cut_text, data_text, datum_text, digits2, entries, entry_len, entry_text, is_plain, len_with, numbers_text};
 
 use crate::directive::Directive;
 use crate::printing::digits::{put_digits2, put_hex2};
@@ -13,9 +13,9 @@ use isa65::ByteOrder;
 
 /// Appends the digits of bytes whose low one is first, the high one first.
 fn put_reversed(out: &mut Line, bytes: &[u8])
-    requires room { array_vec_len out.old + 2 * length bytes.now ≤ 512 }
-    ensures items { out.new.items ≡ out.old.items ++ flat_map digits2 (reverse bytes.now) }
-    ensures len { array_vec_len out.new ≡ array_vec_len out.old + 2 * length bytes.now }
+    requires room { len_with out.old 2 bytes.now ≤ 512 }
+    ensures items { Extends out.old (flat_map digits2 (reverse bytes.now)) out.new }
+    ensures len { array_vec_len out.new ≡ len_with out.old 2 bytes.now }
 {
     if let [low, rest @ ..] = bytes {
         put_reversed(out, rest);
@@ -25,9 +25,9 @@ fn put_reversed(out: &mut Line, bytes: &[u8])
 
 /// Appends the digits of bytes whose high one is first.
 fn put_all(out: &mut Line, bytes: &[u8])
-    requires room { array_vec_len out.old + 2 * length bytes.now ≤ 512 }
-    ensures items { out.new.items ≡ out.old.items ++ flat_map digits2 bytes.now }
-    ensures len { array_vec_len out.new ≡ array_vec_len out.old + 2 * length bytes.now }
+    requires room { len_with out.old 2 bytes.now ≤ 512 }
+    ensures items { Extends out.old (flat_map digits2 bytes.now) out.new }
+    ensures len { array_vec_len out.new ≡ len_with out.old 2 bytes.now }
 {
     for byte in bytes {
         put_digits2(out, *byte);
@@ -36,7 +36,7 @@ fn put_all(out: &mut Line, bytes: &[u8])
 
 fn put_entry(out: &mut Line, directive: Directive, bytes: &[u8])
     requires room { array_vec_len out.old + 1 + 2 * length bytes.now ≤ 512 }
-    ensures items { out.new.items ≡ out.old.items ++ entry_text directive bytes.now }
+    ensures items { Extends out.old (entry_text directive bytes.now) out.new }
     ensures len { array_vec_len out.new ≡ array_vec_len out.old + 1 + 2 * length bytes.now }
 {
     out.push(b'$');
@@ -50,10 +50,10 @@ fn put_entry(out: &mut Line, directive: Directive, bytes: &[u8])
 #[tactic(auto, using(crate::proofs::TableTexts::entry_put))]
 fn put_first_entry<'a>(out: &mut Line, directive: Directive, bytes: &'a [u8]) -> &'a [u8]
     requires some { entry_len directive ≤ length bytes.now }
-    requires room { array_vec_len out.old + 3 * length bytes.now ≤ 512 }
-    ensures items { out.new.items ++ flat_map (next_text (entry_text directive)) (entries directive result.now)
-        ≡ out.old.items ++ numbers_text directive bytes.now }
-    ensures len { array_vec_len out.new + 3 * length result.now < array_vec_len out.old + 3 * length bytes.now }
+    requires room { len_with out.old 3 bytes.now ≤ 512 }
+    ensures items { Lists (entry_text directive) out.old (entries directive bytes.now)
+        out.new (entries directive result.now) }
+    ensures len { len_with out.new 3 result.now < len_with out.old 3 bytes.now }
     ensures fewer { length result.now < length bytes.now }
 {
     let (entry, rest) = bytes.split_at(directive.entry_len());
@@ -64,9 +64,9 @@ fn put_first_entry<'a>(out: &mut Line, directive: Directive, bytes: &'a [u8]) ->
 /// Appends the entries of the bytes, joined by commas.
 pub(super) fn put_entries(out: &mut Line, directive: Directive, bytes: &[u8])
     requires some { entry_len directive ≤ length bytes.now }
-    requires room { array_vec_len out.old + 3 * length bytes.now ≤ 512 }
-    ensures items { out.new.items ≡ out.old.items ++ numbers_text directive bytes.now }
-    ensures len { array_vec_len out.new ≤ array_vec_len out.old + 3 * length bytes.now }
+    requires room { len_with out.old 3 bytes.now ≤ 512 }
+    ensures items { Extends out.old (numbers_text directive bytes.now) out.new }
+    ensures len { array_vec_len out.new ≤ len_with out.old 3 bytes.now }
 {
     let mut rest = put_first_entry(out, directive, bytes);
     'entries: while rest.len() >= directive.entry_len() {
@@ -92,9 +92,9 @@ fn stretch_len(bytes: &[u8]) -> usize
 /// it.
 fn put_first_datum<'a>(out: &mut Line, bytes: &'a [u8]) -> &'a [u8]
     requires some { 1 ≤ length bytes.now }
-    requires room { array_vec_len out.old + 4 * length bytes.now ≤ 512 }
-    ensures items { out.new.items ++ flat_map (next_text datum_text) (cut_text result.now) ≡ out.old.items ++ data_text (cut_text bytes.now) }
-    ensures len { array_vec_len out.new + 4 * length result.now < array_vec_len out.old + 4 * length bytes.now }
+    requires room { len_with out.old 4 bytes.now ≤ 512 }
+    ensures items { Lists datum_text out.old (cut_text bytes.now) out.new (cut_text result.now) }
+    ensures len { len_with out.new 4 result.now < len_with out.old 4 bytes.now }
     ensures fewer { length result.now < length bytes.now }
 {
     let len = stretch_len(bytes);
@@ -115,9 +115,9 @@ fn put_first_datum<'a>(out: &mut Line, bytes: &'a [u8]) -> &'a [u8]
 /// Appends the bytes as text.
 pub(super) fn put_text(out: &mut Line, bytes: &[u8])
     requires some { 1 ≤ length bytes.now }
-    requires room { array_vec_len out.old + 4 * length bytes.now ≤ 512 }
-    ensures items { out.new.items ≡ out.old.items ++ data_text (cut_text bytes.now) }
-    ensures len { array_vec_len out.new ≤ array_vec_len out.old + 4 * length bytes.now }
+    requires room { len_with out.old 4 bytes.now ≤ 512 }
+    ensures items { Extends out.old (data_text (cut_text bytes.now)) out.new }
+    ensures len { array_vec_len out.new ≤ len_with out.old 4 bytes.now }
 {
     let mut rest = put_first_datum(out, bytes);
     'data: while !rest.is_empty() {

@@ -1,10 +1,10 @@
 //! The parts of a line, each taken as long as it can be.
 
-ghost use Rattle.std.specs.Prelude.{◌≡◌, ◌+◌, ◌<◌, ◌≤◌, [], ◌∷◌, length, MatchOption, drop, slice_index, false, true};
+ghost use Rattle.std.specs.Prelude.{◌≡◌, ◌<◌, ◌≤◌, [], ◌∷◌, length, MatchOption, slice_index, false, true};
 ghost use Rattle.std.specs.List.{prefix_len};
 ghost use Rattle.std.specs.Char.{is_ascii_digit, is_ascii_hexdigit};
 ghost use Rattle.text65.specs.Names.{is_blank, is_word_byte};
-ghost use Rattle.stmt65.specs.Words.{Language, alone_at, hex_len, is_binary_digit, is_character, is_text_byte, is_word_start, part_at, part_of, parts};
+ghost use Rattle.stmt65.specs.Words.{Language, alone_at, cut_by, hex_len, is_binary_digit, is_character, is_text_byte, is_word_start, part_at, part_of, parts};
 
 use crate::language::Language;
 use text65::{is_blank, is_word_byte};
@@ -96,8 +96,8 @@ fn is_character(bytes: &[u8]) -> bool
 /// The part that begins with the first byte, which begins none of a listing but itself, and how many of the bytes after it belong to it.
 fn alone_at(language: Language, bytes: &[u8]) -> (Part<'_>, usize)
     requires { 0 < length bytes.now }
-    ensures part { part_of result.0 ≡ (alone_at language (slice_index bytes.now 0) (drop 1 bytes.now)).0 }
-    ensures more { result.1 ≡ (alone_at language (slice_index bytes.now 0) (drop 1 bytes.now)).1 }
+    ensures part { part_of result.0 ≡ (cut_by (alone_at language) bytes.now).0 }
+    ensures more { result.1 ≡ (cut_by (alone_at language) bytes.now).1 }
     ensures fits { result.1 < length bytes.now }
 {
     let [first, after @ ..] = bytes else {
@@ -122,8 +122,8 @@ fn alone_at(language: Language, bytes: &[u8]) -> (Part<'_>, usize)
 #[tactic(auto, unfolding(crate::specs::Lexing::part_at), using(crate::proofs::PartLemmas::longest))]
 fn part_at(language: Language, bytes: &[u8]) -> (Part<'_>, usize)
     requires { 0 < length bytes.now }
-    ensures part { part_of result.0 ≡ (part_at language (slice_index bytes.now 0) (drop 1 bytes.now)).0 }
-    ensures more { result.1 ≡ (part_at language (slice_index bytes.now 0) (drop 1 bytes.now)).1 }
+    ensures part { part_of result.0 ≡ (cut_by (part_at language) bytes.now).0 }
+    ensures more { result.1 ≡ (cut_by (part_at language) bytes.now).1 }
     ensures fits { result.1 < length bytes.now }
 {
     let [first, after @ ..] = bytes else {

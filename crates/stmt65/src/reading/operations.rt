@@ -1,7 +1,7 @@
 //! Operations: a mnemonic with its operand, or an operation of the assembler.
 
-ghost use Rattle.std.specs.Prelude.{◌≡◌, IfOk, List, Option, map};
-ghost use Rattle.stmt65.specs.Words.{Gives, Part, Reads, Shortens, data_of, datum_of, further_at, half_datum, list_of, mark_datum, next_datum, next_half, operand_in, operation_at, other_at, reserve_of, segment_of, takes_accumulator, text_in, word_datum};
+ghost use Rattle.std.specs.Prelude.{◌≡◌, List, Option, map};
+ghost use Rattle.stmt65.specs.Words.{Gives, GivesIfOk, Part, Reads, Shortens, data_of, datum_of, further_at, half_datum, list_of, mark_datum, next_datum, next_half, operand_in, operation_at, other_at, reserve_of, segment_of, takes_accumulator, text_in, word_datum};
 ghost use Rattle.stmt65.specs.Code.SourceLineViews.{form_of as form_of_code, operation_of as operation_of_code};
 ghost use Rattle.stmt65.specs.Reading.{instruction_of, operation_of};
 
@@ -156,7 +156,7 @@ fn list_in<'a, R: Copy, T: Listed<'a, R> + Drop, A: Allocator>(
     rule: R,
     parts: &mut Parts<'a>,
 ) -> Result<Option<Vec<T, A>>, AllocError>
-    ensures { IfOk result (λ found. Gives (λ v. map T.seen v.items) found (list_of (T.first_in rule) parts.old)) }
+    ensures { GivesIfOk (λ v. map T.seen v.items) result (list_of (T.first_in rule) parts.old) }
 {
     let mut found = Vec::new(alloc);
     'reads: loop {
@@ -240,7 +240,7 @@ fn data<'a, A: Allocator>(
     language: Language,
     parts: &mut Parts<'a>,
 ) -> Result<Option<Operation<'a, A>>, AllocError>
-    ensures { IfOk result (λ found. Gives operation_of_code found (data_of (next_datum language) parts.old)) }
+    ensures { GivesIfOk operation_of_code result (data_of (next_datum language) parts.old) }
 {
     match list_in(alloc, language, parts)? {
         Some(data) => Ok(Some(Operation::Data(data))),
@@ -254,7 +254,7 @@ fn halves<'a, A: Allocator>(
     half: Half,
     parts: &mut Parts<'a>,
 ) -> Result<Option<Operation<'a, A>>, AllocError>
-    ensures { IfOk result (λ found. Gives operation_of_code found (data_of (next_half half) parts.old)) }
+    ensures { GivesIfOk operation_of_code result (data_of (next_half half) parts.old) }
 {
     match list_in(alloc, half, parts)? {
         Some(data) => Ok(Some(Operation::Data(data))),
@@ -287,7 +287,7 @@ fn further_at<'a, A: Allocator>(
     word: &'a [u8],
     parts: &mut Parts<'a>,
 ) -> Result<Option<Operation<'a, A>>, AllocError>
-    ensures { IfOk result (λ found. Gives operation_of_code found (further_at language word.now parts.old)) }
+    ensures { GivesIfOk operation_of_code result (further_at language word.now parts.old) }
 {
     if language == Language::Listing {
         return Ok(instruction(Language::Listing, word, parts));
@@ -312,7 +312,7 @@ fn other_at<'a, A: Allocator>(
     word: &'a [u8],
     parts: &mut Parts<'a>,
 ) -> Result<Option<Operation<'a, A>>, AllocError>
-    ensures { IfOk result (λ found. Gives operation_of_code found (other_at language word.now parts.old)) }
+    ensures { GivesIfOk operation_of_code result (other_at language word.now parts.old) }
 {
     if is_word(word, b".byte") {
         return data(alloc, language, parts);
@@ -344,7 +344,7 @@ pub fn operation_at<'a, A: Allocator>(
     word: &'a [u8],
     parts: &mut Parts<'a>,
 ) -> Result<Option<Operation<'a, A>>, AllocError>
-    ensures { IfOk result (λ found. Gives operation_of_code found (operation_at language word.now parts.old)) }
+    ensures { GivesIfOk operation_of_code result (operation_at language word.now parts.old) }
 {
     match Directive::from_word(word) {
         Some(directive) => match list_in(alloc, language, parts)? {
@@ -362,7 +362,7 @@ pub fn operation_of<'a, A: Allocator>(
     language: Language,
     parts: &mut Parts<'a>,
 ) -> Result<Option<Operation<'a, A>>, AllocError>
-    ensures { IfOk result (λ found. Gives operation_of_code found (operation_of language parts.old)) }
+    ensures { GivesIfOk operation_of_code result (operation_of language parts.old) }
 {
     match parts.next() {
         None => Ok(Some(Operation::Nothing)),

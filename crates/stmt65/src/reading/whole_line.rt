@@ -1,9 +1,9 @@
 //! What a line says.
 
-ghost use Rattle.std.specs.Prelude.{◌≡◌, IfOk, Option, Some, None, drop, if◌then◌else◌};
+ghost use Rattle.std.specs.Prelude.{◌≡◌, Some, None, drop};
 ghost use Rattle.std.specs.Bool.{OnTrue, OnFalse};
 ghost use Rattle.std.specs.Option.{option_copied, option_map};
-ghost use Rattle.stmt65.specs.Words.{Gives, constant_of, is_equals, is_name, line_at, number_of_name, operation_at, parts, reading_of, source_of, stated};
+ghost use Rattle.stmt65.specs.Words.{Gives, GivesIfOk, constant_of, if_name, is_equals, line_at, number_of_name, operation_at, parts, reading_of, source_of, stated};
 ghost use Rattle.stmt65.specs.Code.SourceLineViews.{operation_of};
 ghost use Rattle.stmt65.specs.Reading.{operation_of as operation_read};
 
@@ -65,7 +65,7 @@ fn labelled<'a, A: Allocator>(
     word: &'a [u8],
     parts: &mut Parts<'a>,
 ) -> Result<Option<SourceLine<'a, A>>, AllocError>
-    ensures { IfOk result (λ found. Gives source_of found (if is_name word.now then stated (Some word.now) (operation_read language parts.old) else None)) }
+    ensures { GivesIfOk source_of result (if_name word.now (stated (Some word.now) (operation_read language parts.old))) }
 {
     if !is_name(word) {
         return Ok(None);
@@ -76,7 +76,7 @@ fn labelled<'a, A: Allocator>(
 
 /// After a name and `:=`, if it is one.
 fn defined<'a, A: Allocator>(word: &'a [u8], parts: &mut Parts<'a>) -> Option<SourceLine<'a, A>>
-    ensures { Gives source_of result (if is_name word.now then constant_of word.now parts.old else None) }
+    ensures { Gives source_of result (if_name word.now (constant_of word.now parts.old)) }
 {
     if !is_name(word) {
         return None;
@@ -86,7 +86,7 @@ fn defined<'a, A: Allocator>(word: &'a [u8], parts: &mut Parts<'a>) -> Option<So
 
 /// After a name and `=`, if it is one.
 fn equal<'a, A: Allocator>(word: &'a [u8], parts: &mut Parts<'a>) -> Option<SourceLine<'a, A>>
-    ensures { Gives source_of result (if is_name word.now then number_of_name word.now parts.old else None) }
+    ensures { Gives source_of result (if_name word.now (number_of_name word.now parts.old)) }
 {
     if !is_name(word) {
         return None;
@@ -101,7 +101,7 @@ fn unlabelled<'a, A: Allocator>(
     word: &'a [u8],
     parts: &mut Parts<'a>,
 ) -> Result<Option<SourceLine<'a, A>>, AllocError>
-    ensures { IfOk result (λ found. Gives source_of found (stated None (operation_at language word.now parts.old))) }
+    ensures { GivesIfOk source_of result (stated None (operation_at language word.now parts.old)) }
 {
     let operation = operation_at(alloc, language, word, parts)?;
     Ok(stated(None, operation))
@@ -127,7 +127,7 @@ fn line_at<'a, A: Allocator>(
     word: &'a [u8],
     parts: &mut Parts<'a>,
 ) -> Result<Option<SourceLine<'a, A>>, AllocError>
-    ensures { IfOk result (λ found. Gives source_of found (line_at language word.now parts.old)) }
+    ensures { GivesIfOk source_of result (line_at language word.now parts.old) }
 {
     if parts.eat(b':') {
         return labelled(alloc, language, word, parts);
@@ -148,7 +148,7 @@ fn read_parts<'a, A: Allocator>(
     language: Language,
     parts: &mut Parts<'a>,
 ) -> Result<Option<SourceLine<'a, A>>, AllocError>
-    ensures { IfOk result (λ found. Gives source_of found (reading_of language parts.old)) }
+    ensures { GivesIfOk source_of result (reading_of language parts.old) }
 {
     match parts.next() {
         None => Ok(Some(SourceLine::Statement {
@@ -169,7 +169,7 @@ pub fn read_line<'a, A: Allocator>(
     language: Language,
     line: &'a [u8],
 ) -> Result<Option<SourceLine<'a, A>>, AllocError>
-    ensures { IfOk result (λ found. Gives source_of found (reading_of language (parts language line.now))) }
+    ensures { GivesIfOk source_of result (reading_of language (parts language line.now)) }
 {
     let mut parts = Parts::new(language, line);
     read_parts(alloc, language, &mut parts)
