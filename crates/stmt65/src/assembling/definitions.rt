@@ -18,7 +18,7 @@ pub struct Definitions<'t, 'l, 'n, 'b, L: Allocator = Global, A: Allocator = Glo
 }
 
 impl<'t, 'l, 'n, 'b, L: Allocator, A: Allocator> Model for Definitions<'t, 'l, 'n, 'b, L, A> {
-    ghost use Rattle.std.specs.Prelude.{◌≡◌, List, map};
+    ghost use Rattle.std.specs.Prelude.{◌≡◌, List};
     ghost use Rattle.stmt65.specs.Symbols.{Definition};
     ghost use Rattle.stmt65.specs.Sources.{source_definitions};
     ghost use Rattle.stmt65.specs.Code.MeaningViews.{held_definitions};
