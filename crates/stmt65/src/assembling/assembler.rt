@@ -136,6 +136,7 @@ fn take_down<A: Allocator>(
 }
 
 /// The names that the text defines, and the work on its lines. Takes down the address after each line, if these are wanted.
+#[tactic(auto, using(crate::proofs::PassLaws::passed))]
 pub fn first_pass<'a, 'b, 'l, 'n, L: Allocator + Clone, A: Allocator, C: Allocator>(
     alloc: &'b A,
     source: &Source<'a, 'l, 'n, L>,

@@ -41,6 +41,7 @@ fn datum_len(datum: &Datum) -> u64
     }
 }
 
+#[tactic(auto, using(crate::proofs::CodingLemmas::data_step))]
 fn data_len(items: &[Datum]) -> u64
     ensures { result ≡ held (coding_len (data_fragments items.now)) }
 {

@@ -31,7 +31,7 @@ pub fn finds_lowest_fault()
 /// A text has bytes exactly when no line has a fault, and they are those of its lines in order. Each
 /// line stands at the start plus the number of bytes of the lines above it, and each byte is given by the
 /// first line after which the address is greater than its own.
-#[tactic(auto, using(crate::proofs::TextLemmas::stands_at_its_bytes))]
+#[tactic(auto, using(crate::proofs::TextLemmas::stands_at_its_bytes, crate::proofs::AddressLemmas::finds_line))]
 pub fn means_its_lines()
     ensures bytes { MeansBytes }
     ensures stands { StandsAtItsBytes }

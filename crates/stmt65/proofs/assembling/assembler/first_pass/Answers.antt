@@ -1,7 +1,7 @@
 use Rattle.std.proofs.Common.{◌++◌, ◌∙◌, ℕ, List, ap, arith}
 use Rattle.stmt65.specs.Words.{State, readings, source_readings, state_in}
 use Rattle.stmt65.proofs.AddressLemmas.{addresses_step, found_lines, held_addresses}
-use Rattle.stmt65.proofs.PassLaws.{at_start, at_next, passed}
+use Rattle.stmt65.proofs.PassLaws.{at_start, at_next}
 use Rattle.stmt65.proofs.assembling.assembler.first_pass.Goals as goal
 
 pub lines-init : goal.lines-init
@@ -20,9 +20,6 @@ lines-preserved g c = record {
       ap (λ (l : List ℕ). l ++ held_addresses (state_in c.pass_line.new.pass) (readings c.args.source.now.language c.in-Some.after.now)) taken
       ∙ addresses_step c.args.source.now.language (state_in c.lines.pass) (state_in c.pass_line.new.pass) c.lines.rest.now c.in-Some.line.now c.in-Some.after.now c.lines.ends.items _ (c.lines.invariant.ends wanted) c.in-Some.ensures.0 c.in_ok-pass_line.ensures.state;
 }
-
-pub returns-clause-passed : goal.returns-clause-passed
-returns-clause-passed g c = passed c.args.source.now c.lines.number c.lines.pass c.lines.rest.now c.lines.invariant.at c.in_default.ensures
 
 pub returns-clause-ends : goal.returns-clause-ends
 returns-clause-ends g c = λ wanted.

@@ -1,9 +1,5 @@
-use Rattle.stmt65.proofs.AddressLemmas.{finds_line}
 use Rattle.stmt65.proofs.TextLemmas.{means_bytes}
 use Rattle.stmt65.proofs.laws.meaning_laws.means_its_lines.Goals as goal
 
 pub returns-clause-bytes : goal.returns-clause-bytes
 returns-clause-bytes c = means_bytes
-
-pub returns-clause-finds : goal.returns-clause-finds
-returns-clause-finds c = finds_line
