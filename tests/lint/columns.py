@@ -12,8 +12,8 @@ CLAUSE, SCRIPT, PAGE, MANUAL = 100, 140, 120, 80
 WIDER = {
     "isa65": 2,
     "text65": 1,
-    "stmt65": 21,
-    "info65": 51,
+    "stmt65": 83,
+    "info65": 25,
     "map65": 13,
     "usage65": 5,
     "da65": 27,

@@ -78,9 +78,13 @@ abbrev pub closed_by : List GroupView → GroupKind → List AssignmentView → 
 closed_by before k given line None = Ok (closed, before ++ group k given ∷ [])
 closed_by before k given line (Some f) = Err (fault line f)
 
+-- the end of the group
+abbrev pub at_end : List GroupView → GroupKind → List AssignmentView → ℕ → Result State InfoFault
+at_end before k given line = closed_by before k given line (closing_fault before k given)
+
 -- the name of an attribute, or the end of the group
 abbrev pub at_attribute : List GroupView → GroupKind → List AssignmentView → TokenView → KindView → Result State InfoFault
-at_attribute before k given t closing_brace = closed_by before k given t.line (closing_fault before k given)
+at_attribute before k given t closing_brace = at_end before k given t.line
 at_attribute before k given t word = attribute_at before k given t >>= λ a. Ok (valued k given a, before)
 at_attribute before k given t _ = Err (fault t.line Expected)
 

@@ -4,7 +4,7 @@ use Rattle.std.specs.Option.{option_to_list}
 use Rattle.std.specs.Str.{str_eq_ignore_ascii_case}
 use Rattle.info65.specs.Faults.{fault, ◌>>=◌}
 use Rattle.info65.specs.Lexemes.{KindView, closing_brace, number, opening_brace, semicolon, word}
-use Rattle.info65.specs.Tokens.{TokenView, tokens_of}
+use Rattle.info65.specs.Tokens.{Stream, TokenView, tokens_of}
 use Rattle.info65.specs.Types.{Expected, GivenTwice, InfoFault, Missing, OutOfRange, Spot, Tag, TagAttribute, TagKind, UnknownAttribute, UnknownGroup}
 use Rattle.info65.specs.declared.tags.place.Outcome.{Outcome}
 use Rattle.info65.specs.declared.tags.place.Place.{Place}
@@ -165,12 +165,16 @@ abbrev pub at_assigned : Tag → KindView → ℕ → Result Outcome InfoFault
 at_assigned t semicolon line = at_place (place.Inside t)
 at_assigned t _ line = Err (fault line Expected)
 
+-- what is done at a place by the kind, the line and the text of a token
+abbrev pub by_token : (KindView → ℕ → List ℕ → Result Outcome InfoFault) → TokenView → Result Outcome InfoFault
+by_token at t = at t.kind t.line t.text
+
 -- where the reader is after a token, and the group that it closes
 unfoldable pub tag_step : Place → TokenView → Result Outcome InfoFault
-tag_step place.Outside t = at_outside t.kind t.line t.text
-tag_step place.Closed t = at_closed t.kind t.line t.text
+tag_step place.Outside t = by_token at_outside t
+tag_step place.Closed t = by_token at_closed t
 tag_step (place.Opening k) t = at_opening k t.kind t.line
-tag_step (place.Inside tag) t = at_inside tag t.kind t.line t.text
+tag_step (place.Inside tag) t = by_token (at_inside tag) t
 tag_step (place.Valued tag a) t = at_valued tag a t.kind t.line
 tag_step (place.Assigned tag) t = at_assigned tag t.kind t.line
 
@@ -185,6 +189,10 @@ tags_from p found [] (Err e) = Err e
 tags_from p found [] (Ok line) = tag_end p line >>= λ ok. Ok found
 tags_from p found (t ∷ ts) ending = tag_step p t >>= λ o. tags_from o.place (found ++ option_to_list o.closed) ts ending
 
+-- the groups of these tokens
+abbrev pub tags_in : Stream → Result (List Tag) InfoFault
+tags_in s = tags_from place.Outside [] s.tokens s.ending
+
 -- the groups of the lines `#: ..`, or the first fault, at its line of the file
 unfoldable pub tags_of : List ℕ → Result (List Tag) InfoFault
-tags_of bytes = tags_from place.Outside [] (tokens_of 1 (tagged_text bytes)).tokens (tokens_of 1 (tagged_text bytes)).ending
+tags_of bytes = tags_in (tokens_of 1 (tagged_text bytes))

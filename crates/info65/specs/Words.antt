@@ -5,23 +5,24 @@ pub use Rattle.info65.specs.Closing.{include_fault, label_fault, optional_name_f
 unfoldable pub use Rattle.info65.specs.Closing.{closing_fault}
 pub use Rattle.info65.specs.Code.Classes.{bit_of}
 unfoldable pub use Rattle.info65.specs.Code.Classes.{classes_of}
-pub use Rattle.info65.specs.Code.Groups.{IsAtMost, assignment_seen, group_seen, value_seen}
+pub use Rattle.info65.specs.Code.GroupLists.{before_seen}
+pub use Rattle.info65.specs.Code.Groups.{IsAtMost, MayClose, assigned_seen, assignment_seen, global_seen, group_seen, groups_seen, value_seen}
 pub use Rattle.info65.specs.Code.Includes.{Includes, ReadsFile, name_result_seen, named_seen, with_added}
 pub use Rattle.info65.specs.Code.Index.{AreMarked, AreRanged, AreSetToo, IsFoundAt, IsIndex, StandsIn, numbered, stands_by, text_at}
 unfoldable pub use Rattle.info65.specs.Code.Index.{any_in}
 pub use Rattle.info65.specs.Code.Kept.{kept_part}
 unfoldable pub use Rattle.info65.specs.Code.Kept.{kept_of}
 pub use Rattle.info65.specs.Code.Lookup.{IsRangeFault, IsSegmentFault, RangesToo, SegmentsToo}
-pub use Rattle.info65.specs.Code.Names.{given_seen}
-pub use Rattle.info65.specs.Code.Numbers.{NumbersView, SamePages}
+pub use Rattle.info65.specs.Code.Names.{given_part, given_seen}
+pub use Rattle.info65.specs.Code.Numbers.{ArePages, HasCell, IsSet, NumbersView, SamePages}
 pub use Rattle.info65.specs.Code.Pool.{AreAbove, AreBlocks, IsPool, IsWithin, ReachTo, blank_entry, bytes_of, entry_covers, entry_seen, optional, reach_of, span_of}
 unfoldable pub use Rattle.info65.specs.Code.Pool.{block_start}
 pub use Rattle.info65.specs.Code.Reading.{AlwaysMoves, Leads, Moves, ReadsGroup, TakesToken, is_semicolon, place_after}
-pub use Rattle.info65.specs.Code.Results.{Fails, Gives, Sees}
-pub use Rattle.info65.specs.Code.SegmentTable.{AreFound, AreKeys, AreStarts, IsHolder, IsKeyAt, IsOrder, IsPlace, IsRest, IsSlotted, IsSplit, IsStart, blank_start, key_by, key_found, start_at}
-pub use Rattle.info65.specs.Code.Segments.{parts_seen, segment_seen}
-pub use Rattle.info65.specs.Code.Steps.{Steps, kind_seen, lexeme_seen, seen}
-pub use Rattle.info65.specs.Code.Texts.{AddsText, TextsView, texts_seen}
+pub use Rattle.info65.specs.Code.Results.{Appends, Fails, Gives, MayName, Sees}
+pub use Rattle.info65.specs.Code.SegmentTable.{AreFound, AreKeys, AreStarts, IsHolder, IsKeyAt, IsOrder, IsPlace, IsRest, IsSlotted, IsSplit, IsStart, IsTable, blank_start, key_by, key_found, start_at}
+pub use Rattle.info65.specs.Code.Segments.{parts_seen, segment_seen, segments_seen}
+pub use Rattle.info65.specs.Code.Steps.{Hands, Steps, kind_seen, lexeme_seen, seen}
+pub use Rattle.info65.specs.Code.Texts.{AddsText, StandsAlike, TextsView, texts_seen}
 unfoldable pub use Rattle.info65.specs.Code.Texts.{hash_from, slot_of}
 pub use Rattle.info65.specs.Code.Turns.{Turns, done, stepped, turn_of}
 pub use Rattle.info65.specs.Comments.{unless_empty}
@@ -47,7 +48,7 @@ pub use Rattle.info65.specs.Names.{AreGiven, AreNames, IsComment, IsName, blank_
 unfoldable pub use Rattle.info65.specs.Names.{covering, covering_below, default_name, has_comment_form, is_like_default, is_reserved}
 pub use Rattle.info65.specs.Ranges.{AreRanges, has_address, last_from, range_between, range_from, range_part}
 unfoldable pub use Rattle.info65.specs.Ranges.{overlaps, range_in, range_of_parts, ranges_of}
-pub use Rattle.info65.specs.Reader.{Place, State, after_group, assigned, at_attribute, at_brace, at_group, at_semicolon, closed, closed_by, group, inside, one, opened, opening, outside, valued, wanted}
+pub use Rattle.info65.specs.Reader.{Place, State, after_group, assigned, at_attribute, at_brace, at_end, at_group, at_semicolon, closed, closed_by, group, inside, one, opened, opening, outside, valued, wanted}
 unfoldable pub use Rattle.info65.specs.Reader.{attribute_at, finish, groups_of, information, read, read_from, read_token, step}
 pub use Rattle.info65.specs.SegmentLaws.{CoversOne, SaysSegment, SegmentsApart, SegmentsShare}
 pub use Rattle.info65.specs.Segments.{AreSegments, IsSegment, blank_segment, contains, segment_at, segment_from, segment_part}
@@ -55,7 +56,7 @@ unfoldable pub use Rattle.info65.specs.Segments.{first_named, meets, segment_cov
 pub use Rattle.info65.specs.Settings.{info_of}
 unfoldable pub use Rattle.info65.specs.Settings.{settings_of}
 pub use Rattle.info65.specs.Standing.{Stand, TokensStand, feeds, is_gap, is_solid}
-pub use Rattle.info65.specs.Tags.{at_assigned, at_closed, at_inside, at_opening, at_outside, at_valued, attributed, blank_tag, ended_at, is_backward, is_value, lacks, tagged_text, with_value}
+pub use Rattle.info65.specs.Tags.{at_assigned, at_closed, at_inside, at_opening, at_outside, at_valued, attributed, blank_tag, by_token, ended_at, is_backward, is_value, lacks, tagged_text, tags_in, with_value}
 unfoldable pub use Rattle.info65.specs.Tags.{spot_after, tag_attribute, tag_end, tag_named, tag_step, tagged_byte, tagged_from, tags_from, tags_of}
 pub use Rattle.info65.specs.Tokens.{Stream, TokenView, ended, found, is_blank, opens_comment, refused, stops, tokens_of, with_token}
 unfoldable pub use Rattle.info65.specs.Tokens.{tokens_after}

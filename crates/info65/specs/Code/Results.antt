@@ -1,7 +1,10 @@
 -- What a call returns beside what the rules give: any call that allocates may be out of memory.
-use Rattle.std.specs.Prelude.{◌≡◌, ◌⊎◌, Result, Ok, Err}
+use Rattle.std.specs.Prelude.{◌≡◌, ◌⊎◌, ◌++◌, List, Option, Result, Ok, Err, option_map}
+use Rattle.std.specs.declared.vec.Vec.{Vec}
+use Rattle.info65.specs.Code.Names.{given_seen}
 use Rattle.info65.specs.Faults.{out_of_memory}
-use Rattle.info65.specs.Types.{InfoFault}
+use Rattle.info65.specs.Views.{NameView}
+use Rattle.info65.specs.Types.{Given, InfoFault}
 
 -- a refusal is that of the definition, unless an allocation failed
 abbrev pub Fails : {A : Type 0} → InfoFault → Result A InfoFault → Type 0
@@ -16,3 +19,11 @@ Gives seen (Err e) defined = Fails e defined
 abbrev pub Sees : {X A E : Type 0} → (X → A) → Result X E → Result A E → Type 0
 Sees seen (Ok x) defined = defined ≡ Ok (seen x)
 Sees seen (Err e) defined = defined ≡ Err e
+
+-- the same, if it may return a name
+abbrev pub MayName : {E : Type 0} → Result (Option Given) E → Result (Option NameView) E → Type 0
+MayName result defined = Sees (option_map given_seen) result defined
+
+-- this is put after what was there
+abbrev pub Appends : {X A : Type 0} → Vec X A → Vec X A → List X → Type 0
+Appends old new xs = new.items ≡ old.items ++ xs

@@ -31,6 +31,6 @@ AddsText old text address number new t =
     ⊎ (((old.slotted t ≢ 0) × (bytes_eq t text ≡ true) × (new.slotted t ≡ old.slotted t) × (new.others t ≡ Some address))
     ⊎ ((bytes_eq t text ≡ false) × (new.slotted t ≡ old.slotted t) × (new.others t ≡ old.others t)))
 
--- a text stands where it did
-abbrev pub StandsAlike : TextsView → TextsView → List ℕ → Type 0
-StandsAlike old new t = (new.slotted t ≡ old.slotted t) × (new.others t ≡ old.others t)
+-- each text stands where it did
+abbrev pub StandsAlike : TextsView → TextsView → Type 0
+StandsAlike old new = (t : List ℕ) → (new.slotted t ≡ old.slotted t) × (new.others t ≡ old.others t)

@@ -1,7 +1,7 @@
 //! The groups of an information file that are closed.
 
-ghost use Rattle.std.specs.Prelude.{◌≡◌, ◌++◌, IfErr, IfOk, map, option_map, option_to_list};
-ghost use Rattle.info65.specs.Words.{assignment_seen, given_seen, group, group_seen, kept_part, name_part, out_of_memory, range_part};
+ghost use Rattle.std.specs.Prelude.{◌≡◌, ◌++◌, IfErr, OnOk, option_to_list};
+ghost use Rattle.info65.specs.Words.{assigned_seen, given_part, group, group_seen, groups_seen, kept_part, name_part, out_of_memory, range_part};
 
 use crate::fault::{InfoFault, InfoFaultKind};
 use crate::groups::group_list::GroupList;
@@ -34,8 +34,8 @@ pub struct Closed<'a, A: Allocator> {
 }
 
 impl<'a, A: Allocator> Model for Closed<'a, A> {
-    ghost use Rattle.std.specs.Prelude.{List, map};
-    ghost use Rattle.info65.specs.Code.Groups.{group_seen};
+    ghost use Rattle.std.specs.Prelude.{List};
+    ghost use Rattle.info65.specs.Code.Groups.{groups_seen};
     ghost use Rattle.info65.specs.Code.Kept.{AreKept};
     ghost use Rattle.info65.specs.Groups.{GroupView};
 
@@ -43,7 +43,7 @@ impl<'a, A: Allocator> Model for Closed<'a, A> {
 
     ghost view = { λ c. c.groups };
 
-    ghost invariant = { λ c. AreKept c.groups (map group_seen c.kept.items) c.ranges.items c.names c.ranged.items c.segmented.items };
+    ghost invariant = { λ c. AreKept c.groups (groups_seen c.kept.items) c.ranges.items c.names c.ranged.items c.segmented.items };
 }
 
 // Adds a group to those that are read again, if it is one, and returns a list for what is given in the next group: that of
@@ -53,7 +53,7 @@ fn keep<'a, A: Allocator>(
     kept: &mut Vec<Group<'a, A>, A>,
     group: Group<'a, A>,
 ) -> Result<Vec<Assignment<'a>, A>, InfoFault>
-    ensures done { IfOk result (λ _. map group_seen kept.new.items ≡ map group_seen kept.old.items ++ kept_part (group_seen group.entry)) }
+    ensures done { OnOk result (groups_seen kept.new.items ≡ groups_seen kept.old.items ++ kept_part (group_seen group.entry)) }
     ensures err { IfErr result (λ e. e ≡ out_of_memory) }
 {
     let Group { kind, given } = group;
@@ -72,8 +72,8 @@ fn name_part<'a>(
     given: &[Assignment<'a>],
     range: Option<RangeSpec>,
 ) -> Option<Given<'a>>
-    requires { option_to_list range ≡ range_part (group kind (map assignment_seen given.now)) }
-    ensures { option_to_list (option_map given_seen result) ≡ name_part (group kind (map assignment_seen given.now)) }
+    requires { option_to_list range ≡ range_part (group kind (assigned_seen given.now)) }
+    ensures { given_part result ≡ name_part (group kind (assigned_seen given.now)) }
 {
     match kind {
         GroupKind::Range => match range {
@@ -86,13 +86,12 @@ fn name_part<'a>(
 }
 
 impl<'a, A: Allocator + Copy> Closed<'a, A> {
-    ghost use Rattle.std.specs.Prelude.{◌≡◌, ◌∷◌, ◌++◌, IfErr, IfOk, List, None, Ok, [], map};
+    ghost use Rattle.std.specs.Prelude.{◌≡◌, ◌∷◌, ◌++◌, IfErr, IfOk, Ok, []};
     ghost use Rattle.info65.specs.Closing.{closing_fault};
-    ghost use Rattle.info65.specs.Code.Groups.{assignment_seen, group_seen};
+    ghost use Rattle.info65.specs.Code.Groups.{MayClose, assigned_seen, group_seen, groups_seen};
     ghost use Rattle.info65.specs.Code.Kept.{kept_of};
     ghost use Rattle.info65.specs.Code.Results.{Gives};
     ghost use Rattle.info65.specs.Faults.{out_of_memory};
-    ghost use Rattle.info65.specs.Groups.{GroupView};
     ghost use Rattle.info65.specs.Labels.{by_address, names_said};
     ghost use Rattle.info65.specs.Ranges.{ranges_of};
 
@@ -118,7 +117,7 @@ impl<'a, A: Allocator + Copy> Closed<'a, A> {
 
     /// The groups GLOBAL, SEGMENT and ASMINC, in their order.
     pub fn kept(&self) -> &[Group<'a, A>]
-        ensures { map group_seen result.now ≡ kept_of self.now }
+        ensures { groups_seen result.now ≡ kept_of self.now }
     {
         self.kept.as_slice()
     }
@@ -126,7 +125,7 @@ impl<'a, A: Allocator + Copy> Closed<'a, A> {
     /// The first fault of a group after these, where it closes.
     #[tactic(auto, unfolding(crate::specs::Closing::closing_fault))]
     pub fn closing_fault(&self, kind: GroupKind, given: &[Assignment<'a>]) -> Option<InfoFaultKind>
-        ensures { result ≡ closing_fault self.now kind (map assignment_seen given.now) }
+        ensures { result ≡ closing_fault self.now kind (assigned_seen given.now) }
     {
         match kind {
             GroupKind::Global => None,
@@ -143,7 +142,7 @@ impl<'a, A: Allocator + Copy> Closed<'a, A> {
         alloc: A,
         group: Group<'a, A>,
     ) -> Result<(Self, Vec<Assignment<'a>, A>), InfoFault>
-        requires { closing_fault self group.kind (map assignment_seen group.given.items) ≡ None }
+        requires { MayClose self group }
         ensures { Gives (λ c. c.0) result (Ok (self.entry ++ group_seen group.entry ∷ [])) }
     {
         let Closed {

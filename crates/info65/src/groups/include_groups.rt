@@ -1,7 +1,7 @@
 //! The include files that groups ASMINC say.
 
-ghost use Rattle.std.specs.Prelude.{◌≡◌, ◌<◌, ◌+◌, ◌^◌, ◌++◌, IfErr, IfOk, Ok, length, map, option_map, option_to_list};
-ghost use Rattle.info65.specs.Words.{AreAllFormed, AreFormed, Gives, Sees, assignment_seen, group_seen, has_room, include_in, include_part, includes_of, named_seen, out_of_memory};
+ghost use Rattle.std.specs.Prelude.{◌≡◌, ◌<◌, ◌+◌, ◌^◌, ◌++◌, IfErr, Ok, OnOk, length, option_map, option_to_list};
+ghost use Rattle.info65.specs.Words.{Appends, AreAllFormed, AreFormed, Gives, Sees, assigned_seen, group_seen, groups_seen, has_room, include_in, include_part, includes_of, named_seen, out_of_memory};
 
 use crate::fault::{InfoFault, InfoFaultKind};
 use crate::groups::group_values::value_in;
@@ -25,7 +25,7 @@ pub struct NamedFile<'a> {
 /// The include file that a group ASMINC says by what is given in it. It is Missing if FILE is not given.
 #[tactic(auto, unfolding(crate::specs::IncludeGroups::include_in))]
 pub fn include_in<'a>(given: &[Assignment<'a>]) -> Result<NamedFile<'a>, InfoFaultKind>
-    ensures { Sees named_seen result (include_in (map assignment_seen given.now)) }
+    ensures { Sees named_seen result (include_in (assigned_seen given.now)) }
 {
     let comment_start = as_character(value_in(given, Attribute::CommentStart));
     let ignore_unknown = as_boolean(value_in(given, Attribute::IgnoreUnknown));
@@ -62,7 +62,7 @@ fn counted<A: Allocator>(count: usize, group: &Group<A>) -> usize
 
 // How many include files the groups say.
 fn count<A: Allocator>(groups: &[Group<A>]) -> usize
-    ensures { result ≡ length (includes_of (map group_seen groups.now)) }
+    ensures { result ≡ length (includes_of (groups_seen groups.now)) }
 {
     let mut count = 0;
     for group in groups {
@@ -74,7 +74,7 @@ fn count<A: Allocator>(groups: &[Group<A>]) -> usize
 /// One more value of the attribute can be given after these groups: a FILE only after fewer than 16.
 #[tactic(auto, unfolding(crate::specs::IncludeGroups::has_room))]
 pub fn has_room<A: Allocator>(groups: &[Group<A>], attribute: Attribute) -> bool
-    ensures { result ≡ has_room (map group_seen groups.now) attribute }
+    ensures { result ≡ has_room (groups_seen groups.now) attribute }
 {
     match attribute {
         Attribute::File => count(groups) < MOST_FILES,
@@ -89,7 +89,7 @@ fn push_include<A: Allocator + Copy, B: Allocator>(
     group: &Group<B>,
 ) -> Result<(), InfoFault>
     requires { AreFormed (group_seen group.now).given }
-    ensures done { IfOk result (λ _. includes.new.items ≡ includes.old.items ++ include_part (group_seen group.now)) }
+    ensures done { OnOk result (Appends includes.old includes.new (include_part (group_seen group.now))) }
     ensures err { IfErr result (λ e. e ≡ out_of_memory) }
 {
     match include_part(group) {
@@ -111,8 +111,8 @@ pub fn includes_of<A: Allocator + Copy, B: Allocator>(
     alloc: A,
     groups: &[Group<B>],
 ) -> Result<Vec<IncludeSpec<A>, A>, InfoFault>
-    requires { AreAllFormed (map group_seen groups.now) }
-    ensures { Gives (λ includes. includes.items) result (Ok (includes_of (map group_seen groups.now))) }
+    requires { AreAllFormed (groups_seen groups.now) }
+    ensures { Gives (λ i. i.items) result (Ok (includes_of (groups_seen groups.now))) }
 {
     let mut includes = Vec::new(alloc);
     for group in groups {

@@ -1,7 +1,7 @@
 //! The names that groups LABEL and RANGE say.
 
-ghost use Rattle.std.specs.Prelude.{◌≡◌, ◌<◌, Ok, map, option_map};
-ghost use Rattle.info65.specs.Words.{Sees, assignment_seen, given_seen, label_in, label_sized, range_name};
+ghost use Rattle.std.specs.Prelude.{◌≡◌, ◌<◌, Ok, option_copied, option_map};
+ghost use Rattle.info65.specs.Words.{Sees, assigned_seen, given_seen, label_in, label_sized, range_name};
 
 use crate::fault::InfoFaultKind;
 use crate::groups::comments::comment_in;
@@ -15,7 +15,7 @@ use crate::syntax::attribute::Attribute;
 /// and OutOfRange where its addresses go past $FFFF.
 #[tactic(auto, unfolding(crate::specs::Labels::label_in))]
 pub fn label_in<'a>(given: &[Assignment<'a>]) -> Result<Given<'a>, InfoFaultKind>
-    ensures { Sees given_seen result (label_in (map assignment_seen given.now)) }
+    ensures { Sees given_seen result (label_in (assigned_seen given.now)) }
 {
     let address = as_address(value_in(given, Attribute::Address));
     let text = as_name(value_in(given, Attribute::Name));
@@ -34,7 +34,7 @@ fn label_sized<'a>(
     size: u32,
     comment: Option<&'a [u8]>,
 ) -> Result<Given<'a>, InfoFaultKind>
-    ensures { Sees given_seen result (label_sized address text.entry.now size (option_map (λ s. s.now) comment.entry)) }
+    ensures { Sees given_seen result (label_sized address text.entry.now size (option_copied comment.entry)) }
 {
     if u64::from(address) + u64::from(size) <= 0x1_0000 {
         Ok(Given {
@@ -51,7 +51,7 @@ fn label_sized<'a>(
 /// The name that a group RANGE says: that of its first address, with its comment.
 #[tactic(auto, unfolding(crate::specs::Labels::range_name))]
 pub fn range_name<'a>(given: &[Assignment<'a>], range: RangeSpec) -> Option<Given<'a>>
-    ensures { option_map given_seen result ≡ range_name (map assignment_seen given.now) range }
+    ensures { option_map given_seen result ≡ range_name (assigned_seen given.now) range }
 {
     match as_name(value_in(given, Attribute::Name)) {
         Some(text) => Some(Given {

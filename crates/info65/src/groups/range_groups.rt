@@ -1,7 +1,7 @@
 //! The ranges that groups RANGE say.
 
-ghost use Rattle.std.specs.Prelude.{◌≡◌, ◌≤◌, ◌++◌, IfErr, IfOk, IfSome, map, option_to_list};
-ghost use Rattle.info65.specs.Words.{GroupView, IsRangeFault, RangeSpec, RangesToo, assignment_seen, group_seen, last_from, out_of_memory, range_between, range_fault, range_in, range_of_parts, range_part};
+ghost use Rattle.std.specs.Prelude.{◌≡◌, ◌≤◌, ◌++◌, IfErr, IfSome, OnOk, option_to_list};
+ghost use Rattle.info65.specs.Words.{Appends, IsRangeFault, RangeSpec, RangesToo, assigned_seen, group_seen, last_from, out_of_memory, range_between, range_fault, range_in, range_of_parts, range_part};
 
 use crate::fault::{InfoFault, InfoFaultKind};
 use crate::groups::comments::lacks_name;
@@ -19,7 +19,7 @@ use std::alloc::Allocator;
 /// or past $FFFF.
 #[tactic(auto, unfolding(crate::specs::Ranges::range_in))]
 pub fn range_in(given: &[Assignment]) -> Result<RangeSpec, InfoFaultKind>
-    ensures { result ≡ range_in (map assignment_seen given.now) }
+    ensures { result ≡ range_in (assigned_seen given.now) }
 {
     if lacks_name(given) {
         return Err(InfoFaultKind::Missing);
@@ -29,7 +29,7 @@ pub fn range_in(given: &[Assignment]) -> Result<RangeSpec, InfoFaultKind>
 
 #[tactic(auto, unfolding(crate::specs::Ranges::range_of_parts))]
 fn range_of_parts(given: &[Assignment]) -> Result<RangeSpec, InfoFaultKind>
-    ensures { result ≡ range_of_parts (map assignment_seen given.now) }
+    ensures { result ≡ range_of_parts (assigned_seen given.now) }
 {
     let first = as_address(value_in(given, Attribute::Start));
     let end = as_address(value_in(given, Attribute::End));
@@ -77,7 +77,7 @@ pub fn range_fault<'a, A: Allocator + Copy>(
     names: &Index<'a, A>,
     given: &[Assignment<'a>],
 ) -> Option<InfoFaultKind>
-    ensures { IsRangeFault table.now names.now (map assignment_seen given.now) result }
+    ensures { IsRangeFault table.now names.now (assigned_seen given.now) result }
 {
     match range_in(given) {
         Err(fault) => Some(fault),
@@ -108,8 +108,8 @@ pub fn add_range<A: Allocator>(
     range: Option<RangeSpec>,
 ) -> Result<(), InfoFault>
     requires { IfSome range (λ r. r.first ≤ r.last) }
-    ensures done { IfOk result (λ _. ranges.new.items ≡ ranges.old.items ++ option_to_list range) }
-    ensures marked { IfOk result (λ _. (g : GroupView) → option_to_list range ≡ range_part g → RangesToo g table.old.items table.new.items) }
+    ensures done { OnOk result (Appends ranges.old ranges.new (option_to_list range)) }
+    ensures marked { OnOk result (RangesToo range table.old.items table.new.items) }
     ensures err { IfErr result (λ e. e ≡ out_of_memory) }
 {
     if let Some(range) = range {

@@ -1,7 +1,7 @@
 //! The segments that groups SEGMENT say.
 
-ghost use Rattle.std.specs.Prelude.{◌≡◌, ◌≤◌, IfErr, IfOk, None, Ok, Some, map, option_map, option_to_list};
-ghost use Rattle.info65.specs.Words.{Gives, IsSegmentFault, Sees, SegmentsToo, assignment_seen, group_seen, out_of_memory, parts_seen, segment_fault, segment_from, segment_in, segment_part, segment_seen, segments_of};
+ghost use Rattle.std.specs.Prelude.{◌≡◌, ◌≤◌, IfErr, IfOk, Ok, OnOk, Some, option_map, option_to_list};
+ghost use Rattle.info65.specs.Words.{Gives, IsSegmentFault, Sees, SegmentsToo, assigned_seen, group_seen, groups_seen, out_of_memory, parts_seen, segment_fault, segment_from, segment_in, segment_part, segment_seen, segments_of, segments_seen};
 
 use crate::fault::{InfoFault, InfoFaultKind};
 use crate::groups::group_values::value_in;
@@ -23,7 +23,7 @@ pub struct SegmentParts<'a> {
 /// not given, and OutOfRange where it ends before it begins.
 #[tactic(auto, unfolding(crate::specs::Segments::segment_in))]
 pub fn segment_in<'a>(given: &[Assignment<'a>]) -> Result<SegmentParts<'a>, InfoFaultKind>
-    ensures value { Sees parts_seen result (segment_in (map assignment_seen given.now)) }
+    ensures value { Sees parts_seen result (segment_in (assigned_seen given.now)) }
     ensures room { IfOk result (λ s. s.last ≤ 0xFFFF) }
 {
     let first = as_address(value_in(given, Attribute::Start));
@@ -52,7 +52,7 @@ fn segment_from<'a>(
 
 /// The fault of a group SEGMENT at its closing brace, after segments that the table marks.
 pub fn segment_fault(table: &[bool], given: &[Assignment]) -> Option<InfoFaultKind>
-    ensures { IsSegmentFault table.now (map assignment_seen given.now) result }
+    ensures { IsSegmentFault table.now (assigned_seen given.now) result }
 {
     match segment_in(given) {
         Err(fault) => Some(fault),
@@ -81,7 +81,7 @@ pub fn mark_segment<A: Allocator, B: Allocator>(
     table: &mut Vec<bool, B>,
     group: &Group<A>,
 ) -> Result<(), InfoFault>
-    ensures marked { IfOk result (λ _. SegmentsToo (group_seen group.now) table.old.items table.new.items) }
+    ensures marked { OnOk result (SegmentsToo group.now table.old.items table.new.items) }
     ensures err { IfErr result (λ e. e ≡ out_of_memory) }
 {
     if let Some(segment) = segment_part(group) {
@@ -109,7 +109,7 @@ pub fn segments_of<A: Allocator + Copy, B: Allocator>(
     alloc: A,
     groups: &[Group<B>],
 ) -> Result<Vec<SegmentSpec<A>, A>, InfoFault>
-    ensures { Gives (λ segments. map segment_seen segments.items) result (Ok (segments_of (map group_seen groups.now))) }
+    ensures { Gives (λ s. segments_seen s.items) result (Ok (segments_of (groups_seen groups.now))) }
 {
     let mut segments = Vec::new(alloc);
     for group in groups {

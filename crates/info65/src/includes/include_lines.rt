@@ -4,7 +4,7 @@ ghost use Rattle.std.specs.Prelude.{◌≡◌, ◌≤◌, ◌==◌, [], drop, le
 ghost use Rattle.std.specs.Io.BufRead.{strip_last};
 ghost use Rattle.std.specs.List.{list_all, position_or_len, prefix_len, suffix_len};
 ghost use Rattle.text65.specs.Names.{is_blank};
-ghost use Rattle.info65.specs.Words.{Sees, address_written, assignment_in, given_seen, is_identifier, line_in, trimmed, trimmed_end, without_comment};
+ghost use Rattle.info65.specs.Words.{MayName, address_written, assignment_in, given_seen, is_identifier, line_in, trimmed, trimmed_end, without_comment};
 ghost use Rattle.info65.specs.Includes.{as_address};
 
 use crate::fault::InfoFaultKind;
@@ -157,7 +157,7 @@ fn assignment_in(text: &[u8]) -> Option<Given<'_>>
 /// What a line says: nothing, or a name of an address. Any other line is BadInclude.
 #[tactic(auto, unfolding(crate::specs::Includes::line_in))]
 pub fn line_in(comment_start: u8, line: &[u8]) -> Result<Option<Given<'_>>, InfoFaultKind>
-    ensures { Sees (option_map given_seen) result (line_in comment_start line.now) }
+    ensures { MayName result (line_in comment_start line.now) }
 {
     let text = without_comment(comment_start, line);
     if are_blank(text) {

@@ -1,7 +1,7 @@
 //! The names of an information with those of an include file.
 
-ghost use Rattle.std.specs.Prelude.{Ok, option_map};
-ghost use Rattle.info65.specs.Words.{AreNames, Gives, ReadsFile, Sees, given_seen, line_adds, name_result_seen, optional_adds, unless_ignored};
+ghost use Rattle.std.specs.Prelude.{Ok};
+ghost use Rattle.info65.specs.Words.{AreNames, Gives, MayName, ReadsFile, line_adds, name_result_seen, optional_adds, unless_ignored};
 
 use crate::fault::{InfoFault, InfoFaultKind};
 use crate::includes::include::IncludeSpec;
@@ -45,7 +45,7 @@ fn optional_adds<'a, A: Allocator + Copy>(
     index: &Index<'a, A>,
     said: Result<Option<Given<'a>>, InfoFaultKind>,
 ) -> Result<Option<Given<'a>>, InfoFaultKind>
-    ensures { Sees (option_map given_seen) result (optional_adds index.now (name_result_seen said.entry)) }
+    ensures { MayName result (optional_adds index.now (name_result_seen said.entry)) }
 {
     match said? {
         Some(name) => index.name_adds(name),
@@ -59,7 +59,7 @@ fn unless_ignored<'a>(
     number: u32,
     added: Result<Option<Given<'a>>, InfoFaultKind>,
 ) -> Result<Option<Given<'a>>, InfoFault>
-    ensures { Sees (option_map given_seen) result (unless_ignored ignore_unknown number (name_result_seen added.entry)) }
+    ensures { MayName result (unless_ignored ignore_unknown number (name_result_seen added.entry)) }
 {
     match added {
         Ok(added) => Ok(added),
@@ -81,7 +81,7 @@ fn line_adds<'a, A: Allocator + Copy>(
     number: u32,
     line: &'a [u8],
 ) -> Result<Option<Given<'a>>, InfoFault>
-    ensures { Sees (option_map given_seen) result (line_adds include.now number index.now line.now) }
+    ensures { MayName result (line_adds include.now number index.now line.now) }
 {
     let said = line_in(include.comment_start, line);
     let added = optional_adds(index, said);

@@ -1,7 +1,7 @@
 //! What an information file says.
 
-ghost use Rattle.std.specs.Prelude.{◌≡◌, ◌<◌, IfErr, IfOk, Ok, length, map};
-ghost use Rattle.info65.specs.Words.{AreAllFormed, AreFormed, Gives, Includes, global_given, group_seen, includes_of, information, out_of_memory, segments_of, settings_of};
+ghost use Rattle.std.specs.Prelude.{◌≡◌, ◌<◌, IfErr, IfOk, Ok, length};
+ghost use Rattle.info65.specs.Words.{AreAllFormed, AreFormed, Gives, Includes, global_seen, groups_seen, includes_of, information, out_of_memory, segments_of, settings_of};
 
 use crate::fault::{InfoFault, InfoFaultKind};
 use crate::groups::include_groups::includes_of;
@@ -46,9 +46,9 @@ impl<A: Allocator> Model for Info<A> {
 }
 
 impl<A: Allocator> Info<A> {
-    ghost use Rattle.std.specs.Prelude.{◌≡◌, ◌<◌, length, map, option_map};
+    ghost use Rattle.std.specs.Prelude.{◌≡◌, ◌<◌, length, option_copied, option_map};
     ghost use Rattle.info65.specs.Code.Names.{given_seen};
-    ghost use Rattle.info65.specs.Code.Segments.{segment_seen};
+    ghost use Rattle.info65.specs.Code.Segments.{segments_seen};
     ghost use Rattle.info65.specs.IncludeGroups.{AreIncludes};
     ghost use Rattle.info65.specs.Includes.{with_names};
     ghost use Rattle.info65.specs.Names.{AreNames, covering, name_at};
@@ -74,7 +74,7 @@ impl<A: Allocator> Info<A> {
 
     /// The segments, in the order of their groups. No two of them share an address.
     pub fn segments(&self) -> &[SegmentSpec<A>]
-        ensures segments { map segment_seen result.now ≡ self.now.segments }
+        ensures segments { segments_seen result.now ≡ self.now.segments }
         ensures sound { AreSegments self.now.segments }
     {
         self.segments.as_slice()
@@ -83,7 +83,7 @@ impl<A: Allocator> Info<A> {
     /// The name of the segment that contains an address.
     /// It takes a time that grows with the logarithm of the number of segments.
     pub fn segment_covering(&self, address: u16) -> Option<&[u8]>
-        ensures name { option_map (λ n. n.now) result ≡ segment_covering self.now.segments address }
+        ensures name { option_copied result ≡ segment_covering self.now.segments address }
         ensures sound { AreSegments self.now.segments }
     {
         self.segments.covering(address)
@@ -164,7 +164,7 @@ fn segments_in<A: Allocator + Copy, B: Allocator>(
     alloc: A,
     groups: &[Group<B>],
 ) -> Result<SegmentTable<A>, InfoFault>
-    ensures { Gives (λ t. t) result (Ok (segments_of (map group_seen groups.now))) }
+    ensures { Gives (λ t. t) result (Ok (segments_of (groups_seen groups.now))) }
 {
     SegmentTable::new(alloc, segments_of(alloc, groups)?)
 }
@@ -175,11 +175,11 @@ fn said_again<A: Allocator + Copy, B: Allocator>(
     options: &Options<B>,
     groups: &[Group<A>],
 ) -> Result<Said<A>, InfoFault>
-    requires settings { AreFormed (global_given (map group_seen groups.now)) }
-    requires includes { AreAllFormed (map group_seen groups.now) }
-    ensures settings { IfOk result (λ said. settings_of options.now (global_given (map group_seen groups.now)) ≡ said.settings) }
-    ensures segments { IfOk result (λ said. segments_of (map group_seen groups.now) ≡ said.segments) }
-    ensures includes { IfOk result (λ said. includes_of (map group_seen groups.now) ≡ said.includes.items) }
+    requires settings { AreFormed (global_seen groups.now) }
+    requires includes { AreAllFormed (groups_seen groups.now) }
+    ensures settings { IfOk result (λ s. settings_of options.now (global_seen groups.now) ≡ s.settings) }
+    ensures segments { IfOk result (λ s. segments_of (groups_seen groups.now) ≡ s.segments) }
+    ensures includes { IfOk result (λ s. includes_of (groups_seen groups.now) ≡ s.includes.items) }
     ensures err { IfErr result (λ e. e ≡ out_of_memory) }
 {
     let settings = settings_of(alloc, options, groups)?;

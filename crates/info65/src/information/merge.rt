@@ -1,8 +1,8 @@
 //! The settings that options and groups give.
 
-ghost use Rattle.std.specs.Prelude.{◌≡◌, IfSome, Ok, map, option_map, true};
+ghost use Rattle.std.specs.Prelude.{◌≡◌, IfSome, Ok, option_copied, true};
 ghost use Rattle.std.specs.Option.{option_or, unwrap_or};
-ghost use Rattle.info65.specs.Words.{AreFormed, Gives, IsAtMost, as_number, form_of, global_given, group_seen, is_file_name, name_seen, settings_of, value_in};
+ghost use Rattle.info65.specs.Words.{AreFormed, Gives, IsAtMost, as_number, form_of, global_seen, is_file_name, name_seen, settings_of, value_in};
 ghost use Rattle.std.specs.String.{string_bytes};
 
 use crate::fault::InfoFault;
@@ -21,8 +21,8 @@ pub fn settings_of<'a, A: Allocator + Copy, B: Allocator>(
     options: &Options<B>,
     groups: &[Group<'a, A>],
 ) -> Result<Settings<A>, InfoFault>
-    requires { AreFormed (global_given (map group_seen groups.now)) }
-    ensures { Gives (λ s. s) result (Ok (settings_of options.now (global_given (map group_seen groups.now)))) }
+    requires { AreFormed (global_seen groups.now) }
+    ensures { Gives (λ s. s) result (Ok (settings_of options.now (global_seen groups.now))) }
 {
     let input_given = as_name(global_value(groups, Attribute::InputName));
     let output_given = as_name(global_value(groups, Attribute::OutputName));
@@ -73,8 +73,8 @@ fn number_of<A: Allocator>(
     default: u8,
 ) -> u8
     requires small { IsAtMost 120 (form_of attribute) }
-    requires formed { AreFormed (global_given (map group_seen groups.now)) }
-    ensures { result ≡ unwrap_or (option_or chosen (as_number (value_in attribute (global_given (map group_seen groups.now))))) default }
+    requires formed { AreFormed (global_seen groups.now) }
+    ensures { result ≡ unwrap_or (option_or chosen (as_number (value_in attribute (global_seen groups.now)))) default }
 {
     match (chosen, as_number(global_value(groups, attribute))) {
         (Some(number), _) => number,
@@ -99,7 +99,7 @@ fn first_name<A: Allocator, B: Allocator>(
     given: Option<&[u8]>,
 ) -> Result<Option<String<A>>, InfoFault>
     requires { IfSome given (λ s. is_file_name s.now ≡ true) }
-    ensures { Gives name_seen result (Ok (option_or (name_seen chosen.now) (option_map (λ s. s.now) given.entry))) }
+    ensures { Gives name_seen result (Ok (option_or (name_seen chosen.now) (option_copied given.entry))) }
 {
     match chosen {
         Some(name) => Ok(Some(String::from_str(alloc, name.as_str())?)),

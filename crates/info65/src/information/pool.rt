@@ -1,8 +1,8 @@
 //! Names by address, with the bytes of all of them in one pool.
 
-ghost use Rattle.std.specs.Prelude.{◌≡◌, ◌+◌, ◌-◌, ◌<◌, ◌≤◌, ◌++◌, IfErr, IfOk, length, map, option_map};
+ghost use Rattle.std.specs.Prelude.{◌≡◌, ◌+◌, ◌-◌, ◌<◌, ◌≤◌, ◌++◌, IfErr, IfOk, OnErr, OnOk, length, map, option_copied, option_map};
 ghost use Rattle.std.specs.List.Sorted.{IsNonDecreasingBy};
-ghost use Rattle.info65.specs.Words.{AreAbove, AreBlocks, AreNames, IsPool, IsWithin, ReachTo, block_start, bytes_of, covering, entry_covers, entry_seen, given_seen, name_at, optional, out_of_memory, reach_of, span_of};
+ghost use Rattle.info65.specs.Words.{Appends, AreAbove, AreBlocks, AreNames, IsPool, IsWithin, ReachTo, block_start, bytes_of, covering, entry_covers, entry_seen, given_seen, name_at, optional, out_of_memory, reach_of, span_of};
 
 use crate::fault::InfoFault;
 use crate::information::name::Given;
@@ -62,7 +62,7 @@ impl<A: Allocator + Copy> NamePool<A> {
 }
 
 impl<A: Allocator> NamePool<A> {
-    ghost use Rattle.std.specs.Prelude.{◌≡◌, ◌<◌, ◌∷◌, ◌++◌, IfErr, IfOk, [], length, option_map};
+    ghost use Rattle.std.specs.Prelude.{◌≡◌, ◌<◌, ◌∷◌, ◌++◌, IfErr, [], OnOk, length, option_map};
     ghost use Rattle.info65.specs.Code.Names.{given_seen};
     ghost use Rattle.info65.specs.Faults.{out_of_memory};
     ghost use Rattle.info65.specs.Names.{AreNames, covering, name_at};
@@ -93,7 +93,7 @@ impl<A: Allocator> NamePool<A> {
     /// Adds a name at the end.
     #[inline(always)]
     pub(crate) fn add(&mut self, name: Given<'_>) -> Result<(), InfoFault>
-        ensures done { IfOk result (λ _. self.new ≡ self.old ++ given_seen name.entry ∷ []) }
+        ensures done { OnOk result (self.new ≡ self.old ++ given_seen name.entry ∷ []) }
         ensures err { IfErr result (λ e. e ≡ out_of_memory) }
     {
         let text = put(&mut self.bytes, name.text)?;
@@ -113,9 +113,9 @@ impl<A: Allocator> NamePool<A> {
 
 // Appends bytes, and returns where they are.
 fn put<A: Allocator>(bytes: &mut Vec<u8, A>, text: &[u8]) -> Result<Span, InfoFault>
-    ensures bytes { IfOk result (λ s. bytes.new.items ≡ bytes.old.items ++ text.now) }
+    ensures bytes { OnOk result (Appends bytes.old bytes.new text.now) }
     ensures span { IfOk result (λ s. s ≡ span_of bytes.old.items text.now) }
-    ensures same { IfErr result (λ _. bytes.new.items ≡ bytes.old.items) }
+    ensures same { OnErr result (bytes.new.items ≡ bytes.old.items) }
     ensures err { IfErr result (λ e. e ≡ out_of_memory) }
 {
     let first = narrow(bytes.len())?;
@@ -129,9 +129,9 @@ fn put_optional<A: Allocator>(
     bytes: &mut Vec<u8, A>,
     text: Option<&[u8]>,
 ) -> Result<Option<Span>, InfoFault>
-    ensures bytes { IfOk result (λ s. bytes.new.items ≡ bytes.old.items ++ optional (option_map (λ t. t.now) text.entry)) }
-    ensures span { IfOk result (λ s. s ≡ option_map (span_of bytes.old.items) (option_map (λ t. t.now) text.entry)) }
-    ensures same { IfErr result (λ _. bytes.new.items ≡ bytes.old.items) }
+    ensures bytes { OnOk result (Appends bytes.old bytes.new (optional (option_copied text.entry))) }
+    ensures span { IfOk result (λ s. s ≡ option_map (span_of bytes.old.items) (option_copied text.entry)) }
+    ensures same { OnErr result (bytes.new.items ≡ bytes.old.items) }
     ensures err { IfErr result (λ e. e ≡ out_of_memory) }
 {
     match text {

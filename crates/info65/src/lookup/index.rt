@@ -56,13 +56,13 @@ fn numbered<'a>(names: &[Given<'a>], number: usize) -> Option<Given<'a>>
 }
 
 impl<'a, A: Allocator + Copy> Index<'a, A> {
-    ghost use Rattle.std.specs.Prelude.{◌≡◌, ◌≢◌, ◌++◌, ◌∷◌, AllPairs, IfErr, IfOk, None, Ok, [], map, option_map, option_to_list};
+    ghost use Rattle.std.specs.Prelude.{◌≡◌, ◌≢◌, ◌++◌, ◌∷◌, AllPairs, IfErr, None, Ok, [], OnOk, option_map};
     ghost use Rattle.std.specs.List.{list_any};
     ghost use Rattle.info65.specs.Closing.{label_fault, optional_name_fault};
-    ghost use Rattle.info65.specs.Code.Groups.{assignment_seen};
+    ghost use Rattle.info65.specs.Code.Groups.{assigned_seen};
     ghost use Rattle.info65.specs.Code.Index.{text_at};
-    ghost use Rattle.info65.specs.Code.Names.{given_seen};
-    ghost use Rattle.info65.specs.Code.Results.{Gives, Sees};
+    ghost use Rattle.info65.specs.Code.Names.{given_part, given_seen};
+    ghost use Rattle.info65.specs.Code.Results.{Gives, MayName};
     ghost use Rattle.info65.specs.Faults.{out_of_memory};
     ghost use Rattle.info65.specs.Includes.{name_adds};
     ghost use Rattle.info65.specs.Labels.{by_address, is_at, is_elsewhere, label_in, name_fault};
@@ -136,7 +136,7 @@ impl<'a, A: Allocator + Copy> Index<'a, A> {
     /// What a name of an include line adds, or its fault. A name of an address that has a name adds nothing.
     #[tactic(auto, unfolding(crate::specs::Includes::name_adds))]
     pub fn name_adds(&self, name: Given<'a>) -> Result<Option<Given<'a>>, InfoFaultKind>
-        ensures { Sees (option_map given_seen) result (name_adds self.now (given_seen name.entry)) }
+        ensures { MayName result (name_adds self.now (given_seen name.entry)) }
     {
         if name.text.len() > LONGEST_NAME {
             return Err(InfoFaultKind::BadName);
@@ -165,7 +165,7 @@ impl<'a, A: Allocator + Copy> Index<'a, A> {
 
     /// The fault of a group LABEL at its closing brace, after these names.
     pub fn label_fault(&self, given: &[Assignment<'a>]) -> Option<InfoFaultKind>
-        ensures { result ≡ label_fault self.now (label_in (map assignment_seen given.now)) }
+        ensures { result ≡ label_fault self.now (label_in (assigned_seen given.now)) }
     {
         match label_in(given) {
             Err(fault) => Some(fault),
@@ -177,7 +177,7 @@ impl<'a, A: Allocator + Copy> Index<'a, A> {
     #[inline(always)]
     pub fn add(&mut self, name: Given<'a>) -> Result<(), InfoFault>
         requires { name_fault self.old (given_seen name) ≡ None }
-        ensures done { IfOk result (λ _. self.new ≡ self.old ++ given_seen name.entry ∷ []) }
+        ensures done { OnOk result (self.new ≡ self.old ++ given_seen name.entry ∷ []) }
         ensures err { IfErr result (λ e. e ≡ out_of_memory) }
     {
         // What can fail comes first, so that names are found as they stand in the list, whatever fails.
@@ -193,7 +193,7 @@ impl<'a, A: Allocator + Copy> Index<'a, A> {
     /// Adds a name, which has no fault, if there is one.
     pub fn add_optional(&mut self, name: Option<Given<'a>>) -> Result<(), InfoFault>
         requires { optional_name_fault self.old (option_map given_seen name) ≡ None }
-        ensures done { IfOk result (λ _. self.new ≡ self.old ++ option_to_list (option_map given_seen name.entry)) }
+        ensures done { OnOk result (self.new ≡ self.old ++ given_part name.entry) }
         ensures err { IfErr result (λ e. e ≡ out_of_memory) }
     {
         match name {

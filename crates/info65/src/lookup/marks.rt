@@ -1,6 +1,6 @@
 //! Tables with a cell for each address, which is set where the address is taken. They have none until one is set.
 
-ghost use Rattle.std.specs.Prelude.{◌≡◌, ◌≤◌, ◌<◌, ◌-◌, ◌+◌, ℕ, IfErr, IfOk, false, get_or, length};
+ghost use Rattle.std.specs.Prelude.{◌≡◌, ◌≤◌, ◌<◌, ◌-◌, ◌+◌, ℕ, IfErr, OnOk, false, get_or, length};
 ghost use Rattle.info65.specs.Words.{AreSetToo, any_in, out_of_memory};
 
 use crate::fault::InfoFault;
@@ -24,8 +24,8 @@ pub fn is_marked(table: &[bool], first: u16, last: u16) -> bool
 
 /// Gives the table a cell for each address.
 fn widen<A: Allocator>(table: &mut Vec<bool, A>) -> Result<(), InfoFault>
-    ensures size { IfOk result (λ _. length table.new.items ≡ 0x1_0000) }
-    ensures same { IfOk result (λ _. (a : ℕ) → a < 0x1_0000 → get_or table.new.items a false ≡ get_or table.old.items a false) }
+    ensures size { OnOk result (length table.new.items ≡ 0x1_0000) }
+    ensures same { OnOk result ((a : ℕ) → a < 0x1_0000 → get_or table.new.items a false ≡ get_or table.old.items a false) }
     ensures err { IfErr result (λ e. e ≡ out_of_memory) }
 {
     table.resize(ADDRESSES, false)?;
@@ -35,7 +35,7 @@ fn widen<A: Allocator>(table: &mut Vec<bool, A>) -> Result<(), InfoFault>
 /// Sets the cells of the addresses from `first` to `last`.
 pub fn mark<A: Allocator>(table: &mut Vec<bool, A>, first: u16, last: u16) -> Result<(), InfoFault>
     requires { first ≤ last }
-    ensures marked { IfOk result (λ _. AreSetToo first last table.old.items table.new.items) }
+    ensures marked { OnOk result (AreSetToo first last table.old.items table.new.items) }
     ensures err { IfErr result (λ e. e ≡ out_of_memory) }
 {
     widen(table)?;

@@ -1,6 +1,6 @@
 //! Rows of numbers that are allocated when the first of them is set.
 
-ghost use Rattle.std.specs.Prelude.{◌≡◌, ◌<◌, ◌≤◌, ℕ, IfErr, IfOk, get_or, length};
+ghost use Rattle.std.specs.Prelude.{◌≡◌, ◌<◌, ◌≤◌, ℕ, IfErr, IfOk, OnOk, get_or, length};
 ghost use Rattle.info65.specs.Words.{out_of_memory};
 
 use crate::fault::InfoFault;
@@ -21,7 +21,7 @@ pub fn narrow(number: usize) -> Result<u32, InfoFault>
 
 // Adds cells of 0 where there are fewer than that many.
 fn fill_up<A: Allocator>(cells: &mut Vec<u32, A>, count: usize) -> Result<(), InfoFault>
-    ensures size { IfOk result (λ _. count ≤ length cells.new.items) }
+    ensures size { OnOk result (count ≤ length cells.new.items) }
     ensures same { (k : ℕ) → get_or cells.new.items k 0 ≡ get_or cells.old.items k 0 }
     ensures err { IfErr result (λ e. e ≡ out_of_memory) }
 {
@@ -52,7 +52,7 @@ impl<A: Allocator> Model for Numbers<A> {
 }
 
 impl<A: Allocator> Numbers<A> {
-    ghost use Rattle.std.specs.Prelude.{◌≡◌, ◌<◌, ◌≤◌, ℕ, [], IfErr, IfOk, IsTrue, get_or, length};
+    ghost use Rattle.std.specs.Prelude.{◌≡◌, ◌<◌, ◌≤◌, ℕ, [], IfErr, IsTrue, OnOk, get_or, length};
     ghost use Rattle.info65.specs.Code.Numbers.{IsSet};
     ghost use Rattle.info65.specs.Faults.{out_of_memory};
 
@@ -96,7 +96,7 @@ impl<A: Allocator> Numbers<A> {
     /// Allocates the row, if that was not done before.
     pub fn widen(&mut self) -> Result<(), InfoFault>
         ensures count { self.new.count ≡ self.old.count }
-        ensures size { IfOk result (λ _. self.new.count ≤ length self.new.cells) }
+        ensures size { OnOk result (self.new.count ≤ length self.new.cells) }
         ensures same { (k : ℕ) → get_or self.new.cells k 0 ≡ get_or self.old.cells k 0 }
         ensures err { IfErr result (λ e. e ≡ out_of_memory) }
     {

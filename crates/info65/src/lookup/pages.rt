@@ -1,6 +1,6 @@
 //! A number for each address, in pages that take memory when the first of their numbers is set.
 
-ghost use Rattle.std.specs.Prelude.{◌≡◌, ◌<◌, IfErr, IfOk, length};
+ghost use Rattle.std.specs.Prelude.{◌≡◌, ◌<◌, IfErr, OnOk, length};
 ghost use Rattle.info65.specs.Words.{SamePages, out_of_memory};
 
 use crate::fault::InfoFault;
@@ -39,7 +39,7 @@ fn add_pages<A: Allocator + Copy>(
     pages: &mut Vec<Numbers<A>, A>,
     last: usize,
 ) -> Result<(), InfoFault>
-    ensures there { IfOk result (λ _. last < length pages.new.items) }
+    ensures there { OnOk result (last < length pages.new.items) }
     ensures same { SamePages pages.old.items pages.new.items }
     ensures err { IfErr result (λ e. e ≡ out_of_memory) }
 {
@@ -50,7 +50,7 @@ fn add_pages<A: Allocator + Copy>(
 }
 
 impl<A: Allocator + Copy> Pages<A> {
-    ghost use Rattle.std.specs.Prelude.{◌≡◌, ◌==◌, ◌<◌, ◌/◌, ◌*◌, ◌+◌, ℕ, [], IfErr, IfOk, if◌then◌else◌, length};
+    ghost use Rattle.std.specs.Prelude.{◌≡◌, ◌==◌, ◌<◌, ◌/◌, ◌*◌, ◌+◌, ℕ, [], IfErr, OnOk, if◌then◌else◌, length};
     ghost use Rattle.std.specs.Bool.{OnFalse};
     ghost use Rattle.info65.specs.Code.Numbers.{HasCell, number_at};
     ghost use Rattle.info65.specs.Faults.{out_of_memory};
@@ -87,7 +87,7 @@ impl<A: Allocator + Copy> Pages<A> {
     /// Makes room for the number of an address. After a failure each number is as before.
     #[inline(always)]
     pub fn widen(&mut self, address: u16) -> Result<(), InfoFault>
-        ensures has { IfOk result (λ _. HasCell self.new address) }
+        ensures has { OnOk result (HasCell self.new address) }
         ensures same { (a : ℕ) → number_at self.new a ≡ number_at self.old a }
         ensures err { IfErr result (λ e. e ≡ out_of_memory) }
     {

@@ -28,7 +28,7 @@ pub struct Texts<'a, A: Allocator> {
 }
 
 impl<'a, A: Allocator + Copy> Texts<'a, A> {
-    ghost use Rattle.std.specs.Prelude.{◌≡◌, ℕ, List, None, IfErr, IfOk};
+    ghost use Rattle.std.specs.Prelude.{◌≡◌, ℕ, List, None, IfErr, OnErr, OnOk};
     ghost use Rattle.info65.specs.Code.Texts.{AddsText, StandsAlike, texts_seen};
     ghost use Rattle.info65.specs.Faults.{out_of_memory};
 
@@ -62,8 +62,8 @@ impl<'a, A: Allocator + Copy> Texts<'a, A> {
     /// Adds the text of a name with this address and number. After a failure each text stands as before.
     #[inline(always)]
     pub fn add(&mut self, text: &'a [u8], address: u16, number: u32) -> Result<(), InfoFault>
-        ensures done { IfOk result (λ _. (t : List ℕ) → AddsText (texts_seen self.old) text.entry.now address number (texts_seen self.new) t) }
-        ensures same { IfErr result (λ _. (t : List ℕ) → StandsAlike (texts_seen self.old) (texts_seen self.new) t) }
+        ensures done { OnOk result ((t : List ℕ) → AddsText (texts_seen self.old) text.entry.now address number (texts_seen self.new) t) }
+        ensures same { OnErr result (StandsAlike (texts_seen self.old) (texts_seen self.new)) }
         ensures err { IfErr result (λ e. e ≡ out_of_memory) }
     {
         self.slots.widen()?;

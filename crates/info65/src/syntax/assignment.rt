@@ -1,6 +1,6 @@
 //! What is given in a group.
 
-ghost use Rattle.std.specs.Prelude.{◌≡◌, option_map};
+ghost use Rattle.std.specs.Prelude.{◌≡◌, option_copied, option_map};
 ghost use Rattle.info65.specs.Words.{as_boolean, as_character, as_comment, as_cpu, as_name, as_number, as_type, value_seen};
 ghost use Rattle.info65.specs.Values.{as_address};
 
@@ -45,7 +45,7 @@ pub struct Group<'a, A: Allocator> {
 }
 
 pub fn as_name<'a>(value: Option<Value<'a>>) -> Option<&'a [u8]>
-    ensures { option_map (λ s. s.now) result ≡ as_name (option_map value_seen value.entry) }
+    ensures { option_copied result ≡ as_name (option_map value_seen value.entry) }
 {
     match value {
         Some(Value::Name(name)) => Some(name),
@@ -54,7 +54,7 @@ pub fn as_name<'a>(value: Option<Value<'a>>) -> Option<&'a [u8]>
 }
 
 pub fn as_comment<'a>(value: Option<Value<'a>>) -> Option<&'a [u8]>
-    ensures { option_map (λ s. s.now) result ≡ as_comment (option_map value_seen value.entry) }
+    ensures { option_copied result ≡ as_comment (option_map value_seen value.entry) }
 {
     match value {
         Some(Value::Comment(text)) => Some(text),

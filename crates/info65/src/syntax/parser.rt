@@ -1,7 +1,7 @@
 //! The groups of an information file, token by token.
 
-ghost use Rattle.std.specs.Prelude.{◌≡◌, ◌≤◌, ◌∷◌, ◌++◌, IfErr, IfOk, List, None, Ok, [], length, map};
-ghost use Rattle.info65.specs.Words.{AlwaysMoves, AssignmentView, Attribute, Expected, Gives, GroupKind, GroupView, Leads, Moves, ReadsGroup, Sees, TakesToken, Word, assigned, assignment_seen, attribute_at, closed, closed_by, closing_fault, fault, group, groups_of, inside, is_semicolon, kind_seen, one, opening, outside, read, read_token, seen, value_seen, valued, wanted, with_token};
+ghost use Rattle.std.specs.Prelude.{◌≡◌, ◌≤◌, ◌∷◌, ◌++◌, IfErr, IfOk, List, None, Ok, [], OnOk, length};
+ghost use Rattle.info65.specs.Words.{AlwaysMoves, AssignmentView, Attribute, Expected, Gives, GroupKind, GroupView, Leads, MayClose, Moves, ReadsGroup, Sees, TakesToken, Word, assigned, assigned_seen, assignment_seen, at_end, attribute_at, closed, closing_fault, fault, group, groups_of, inside, is_semicolon, kind_seen, one, opening, outside, read, read_token, seen, value_seen, valued, wanted, with_token};
 ghost use Rattle.info65.specs.Reader.{value_at};
 
 use crate::fault::{InfoFault, InfoFaultKind};
@@ -81,8 +81,9 @@ fn group<'a, A: Allocator + Copy, B: Allocator>(
     name: Token<'a>,
     list: Vec<Assignment<'a>, A>,
 ) -> Result<Group<'a, A>, InfoFault>
-    ensures closes { IfOk result (λ g. closing_fault before.now g.kind (map assignment_seen g.given.items) ≡ None) }
-    ensures read { ReadsGroup options.now before.now (read_token options.now outside before.now (seen name.entry) lexer.old) result lexer.new }
+    ensures closes { IfOk result (MayClose before.now) }
+    ensures read { ReadsGroup options.now before.now
+        (read_token options.now outside before.now (seen name.entry) lexer.old) result lexer.new }
     ensures shorter { length lexer.new.tokens ≤ length lexer.old.tokens }
 {
     let kind = group_kind(name)?;
@@ -91,7 +92,7 @@ fn group<'a, A: Allocator + Copy, B: Allocator>(
 }
 
 fn group_kind(name: Token) -> Result<GroupKind, InfoFault>
-    ensures { (before : List GroupView) → TakesToken before outside (seen name.entry) result opening }
+    ensures { (b : List GroupView) → TakesToken b outside (seen name.entry) result opening }
 {
     match name.kind {
         TokenKind::Word => match group_named(name.text) {
@@ -103,7 +104,7 @@ fn group_kind(name: Token) -> Result<GroupKind, InfoFault>
 }
 
 fn brace(lexer: &mut Lexer) -> Result<(), InfoFault>
-    ensures read { (k : GroupKind) → AlwaysMoves (opening k) lexer.old result (λ _. inside k []) lexer.new }
+    ensures read { (k : GroupKind) → AlwaysMoves (opening k) lexer.old result (inside k []) lexer.new }
     ensures shorter { length lexer.new.tokens ≤ length lexer.old.tokens }
 {
     let token = due(lexer)?;
@@ -114,7 +115,7 @@ fn brace(lexer: &mut Lexer) -> Result<(), InfoFault>
 }
 
 fn separator(lexer: &mut Lexer) -> Result<(), InfoFault>
-    ensures read { (k : GroupKind) (given : List AssignmentView) → AlwaysMoves (assigned k given) lexer.old result (λ _. inside k given) lexer.new }
+    ensures read { (k : GroupKind) (given : List AssignmentView) → AlwaysMoves (assigned k given) lexer.old result (inside k given) lexer.new }
     ensures shorter { length lexer.new.tokens ≤ length lexer.old.tokens }
 {
     let token = due(lexer)?;
@@ -164,8 +165,9 @@ fn attributes<'a, A: Allocator + Copy, B: Allocator>(
     kind: GroupKind,
     list: Vec<Assignment<'a>, A>,
 ) -> Result<Group<'a, A>, InfoFault>
-    ensures closes { IfOk result (λ g. closing_fault before.now g.kind (map assignment_seen g.given.items) ≡ None) }
-    ensures read { ReadsGroup options.now before.now (read options.now (inside kind []) before.now lexer.old) result lexer.new }
+    ensures closes { IfOk result (MayClose before.now) }
+    ensures read { ReadsGroup options.now before.now
+        (read options.now (inside kind []) before.now lexer.old) result lexer.new }
     ensures shorter { length lexer.new.tokens ≤ length lexer.old.tokens }
 {
     let mut given = list;
@@ -193,9 +195,9 @@ fn is_whole<'a, A: Allocator + Copy>(
     given: &[Assignment<'a>],
     line: u32,
 ) -> Result<(), InfoFault>
-    ensures closes { IfOk result (λ _. closing_fault before.now kind (map assignment_seen given.now) ≡ None) }
-    ensures read { Leads (closed_by before.now kind (map assignment_seen given.now) line (closing_fault before.now kind (map assignment_seen given.now))) result
-        (λ _. Ok (closed, before.now ++ group kind (map assignment_seen given.now) ∷ [])) }
+    ensures closes { OnOk result (closing_fault before.now kind (assigned_seen given.now) ≡ None) }
+    ensures read { Leads (at_end before.now kind (assigned_seen given.now) line) result
+        (λ _. Ok (closed, before.now ++ group kind (assigned_seen given.now) ∷ [])) }
 {
     match before.closing_fault(kind, given) {
         Some(fault) => Err(InfoFault::new(line, fault)),
@@ -213,8 +215,8 @@ fn attribute<'a, A: Allocator + Copy, B: Allocator>(
     name: Token<'a>,
 ) -> Result<Assignment<'a>, InfoFault>
     requires { name.kind ≡ Word }
-    ensures read { Leads (read_token options.now (inside kind (map assignment_seen given.now)) before.now (seen name.entry) lexer.old) result
-        (λ g. read options.now (inside kind (map assignment_seen given.now ++ assignment_seen g ∷ [])) before.now lexer.new) }
+    ensures read { Leads (read_token options.now (inside kind (assigned_seen given.now)) before.now (seen name.entry) lexer.old) result
+        (λ g. read options.now (inside kind (assigned_seen given.now ++ assignment_seen g ∷ [])) before.now lexer.new) }
     ensures shorter { length lexer.new.tokens ≤ length lexer.old.tokens }
 {
     let attribute = attribute_name(before, kind, given, name)?;
@@ -230,7 +232,7 @@ fn attribute_name<'a, A: Allocator + Copy>(
     name: Token,
 ) -> Result<Attribute, InfoFault>
     requires { name.kind ≡ Word }
-    ensures { TakesToken before.now (inside kind (map assignment_seen given.now)) (seen name.entry) result (valued kind (map assignment_seen given.now)) }
+    ensures { TakesToken before.now (inside kind (assigned_seen given.now)) (seen name.entry) result (valued kind (assigned_seen given.now)) }
 {
     attribute_at(before, kind, given, name)
 }
@@ -242,7 +244,7 @@ fn attribute_at<'a, A: Allocator + Copy>(
     given: &[Assignment],
     name: Token,
 ) -> Result<Attribute, InfoFault>
-    ensures { result ≡ attribute_at before.now kind (map assignment_seen given.now) (seen name.entry) }
+    ensures { result ≡ attribute_at before.now kind (assigned_seen given.now) (seen name.entry) }
 {
     match attribute_named(kind, name.text) {
         Some(attribute) => {

@@ -1,7 +1,7 @@
 //! Where the reader of the lines `#: ..` is, and where a token leads from there.
 
 ghost use Rattle.std.specs.Prelude.{◌≡◌};
-ghost use Rattle.info65.specs.Words.{at_assigned, at_closed, at_inside, at_opening, at_outside, at_valued, attributed, done, ended_at, kind_seen, seen, stepped, tag_end, tag_step, turn_of};
+ghost use Rattle.info65.specs.Words.{at_assigned, at_closed, at_inside, at_opening, at_outside, at_valued, attributed, by_token, done, ended_at, kind_seen, seen, stepped, tag_end, tag_step, turn_of};
 
 use crate::fault::{InfoFault, InfoFaultKind};
 use crate::syntax::lexer::Next;
@@ -44,7 +44,7 @@ fn at(place: Place) -> Result<Outcome, InfoFault>
 }
 
 fn outside(token: Token<'_>) -> Result<Outcome, InfoFault>
-    ensures { result ≡ at_outside (kind_seen token.entry.kind) token.entry.line token.entry.text.now }
+    ensures { result ≡ by_token at_outside (seen token.entry) }
 {
     if token.kind != TokenKind::Word {
         return refused(token.line, InfoFaultKind::Expected);
@@ -56,7 +56,7 @@ fn outside(token: Token<'_>) -> Result<Outcome, InfoFault>
 }
 
 fn closed(token: Token<'_>) -> Result<Outcome, InfoFault>
-    ensures { result ≡ at_closed (kind_seen token.entry.kind) token.entry.line token.entry.text.now }
+    ensures { result ≡ by_token at_closed (seen token.entry) }
 {
     match token.kind {
         TokenKind::Semicolon => at(Place::Outside),
@@ -103,7 +103,7 @@ fn ended_at(tag: Tag, line: u32) -> Result<Outcome, InfoFault>
 }
 
 fn inside(tag: Tag, token: Token<'_>) -> Result<Outcome, InfoFault>
-    ensures { result ≡ at_inside tag (kind_seen token.entry.kind) token.entry.line token.entry.text.now }
+    ensures { result ≡ by_token (at_inside tag) (seen token.entry) }
 {
     match token.kind {
         TokenKind::Word => attributed(tag, token.line, tag_attribute(tag.kind, token.text)),

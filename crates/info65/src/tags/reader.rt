@@ -2,7 +2,7 @@
 
 ghost use Rattle.std.specs.Prelude.{[], ◌≡◌, ◌++◌, ◌≤◌, OnOk, length};
 ghost use Rattle.std.specs.Option.{option_to_list};
-ghost use Rattle.info65.specs.Words.{Gives, Turns, tags_from, tags_of};
+ghost use Rattle.info65.specs.Words.{Appends, Gives, Turns, tags_in, tags_of};
 
 use crate::fault::InfoFault;
 use crate::syntax::lexer::Lexer;
@@ -13,7 +13,7 @@ use std::alloc::{AllocError, Allocator};
 
 /// Adds a group, if there is one.
 fn put<A: Allocator>(found: &mut Vec<Tag, A>, tag: Option<Tag>) -> Result<(), AllocError>
-    ensures { OnOk result (found.new.items ≡ found.old.items ++ option_to_list tag) }
+    ensures { OnOk result (Appends found.old found.new (option_to_list tag)) }
 {
     if let Some(tag) = tag {
         found.push(tag)?;
@@ -31,7 +31,7 @@ fn turn(lexer: &mut Lexer<'_>, place: Place) -> Result<Turn, InfoFault>
 
 /// The groups of these tokens.
 fn tags_in<A: Allocator>(alloc: A, tokens: Lexer<'_>) -> Result<Vec<Tag, A>, InfoFault>
-    ensures { Gives (λ found. found.items) result (tags_from Place.Outside [] tokens.entry.tokens tokens.entry.ending) }
+    ensures { Gives (λ found. found.items) result (tags_in tokens.entry) }
 {
     let mut found = Vec::new(alloc);
     let mut lexer = tokens;
