@@ -14,7 +14,7 @@ WIDER = {
     "text65": 1,
     "stmt65": 83,
     "info65": 25,
-    "map65": 13,
+    "map65": 5,
     "usage65": 5,
     "da65": 27,
     "reach65": 20,

@@ -7,6 +7,10 @@ pub record MapView : Type 0 where
   pub info : InfoView
   pub image : ImageView
 
+-- the map of an image by this information
+abbrev pub mapped : InfoView → ImageView → MapView
+mapped info image = record { info = info; image = image }
+
 -- what holds of the information and the image of each map
 pub record IsSoundMap (m : MapView) : Type 0 where
   pub names : AreNames m.info.names

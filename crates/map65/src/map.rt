@@ -1,9 +1,9 @@
 //! The map of an image.
 
-ghost use Rattle.std.specs.Prelude.{◌≡◌, ◌≢◌, ◌+◌, ◌-◌, ◌/◌, ◌%◌, ◌<◌, ◌≤◌, ℕ, IfOk, IfSome, Some, length, option_map, slice_index};
+ghost use Rattle.std.specs.Prelude.{◌≡◌, ◌≢◌, ◌+◌, ◌-◌, ◌/◌, ◌%◌, ◌<◌, ◌≤◌, ℕ, IfOk, IfSome, Some, length, option_copied, option_map, slice_index};
 ghost use Rattle.std.specs.Bool.{OnTrue, OnFalse};
 ghost use Rattle.info65.specs.Words.{covering, default_name, given_seen};
-ghost use Rattle.map65.specs.Words.{AreCellsOf, IsBuilt, IsPlaced, IsSoundMap, bit, code_of, end_of, entry_base, entry_start, given_base, has_name, is_border, is_in_run, is_named, item_len, kind_at, kind_by, len_in_cell, place_in, place_of, role_at, role_in_cell, segment_at, text_at};
+ghost use Rattle.map65.specs.Words.{AreCellsOf, IsBuilt, IsPlaced, IsSoundMap, bit, code_of, end_of, entry_base, entry_start, given_base, has_name, is_border, is_in_run, is_named, item_len, kind_at, kind_by, len_in_cell, mapped, place_in, place_of, role_at, role_in_cell, segment_at, text_at};
 
 use crate::cells::{are_one_run, blank_cells, is_code, is_named, len_in, role_in};
 use crate::image::{ADDRESSES, Image};
@@ -25,7 +25,7 @@ pub struct Map<'a, A: Allocator = Global> {
 }
 
 impl<'a, A: Allocator> Model for Map<'a, A> {
-    ghost use Rattle.map65.specs.MapView.{MapView};
+    ghost use Rattle.map65.specs.MapView.{MapView, mapped};
 
     ghost Value = { MapView };
 
@@ -33,13 +33,13 @@ impl<'a, A: Allocator> Model for Map<'a, A> {
 
     ghost use Rattle.map65.specs.Code.Cells.{IsBuilt};
 
-    ghost invariant = { λ m. IsBuilt (record { info = m.info.now; image = m.image.now }) m.cells.items };
+    ghost invariant = { λ m. IsBuilt (mapped m.info.now m.image.now) m.cells.items };
 }
 
 impl<'a, A: Allocator> Map<'a, A> {
     /// Builds the map of an image. Fails if the allocation of its 65,536 cells fails.
     pub fn build(alloc: A, info: &'a Info<A>, image: &'a Image<A>) -> Result<Map<'a, A>, AllocError>
-        ensures { IfOk result (λ m. m ≡ record { info = info.entry.now; image = image.entry.now }) }
+        ensures { IfOk result (λ m. m ≡ mapped info.entry.now image.entry.now) }
     {
         let mut cells = blank_cells(alloc, ADDRESSES)?;
         mark_all(cells.as_mut_slice(), info, image);
@@ -113,7 +113,7 @@ impl<'a, A: Allocator> Map<'a, A> {
     /// Returns the name of the segment that the address belongs to, and `None` outside all segments.
     #[tactic(auto, unfolding(crate::specs::Segments::segment_at))]
     pub fn segment_at(&self, address: u16) -> Option<&'a [u8]>
-        ensures { option_map (λ n. n.now) result ≡ segment_at self.now address }
+        ensures { option_copied result ≡ segment_at self.now address }
     {
         self.info.segment_covering(address)
     }
@@ -215,7 +215,7 @@ impl<'a, A: Allocator> Map<'a, A> {
 fn mark_all<A: Allocator>(cells: &mut [u16], info: &Info<A>, image: &Image<A>)
     requires count { length cells.old ≡ 65536 }
     requires blank { (a : ℕ) → a < 65536 → slice_index cells.old a ≡ 0 }
-    ensures { IsBuilt (record { info = info.now; image = image.now }) cells.new }
+    ensures { IsBuilt (mapped info.now image.now) cells.new }
 {
     mark_roles(cells, info, image);
     mark_own(cells, info);

@@ -3,7 +3,7 @@
 ghost use Rattle.std.specs.Prelude.{◌≡◌, ◌+◌, ◌-◌, ◌<◌, ◌≤◌, ◌&&◌, ℕ, [], length, slice_index};
 ghost use Rattle.isa65.specs.Words.{decoded, table_of};
 ghost use Rattle.info65.specs.Words.{AreSegments, has_address};
-ghost use Rattle.map65.specs.Words.{AreMarkedBelow, AreNamed, ArePainted, Changes, IsLaid, IsPlaced, code_size, end_of, full_len_at, is_cut, is_inside, is_joined_in, is_own, is_within, item_start, nowhere, painted, role_of, size_at};
+ghost use Rattle.map65.specs.Words.{AreMarkedBelow, AreNamed, ArePainted, Changes, IsLaid, IsPlaced, code_size, end_of, full_len_at, is_cut, is_inside, is_joined_in, is_own, is_within, item_start, mapped, nowhere, painted, role_of, size_at};
 
 use crate::borders::mark_borders;
 use crate::cells::{are_one_run, cell_of, is_named, is_wide_cell, role_in, with_len};
@@ -32,7 +32,8 @@ fn paint(cells: &mut [u16], from: usize, to: usize, role: RangeType)
 #[tactic(auto, using(crate::proofs::ChangeLemmas::changes_as, crate::proofs::PaintLemmas::range_within))]
 fn paint_range<A: Allocator>(cells: &mut [u16], image: &Image<A>, range: RangeSpec)
     requires { length cells.old ≡ 65536 }
-    ensures { Changes (painted range.role) (λ a. is_inside image.now a && has_address range a) cells.old cells.new }
+    ensures { Changes (painted range.role)
+        (λ a. is_inside image.now a && has_address range a) cells.old cells.new }
 {
     let start = usize::from(image.start());
     let end = start + image.bytes().len();
@@ -58,7 +59,7 @@ fn paint_code<A: Allocator>(cells: &mut [u16], image: &Image<A>)
 pub fn mark_roles<A: Allocator>(cells: &mut [u16], info: &Info<A>, image: &Image<A>)
     requires count { length cells.old ≡ 65536 }
     requires blank { (a : ℕ) → a < 65536 → slice_index cells.old a ≡ 0 }
-    ensures marked { AreMarkedBelow (record { info = info.now; image = image.now }) 0 cells.new }
+    ensures marked { AreMarkedBelow (mapped info.now image.now) 0 cells.new }
     ensures named { AreNamed nowhere cells.new }
     ensures sound { AreSegments info.now.segments }
 {
@@ -118,7 +119,7 @@ fn full_len_at<A: Allocator>(
     requires low { image.now.start ≤ address }
     requires high { address < end_of image.now }
     requires role { role ≡ role_of info.now address }
-    ensures value { result ≡ full_len_at (record { info = info.now; image = image.now }) address }
+    ensures value { result ≡ full_len_at (mapped info.now image.now) address }
     ensures positive { 1 ≤ result }
     ensures small { result ≤ 4 }
 {
@@ -146,9 +147,9 @@ fn size_at<A: Allocator>(
     requires low { image.now.start ≤ address }
     requires high { address < end_of image.now }
     requires role { role ≡ role_of info.now address }
-    requires marked { AreMarkedBelow (record { info = info.now; image = image.now }) address cells.now }
+    requires marked { AreMarkedBelow (mapped info.now image.now) address cells.now }
     requires own { AreNamed (is_own info.now.names) cells.now }
-    ensures value { result ≡ size_at (record { info = info.now; image = image.now }) address }
+    ensures value { result ≡ size_at (mapped info.now image.now) address }
     ensures positive { 1 ≤ result }
     ensures small { result ≤ 4 }
 {
@@ -175,13 +176,13 @@ fn mark_item<A: Allocator>(
     requires placed { IsPlaced image.now }
     requires low { image.now.start ≤ address }
     requires high { address < end_of image.now }
-    requires begins { item_start (record { info = info.now; image = image.now }) address ≡ address }
-    requires marked { AreMarkedBelow (record { info = info.now; image = image.now }) address cells.old }
+    requires begins { item_start (mapped info.now image.now) address ≡ address }
+    requires marked { AreMarkedBelow (mapped info.now image.now) address cells.old }
     requires own { AreNamed (is_own info.now.names) cells.old }
     ensures positive { 1 ≤ result }
     ensures small { result ≤ 4 }
-    ensures begins { item_start (record { info = info.now; image = image.now }) (address + result) ≡ address + result }
-    ensures marked { AreMarkedBelow (record { info = info.now; image = image.now }) (address + result) cells.new }
+    ensures begins { item_start (mapped info.now image.now) (address + result) ≡ address + result }
+    ensures marked { AreMarkedBelow (mapped info.now image.now) (address + result) cells.new }
     ensures own { AreNamed (is_own info.now.names) cells.new }
 {
     let at = usize::from(address);
@@ -201,9 +202,9 @@ pub fn mark_items<A: Allocator>(
     opcodes: &DecodeTable,
 )
     requires cpu { opcodes.now ≡ info.now.settings.cpu }
-    requires marked { AreMarkedBelow (record { info = info.now; image = image.now }) 0 cells.old }
+    requires marked { AreMarkedBelow (mapped info.now image.now) 0 cells.old }
     requires own { AreNamed (is_own info.now.names) cells.old }
-    ensures laid { IsLaid (record { info = info.now; image = image.now }) cells.new }
+    ensures laid { IsLaid (mapped info.now image.now) cells.new }
     ensures own { AreNamed (is_own info.now.names) cells.new }
     ensures placed { IsPlaced image.now }
 {

@@ -2,7 +2,7 @@
 
 ghost use Rattle.std.specs.Prelude.{◌≡◌, ◌==◌, ◌+◌, ◌<◌, ◌≤◌, length, max};
 ghost use Rattle.info65.specs.Words.{AreNames, given_seen, name_at};
-ghost use Rattle.map65.specs.Words.{AreCells, AreNamed, Changes, IsLaid, IsPlaced, KeepsLay, MapView, end_of, entry_start, is_covered, is_own, is_within, nowhere, refers, with_name};
+ghost use Rattle.map65.specs.Words.{AreCells, AreNamed, Changes, IsLaid, IsPlaced, KeepsLay, MapView, end_of, entry_start, is_covered, is_own, is_within, mapped, nowhere, refers, with_name};
 
 use crate::cells::{is_wide_cell, len_in, role_in, with_name};
 use crate::image::Image;
@@ -53,7 +53,8 @@ fn mark_span(cells: &mut [u16], from: usize, to: usize)
 fn mark_name(cells: &mut [u16], name: Given<'_>, reach: usize) -> usize
     requires count { length cells.old ≡ 65536 }
     requires room { name.address + name.size ≤ 65536 }
-    ensures marked { Changes with_name (is_within (max name.entry.address reach) (name.entry.address + name.entry.size)) cells.old cells.new }
+    ensures marked { Changes with_name
+        (is_within (max name.entry.address reach) (name.entry.address + name.entry.size)) cells.old cells.new }
     ensures reach { result ≡ max reach (name.entry.address + name.entry.size) }
 {
     let first = usize::from(name.address);
@@ -109,8 +110,8 @@ fn mark_target<A: Allocator>(
     requires cpu { opcodes.now ≡ info.now.settings.cpu }
     requires low { image.now.start ≤ address }
     requires high { address < end_of image.now }
-    requires laid { IsLaid (record { info = info.now; image = image.now }) cells.old }
-    ensures { Changes with_name (λ a. refers (record { info = info.now; image = image.now }) a address) cells.old cells.new }
+    requires laid { IsLaid (mapped info.now image.now) cells.old }
+    ensures { Changes with_name (λ a. refers (mapped info.now image.now) a address) cells.old cells.new }
 {
     let cell = cells[usize::from(address)];
     let len = len_in(cell);
@@ -134,9 +135,9 @@ pub fn mark_targets<A: Allocator>(
     opcodes: &DecodeTable,
 )
     requires cpu { opcodes.now ≡ info.now.settings.cpu }
-    requires laid { IsLaid (record { info = info.now; image = image.now }) cells.old }
+    requires laid { IsLaid (mapped info.now image.now) cells.old }
     requires named { AreNamed (is_covered info.now.names) cells.old }
-    ensures { AreCells (record { info = info.now; image = image.now }) cells.new }
+    ensures { AreCells (mapped info.now image.now) cells.new }
 {
     let start = usize::from(image.start());
     for k in 0..image.bytes().len() {

@@ -1,6 +1,6 @@
 //! Reading an image.
 
-ghost use Rattle.std.specs.Prelude.{◌≡◌, ◌+◌, ◌-◌, ◌^◌, ◌<◌, ◌≤◌, take, drop, IfSome, IfOk, length};
+ghost use Rattle.std.specs.Prelude.{◌≡◌, ◌+◌, ◌-◌, ◌^◌, ◌<◌, ◌≤◌, OnOk, take, drop, IfSome, IfOk, length};
 ghost use Rattle.map65.specs.Words.{AreBytes, GivesImage, IsPlaced, IsReadTo, ReadCount, StopsAt, TakeCount, TakesNoMore, TakesUpTo, has_failed, image_of, most_of, read_limit};
 
 use crate::devices::{Source, TakeFault, pass_over, take_up_to};
@@ -20,7 +20,7 @@ fn take_after<A: Allocator, R: Source>(
     limit: usize,
 ) -> Result<Vec<u8, A>, TakeFault>
     ensures bytes { IfOk result (λ v. IfSome (R.left input.old) (λ xs. v.items ≡ take limit (drop offset xs))) }
-    ensures rest { IfOk result (λ _. IsReadTo (offset + limit) (R.left input.old) (R.left input.new)) }
+    ensures rest { OnOk result (IsReadTo (offset + limit) (R.left input.old) (R.left input.new)) }
     ensures bound { TakesUpTo (offset + limit) (R.left input.old) (R.left input.new) }
     ensures count { TakeCount result (R.faults input.old) (R.faults input.new) }
     ensures last { TakesNoMore result (R.failed input.new) }

@@ -2,7 +2,7 @@
 
 ghost use Rattle.std.specs.Prelude.{◌≡◌, ◌+◌, ◌<◌, ◌≤◌, IsTrue, length};
 ghost use Rattle.isa65.specs.Words.{len_of, row_len, table_of};
-ghost use Rattle.map65.specs.Words.{branch_target, bytes_from, end_of, entry_of, is_inside, is_jump, item_len, only_inside, opcode_target, operand_target, return_target, role_of, row_target, target_at, target_for, target_of, word_of, word_target};
+ghost use Rattle.map65.specs.Words.{branch_target, bytes_from, end_of, entry_of, is_inside, is_jump, item_len, mapped, only_inside, opcode_target, operand_target, return_target, role_of, row_target, target_at, target_for, target_of, word_of, word_target};
 
 use crate::image::Image;
 use info65::{Entry, Info, RangeType};
@@ -154,7 +154,8 @@ fn code_target<A: Allocator>(image: &Image<A>, opcodes: &DecodeTable, item: Item
     requires some { 0 < length item.bytes.now }
     requires all { item.len ≤ length item.bytes.now }
     requires room { item.address + item.len ≤ 65536 }
-    ensures { result ≡ opcode_target (table_of opcodes.now) image.now item.entry.len item.entry.address item.entry.bytes.now }
+    ensures { result ≡ opcode_target (table_of opcodes.now) image.now
+        item.entry.len item.entry.address item.entry.bytes.now }
 {
     match opcodes.decode(item.bytes[0]) {
         Some(op) => {
@@ -195,7 +196,8 @@ fn target_for<A: Allocator>(
     requires some { 0 < length item.bytes.now }
     requires all { item.len ≤ length item.bytes.now }
     requires room { item.address + item.len ≤ 65536 }
-    ensures { result ≡ target_for (record { info = info.now; image = image.now }) item.entry.role item.entry.len item.entry.address item.entry.bytes.now }
+    ensures { result ≡ target_for (mapped info.now image.now)
+        item.entry.role item.entry.len item.entry.address item.entry.bytes.now }
 {
     match item.role.layout().entry {
         Entry::Instruction => code_target(image, opcodes, item),
@@ -230,8 +232,8 @@ pub fn target_at<A: Allocator>(
     requires high { address < end_of image.now }
     requires room { address + len ≤ end_of image.now }
     requires role { role ≡ role_of info.now address }
-    requires len { len ≡ item_len (record { info = info.now; image = image.now }) address }
-    ensures { result ≡ target_at (record { info = info.now; image = image.now }) address }
+    requires len { len ≡ item_len (mapped info.now image.now) address }
+    ensures { result ≡ target_at (mapped info.now image.now) address }
 {
     let (_, bytes) = image.bytes().split_at(usize::from(address - image.start()));
     let item = Item {

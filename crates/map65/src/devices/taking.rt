@@ -1,6 +1,6 @@
 //! Reading some bytes of a source, whatever they are.
 
-ghost use Rattle.std.specs.Prelude.{◌≡◌, true, take, IfSome, IfOk, OnErr};
+ghost use Rattle.std.specs.Prelude.{◌≡◌, OnErr, OnOk, true, take, IfSome, IfOk};
 ghost use Rattle.map65.specs.declared.devices.taking.TakeFault.TheVariants.{Read, Memory};
 ghost use Rattle.map65.specs.Words.{Counts, IsReadTo, Passes, TakeCount, TakesNoMore, TakesUpTo};
 
@@ -66,7 +66,7 @@ pub fn take_up_to<A: Allocator, R: Source>(
     limit: usize,
 ) -> Result<Vec<u8, A>, TakeFault>
     ensures bytes { IfOk result (λ v. IfSome (R.left input.old) (λ xs. v.items ≡ take limit xs)) }
-    ensures rest { IfOk result (λ _. IsReadTo limit (R.left input.old) (R.left input.new)) }
+    ensures rest { OnOk result (IsReadTo limit (R.left input.old) (R.left input.new)) }
     ensures bound { TakesUpTo limit (R.left input.old) (R.left input.new) }
     ensures count { TakeCount result (R.faults input.old) (R.faults input.new) }
     ensures last { TakesNoMore result (R.failed input.new) }
