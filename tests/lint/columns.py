@@ -13,7 +13,7 @@ WIDER = {
     "isa65": 2,
     "text65": 1,
     "stmt65": 83,
-    "info65": 25,
+    "info65": 22,
     "map65": 5,
     "usage65": 5,
     "da65": 27,

@@ -17,7 +17,7 @@ pub use Rattle.info65.specs.Code.Names.{given_part, given_seen}
 pub use Rattle.info65.specs.Code.Numbers.{ArePages, HasCell, IsSet, NumbersView, SamePages}
 pub use Rattle.info65.specs.Code.Pool.{AreAbove, AreBlocks, IsPool, IsWithin, ReachTo, blank_entry, bytes_of, entry_covers, entry_seen, optional, reach_of, span_of}
 unfoldable pub use Rattle.info65.specs.Code.Pool.{block_start}
-pub use Rattle.info65.specs.Code.Reading.{AlwaysMoves, Leads, Moves, ReadsGroup, TakesToken, is_semicolon, place_after}
+pub use Rattle.info65.specs.Code.Reading.{Advances, Leads, Moves, ReadsGroup, TakesToken, is_semicolon, place_after}
 pub use Rattle.info65.specs.Code.Results.{Appends, Fails, Gives, MayName, Sees}
 pub use Rattle.info65.specs.Code.SegmentTable.{AreFound, AreKeys, AreStarts, IsHolder, IsKeyAt, IsOrder, IsPlace, IsRest, IsSlotted, IsSplit, IsStart, IsTable, blank_start, key_by, key_found, start_at}
 pub use Rattle.info65.specs.Code.Segments.{parts_seen, segment_seen, segments_seen}

@@ -35,8 +35,8 @@ abbrev pub Moves : {X : Type 0} → OptionsView → List GroupView → Place →
 Moves o before place old result next new = Leads (read o place before old) result (λ x. read o (next x) before new)
 
 -- the same under all options, after any groups and to one place
-abbrev pub AlwaysMoves : {X : Type 0} → Place → Stream → Result X InfoFault → Place → Stream → Type 0
-AlwaysMoves place old result next new = (o : OptionsView) (before : List GroupView) → Moves o before place old result (λ x. next) new
+abbrev pub Advances : {X : Type 0} → Place → Stream → Result X InfoFault → Place → Stream → Type 0
+Advances place old result next new = (o : OptionsView) (before : List GroupView) → Moves o before place old result (λ x. next) new
 
 -- a part takes this token, whatever comes after it
 abbrev pub TakesToken : {X : Type 0} → List GroupView → Place → TokenView → Result X InfoFault → (X → Place) → Type 0

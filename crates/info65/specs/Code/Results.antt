@@ -1,5 +1,5 @@
 -- What a call returns beside what the rules give: any call that allocates may be out of memory.
-use Rattle.std.specs.Prelude.{◌≡◌, ◌⊎◌, ◌++◌, List, Option, Result, Ok, Err, option_map}
+use Rattle.std.specs.Prelude.{◌≡◌, ◌⊎◌, ◌++◌, List, Option, Result, Ok, Err, OnOk, option_map}
 use Rattle.std.specs.declared.vec.Vec.{Vec}
 use Rattle.info65.specs.Code.Names.{given_seen}
 use Rattle.info65.specs.Faults.{out_of_memory}
@@ -24,6 +24,6 @@ Sees seen (Err e) defined = defined ≡ Err e
 abbrev pub MayName : {E : Type 0} → Result (Option Given) E → Result (Option NameView) E → Type 0
 MayName result defined = Sees (option_map given_seen) result defined
 
--- this is put after what was there
-abbrev pub Appends : {X A : Type 0} → Vec X A → Vec X A → List X → Type 0
-Appends old new xs = new.items ≡ old.items ++ xs
+-- a call that succeeds puts this after what was there
+abbrev pub Appends : {R E X A : Type 0} → Result R E → Vec X A → Vec X A → List X → Type 0
+Appends result old new xs = OnOk result (new.items ≡ old.items ++ xs)

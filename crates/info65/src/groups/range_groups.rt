@@ -108,7 +108,7 @@ pub fn add_range<A: Allocator>(
     range: Option<RangeSpec>,
 ) -> Result<(), InfoFault>
     requires { IfSome range (λ r. r.first ≤ r.last) }
-    ensures done { OnOk result (Appends ranges.old ranges.new (option_to_list range)) }
+    ensures done { Appends result ranges.old ranges.new (option_to_list range) }
     ensures marked { OnOk result (RangesToo range table.old.items table.new.items) }
     ensures err { IfErr result (λ e. e ≡ out_of_memory) }
 {

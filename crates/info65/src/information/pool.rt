@@ -1,6 +1,6 @@
 //! Names by address, with the bytes of all of them in one pool.
 
-ghost use Rattle.std.specs.Prelude.{◌≡◌, ◌+◌, ◌-◌, ◌<◌, ◌≤◌, ◌++◌, IfErr, IfOk, OnErr, OnOk, length, map, option_copied, option_map};
+ghost use Rattle.std.specs.Prelude.{◌≡◌, ◌+◌, ◌-◌, ◌<◌, ◌≤◌, ◌++◌, IfErr, IfOk, OnErr, length, map, option_copied, option_map};
 ghost use Rattle.std.specs.List.Sorted.{IsNonDecreasingBy};
 ghost use Rattle.info65.specs.Words.{Appends, AreAbove, AreBlocks, AreNames, IsPool, IsWithin, ReachTo, block_start, bytes_of, covering, entry_covers, entry_seen, given_seen, name_at, optional, out_of_memory, reach_of, span_of};
 
@@ -113,7 +113,7 @@ impl<A: Allocator> NamePool<A> {
 
 // Appends bytes, and returns where they are.
 fn put<A: Allocator>(bytes: &mut Vec<u8, A>, text: &[u8]) -> Result<Span, InfoFault>
-    ensures bytes { OnOk result (Appends bytes.old bytes.new text.now) }
+    ensures bytes { Appends result bytes.old bytes.new text.now }
     ensures span { IfOk result (λ s. s ≡ span_of bytes.old.items text.now) }
     ensures same { OnErr result (bytes.new.items ≡ bytes.old.items) }
     ensures err { IfErr result (λ e. e ≡ out_of_memory) }
@@ -129,7 +129,7 @@ fn put_optional<A: Allocator>(
     bytes: &mut Vec<u8, A>,
     text: Option<&[u8]>,
 ) -> Result<Option<Span>, InfoFault>
-    ensures bytes { OnOk result (Appends bytes.old bytes.new (optional (option_copied text.entry))) }
+    ensures bytes { Appends result bytes.old bytes.new (optional (option_copied text.entry)) }
     ensures span { IfOk result (λ s. s ≡ option_map (span_of bytes.old.items) (option_copied text.entry)) }
     ensures same { OnErr result (bytes.new.items ≡ bytes.old.items) }
     ensures err { IfErr result (λ e. e ≡ out_of_memory) }

@@ -1,7 +1,7 @@
 //! The groups of an information file, token by token.
 
 ghost use Rattle.std.specs.Prelude.{◌≡◌, ◌≤◌, ◌∷◌, ◌++◌, IfErr, IfOk, List, None, Ok, [], OnOk, length};
-ghost use Rattle.info65.specs.Words.{AlwaysMoves, AssignmentView, Attribute, Expected, Gives, GroupKind, GroupView, Leads, MayClose, Moves, ReadsGroup, Sees, TakesToken, Word, assigned, assigned_seen, assignment_seen, at_end, attribute_at, closed, closing_fault, fault, group, groups_of, inside, is_semicolon, kind_seen, one, opening, outside, read, read_token, seen, value_seen, valued, wanted, with_token};
+ghost use Rattle.info65.specs.Words.{Advances, AssignmentView, Attribute, Expected, Gives, GroupKind, GroupView, Leads, MayClose, Moves, ReadsGroup, Sees, TakesToken, Word, assigned, assigned_seen, assignment_seen, at_end, attribute_at, closed, closing_fault, fault, group, groups_of, inside, is_semicolon, kind_seen, one, opening, outside, read, read_token, seen, value_seen, valued, wanted, with_token};
 ghost use Rattle.info65.specs.Reader.{value_at};
 
 use crate::fault::{InfoFault, InfoFaultKind};
@@ -91,6 +91,7 @@ fn group<'a, A: Allocator + Copy, B: Allocator>(
     attributes(options, lexer, before, kind, list)
 }
 
+#[tactic(auto, using(crate::proofs::ReaderLemmas::group_taken, crate::proofs::ReaderLemmas::group_unknown))]
 fn group_kind(name: Token) -> Result<GroupKind, InfoFault>
     ensures { (b : List GroupView) → TakesToken b outside (seen name.entry) result opening }
 {
@@ -104,7 +105,7 @@ fn group_kind(name: Token) -> Result<GroupKind, InfoFault>
 }
 
 fn brace(lexer: &mut Lexer) -> Result<(), InfoFault>
-    ensures read { (k : GroupKind) → AlwaysMoves (opening k) lexer.old result (inside k []) lexer.new }
+    ensures read { (k : GroupKind) → Advances (opening k) lexer.old result (inside k []) lexer.new }
     ensures shorter { length lexer.new.tokens ≤ length lexer.old.tokens }
 {
     let token = due(lexer)?;
@@ -115,7 +116,7 @@ fn brace(lexer: &mut Lexer) -> Result<(), InfoFault>
 }
 
 fn separator(lexer: &mut Lexer) -> Result<(), InfoFault>
-    ensures read { (k : GroupKind) (given : List AssignmentView) → AlwaysMoves (assigned k given) lexer.old result (inside k given) lexer.new }
+    ensures read { (k : GroupKind) (given : List AssignmentView) → Advances (assigned k given) lexer.old result (inside k given) lexer.new }
     ensures shorter { length lexer.new.tokens ≤ length lexer.old.tokens }
 {
     let token = due(lexer)?;
@@ -225,6 +226,7 @@ fn attribute<'a, A: Allocator + Copy, B: Allocator>(
     Ok(Assignment { attribute, value })
 }
 
+#[tactic(auto, using(crate::proofs::ReaderLemmas::attribute_read))]
 fn attribute_name<'a, A: Allocator + Copy>(
     before: &Closed<'a, A>,
     kind: GroupKind,

@@ -1,6 +1,6 @@
 //! Reads the groups of the lines `#: ..`.
 
-ghost use Rattle.std.specs.Prelude.{[], ◌≡◌, ◌++◌, ◌≤◌, OnOk, length};
+ghost use Rattle.std.specs.Prelude.{[], ◌≡◌, ◌++◌, ◌≤◌, length};
 ghost use Rattle.std.specs.Option.{option_to_list};
 ghost use Rattle.info65.specs.Words.{Appends, Gives, Turns, tags_in, tags_of};
 
@@ -13,7 +13,7 @@ use std::alloc::{AllocError, Allocator};
 
 /// Adds a group, if there is one.
 fn put<A: Allocator>(found: &mut Vec<Tag, A>, tag: Option<Tag>) -> Result<(), AllocError>
-    ensures { OnOk result (Appends found.old found.new (option_to_list tag)) }
+    ensures { Appends result found.old found.new (option_to_list tag) }
 {
     if let Some(tag) = tag {
         found.push(tag)?;
