@@ -87,13 +87,7 @@ fn name_part<'a>(
 
 impl<'a, A: Allocator + Copy> Closed<'a, A> {
     ghost use Rattle.std.specs.Prelude.{◌≡◌, ◌∷◌, ◌++◌, IfErr, IfOk, Ok, []};
-    ghost use Rattle.info65.specs.Closing.{closing_fault};
-    ghost use Rattle.info65.specs.Code.Groups.{MayClose, assigned_seen, group_seen, groups_seen};
-    ghost use Rattle.info65.specs.Code.Kept.{kept_of};
-    ghost use Rattle.info65.specs.Code.Results.{Gives};
-    ghost use Rattle.info65.specs.Faults.{out_of_memory};
-    ghost use Rattle.info65.specs.Labels.{by_address, names_said};
-    ghost use Rattle.info65.specs.Ranges.{ranges_of};
+    ghost use Rattle.info65.specs.Words.{Gives, MayClose, assigned_seen, by_address, closing_fault, group_seen, groups_seen, kept_of, names_said, out_of_memory, ranges_of};
 
     /// No groups, where those of that many bytes are to come.
     pub fn new(alloc: A, bytes: usize) -> Result<Self, InfoFault>

@@ -138,10 +138,7 @@ impl<'a, A: Allocator> Model for Inclusion<'a, A> {
 
 impl<'a, A: Allocator + Copy> Inclusion<'a, A> {
     ghost use Rattle.std.specs.Prelude.{◌≡◌, ◌<◌, Ok, length};
-    ghost use Rattle.info65.specs.Code.Results.{Gives};
-    ghost use Rattle.info65.specs.IncludeGroups.{AreIncludes};
-    ghost use Rattle.info65.specs.Includes.{included};
-    ghost use Rattle.info65.specs.Names.{AreNames};
+    ghost use Rattle.info65.specs.Words.{AreIncludes, AreNames, Gives, included};
 
     /// The information as it is. `bytes` is how many bytes its include files have together: memory for looking names up
     /// is taken in proportion to it.

@@ -47,14 +47,7 @@ impl<A: Allocator> Model for Info<A> {
 
 impl<A: Allocator> Info<A> {
     ghost use Rattle.std.specs.Prelude.{◌≡◌, ◌<◌, length, option_copied, option_map};
-    ghost use Rattle.info65.specs.Code.Names.{given_seen};
-    ghost use Rattle.info65.specs.Code.Segments.{segments_seen};
-    ghost use Rattle.info65.specs.IncludeGroups.{AreIncludes};
-    ghost use Rattle.info65.specs.Includes.{with_names};
-    ghost use Rattle.info65.specs.Names.{AreNames, covering, name_at};
-    ghost use Rattle.info65.specs.Ranges.{AreRanges};
-    ghost use Rattle.info65.specs.Segments.{AreSegments, first_named, segment_covering, segment_key};
-    ghost use Rattle.info65.specs.Views.{AreInLimits};
+    ghost use Rattle.info65.specs.Words.{AreInLimits, AreIncludes, AreNames, AreRanges, AreSegments, covering, first_named, given_seen, name_at, segment_covering, segment_key, segments_seen, with_names};
 
     /// The settings: the options, the groups GLOBAL and the defaults.
     pub fn settings(&self) -> &Settings<A>

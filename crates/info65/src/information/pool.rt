@@ -63,9 +63,7 @@ impl<A: Allocator + Copy> NamePool<A> {
 
 impl<A: Allocator> NamePool<A> {
     ghost use Rattle.std.specs.Prelude.{◌≡◌, ◌<◌, ◌∷◌, ◌++◌, IfErr, [], OnOk, length, option_map};
-    ghost use Rattle.info65.specs.Code.Names.{given_seen};
-    ghost use Rattle.info65.specs.Faults.{out_of_memory};
-    ghost use Rattle.info65.specs.Names.{AreNames, covering, name_at};
+    ghost use Rattle.info65.specs.Words.{AreNames, covering, given_seen, name_at, out_of_memory};
 
     /// How many names there are.
     pub(crate) fn count(&self) -> usize

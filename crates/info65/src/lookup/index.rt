@@ -58,14 +58,7 @@ fn numbered<'a>(names: &[Given<'a>], number: usize) -> Option<Given<'a>>
 impl<'a, A: Allocator + Copy> Index<'a, A> {
     ghost use Rattle.std.specs.Prelude.{◌≡◌, ◌≢◌, ◌++◌, ◌∷◌, AllPairs, IfErr, None, Ok, [], OnOk, option_map};
     ghost use Rattle.std.specs.List.{list_any};
-    ghost use Rattle.info65.specs.Closing.{label_fault, optional_name_fault};
-    ghost use Rattle.info65.specs.Code.Groups.{assigned_seen};
-    ghost use Rattle.info65.specs.Code.Index.{text_at};
-    ghost use Rattle.info65.specs.Code.Names.{given_part, given_seen};
-    ghost use Rattle.info65.specs.Code.Results.{Gives, MayName};
-    ghost use Rattle.info65.specs.Faults.{out_of_memory};
-    ghost use Rattle.info65.specs.Includes.{name_adds};
-    ghost use Rattle.info65.specs.Labels.{by_address, is_at, is_elsewhere, label_in, name_fault};
+    ghost use Rattle.info65.specs.Words.{Gives, MayName, assigned_seen, by_address, given_part, given_seen, is_at, is_elsewhere, label_fault, label_in, name_adds, name_fault, optional_name_fault, out_of_memory, text_at};
 
     /// No names, where those of that many bytes are to come. Allocates nothing.
     pub fn new(alloc: A, bytes: usize) -> Self

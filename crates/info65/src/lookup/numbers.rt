@@ -53,8 +53,7 @@ impl<A: Allocator> Model for Numbers<A> {
 
 impl<A: Allocator> Numbers<A> {
     ghost use Rattle.std.specs.Prelude.{◌≡◌, ◌<◌, ◌≤◌, ℕ, [], IfErr, IsTrue, OnOk, get_or, length};
-    ghost use Rattle.info65.specs.Code.Numbers.{IsSet};
-    ghost use Rattle.info65.specs.Faults.{out_of_memory};
+    ghost use Rattle.info65.specs.Words.{IsSet, out_of_memory};
 
     /// So many numbers, each of which is 0. Allocates nothing.
     pub fn new(alloc: A, count: usize) -> Self

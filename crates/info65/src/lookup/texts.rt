@@ -29,8 +29,7 @@ pub struct Texts<'a, A: Allocator> {
 
 impl<'a, A: Allocator + Copy> Texts<'a, A> {
     ghost use Rattle.std.specs.Prelude.{◌≡◌, ℕ, List, None, IfErr, OnErr, OnOk};
-    ghost use Rattle.info65.specs.Code.Texts.{AddsText, StandsAlike, texts_seen};
-    ghost use Rattle.info65.specs.Faults.{out_of_memory};
+    ghost use Rattle.info65.specs.Words.{AddsText, StandsAlike, out_of_memory, texts_seen};
 
     /// No texts, where those of a file of that many bytes are to come. Allocates nothing.
     pub fn new(alloc: A, bytes: usize) -> Self
