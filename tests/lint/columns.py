@@ -14,7 +14,7 @@ WIDER = {
     "text65": 1,
     "stmt65": 83,
     "info65": 22,
-    "map65": 5,
+    "map65": 4,
     "usage65": 5,
     "da65": 27,
     "reach65": 20,

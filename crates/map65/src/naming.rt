@@ -53,8 +53,8 @@ fn mark_span(cells: &mut [u16], from: usize, to: usize)
 fn mark_name(cells: &mut [u16], name: Given<'_>, reach: usize) -> usize
     requires count { length cells.old ≡ 65536 }
     requires room { name.address + name.size ≤ 65536 }
-    ensures marked { Changes with_name
-        (is_within (max name.entry.address reach) (name.entry.address + name.entry.size)) cells.old cells.new }
+    ensures marked { Changes with_name (is_within (max name.entry.address reach)
+        (name.entry.address + name.entry.size)) cells.old cells.new }
     ensures reach { result ≡ max reach (name.entry.address + name.entry.size) }
 {
     let first = usize::from(name.address);
