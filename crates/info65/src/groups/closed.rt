@@ -1,7 +1,7 @@
 //! The groups of an information file that are closed.
 
-ghost use Rattle.std.specs.Prelude.{◌≡◌, ◌++◌, IfErr, OnOk, option_to_list};
-ghost use Rattle.info65.specs.Words.{assigned_seen, given_part, group, group_seen, groups_seen, kept_part, name_part, out_of_memory, range_part};
+ghost use Rattle.std.specs.Prelude.{◌≡◌, ◌++◌, ◌∷◌, IfErr, IfOk, Ok, OnOk, [], option_to_list};
+ghost use Rattle.info65.specs.Words.{Gives, MayClose, assigned_seen, by_address, closing_fault, given_part, group, group_seen, groups_seen, kept_of, kept_part, name_part, names_said, out_of_memory, range_part, ranges_of};
 
 use crate::fault::{InfoFault, InfoFaultKind};
 use crate::groups::group_list::GroupList;
@@ -86,9 +86,6 @@ fn name_part<'a>(
 }
 
 impl<'a, A: Allocator + Copy> Closed<'a, A> {
-    ghost use Rattle.std.specs.Prelude.{◌≡◌, ◌∷◌, ◌++◌, IfErr, IfOk, Ok, []};
-    ghost use Rattle.info65.specs.Words.{Gives, MayClose, assigned_seen, by_address, closing_fault, group_seen, groups_seen, kept_of, names_said, out_of_memory, ranges_of};
-
     /// No groups, where those of that many bytes are to come.
     pub fn new(alloc: A, bytes: usize) -> Result<Self, InfoFault>
         ensures { Gives (λ c. c) result (Ok []) }

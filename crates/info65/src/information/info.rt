@@ -1,7 +1,7 @@
 //! What an information file says.
 
-ghost use Rattle.std.specs.Prelude.{◌≡◌, ◌<◌, IfErr, IfOk, Ok, length};
-ghost use Rattle.info65.specs.Words.{AreAllFormed, AreFormed, Gives, Includes, global_seen, groups_seen, includes_of, information, out_of_memory, segments_of, settings_of};
+ghost use Rattle.std.specs.Prelude.{◌≡◌, ◌<◌, IfErr, IfOk, Ok, length, option_copied, option_map};
+ghost use Rattle.info65.specs.Words.{AreAllFormed, AreFormed, AreInLimits, AreIncludes, AreNames, AreRanges, AreSegments, Gives, Includes, covering, first_named, given_seen, global_seen, groups_seen, includes_of, information, name_at, out_of_memory, segment_covering, segment_key, segments_of, segments_seen, settings_of, with_names};
 
 use crate::fault::{InfoFault, InfoFaultKind};
 use crate::groups::include_groups::includes_of;
@@ -46,9 +46,6 @@ impl<A: Allocator> Model for Info<A> {
 }
 
 impl<A: Allocator> Info<A> {
-    ghost use Rattle.std.specs.Prelude.{◌≡◌, ◌<◌, length, option_copied, option_map};
-    ghost use Rattle.info65.specs.Words.{AreInLimits, AreIncludes, AreNames, AreRanges, AreSegments, covering, first_named, given_seen, name_at, segment_covering, segment_key, segments_seen, with_names};
-
     /// The settings: the options, the groups GLOBAL and the defaults.
     pub fn settings(&self) -> &Settings<A>
         ensures settings { result.now ≡ self.now.settings }

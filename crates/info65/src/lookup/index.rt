@@ -1,7 +1,7 @@
 //! An index of names.
 
-ghost use Rattle.std.specs.Prelude.{◌≡◌, ℕ, Ok, map};
-ghost use Rattle.info65.specs.Words.{Gives, IsFoundAt, by_address, given_seen, numbered};
+ghost use Rattle.std.specs.Prelude.{◌≡◌, ◌≢◌, ◌++◌, ◌∷◌, ℕ, AllPairs, IfErr, None, Ok, OnOk, [], map, option_map};
+ghost use Rattle.info65.specs.Words.{Gives, IsFoundAt, MayName, assigned_seen, by_address, given_part, given_seen, is_at, is_elsewhere, label_fault, label_in, name_adds, name_fault, numbered, optional_name_fault, out_of_memory, text_at};
 
 use crate::fault::{InfoFault, InfoFaultKind};
 use crate::groups::label_groups::label_in;
@@ -56,9 +56,7 @@ fn numbered<'a>(names: &[Given<'a>], number: usize) -> Option<Given<'a>>
 }
 
 impl<'a, A: Allocator + Copy> Index<'a, A> {
-    ghost use Rattle.std.specs.Prelude.{◌≡◌, ◌≢◌, ◌++◌, ◌∷◌, AllPairs, IfErr, None, Ok, [], OnOk, option_map};
     ghost use Rattle.std.specs.List.{list_any};
-    ghost use Rattle.info65.specs.Words.{Gives, MayName, assigned_seen, by_address, given_part, given_seen, is_at, is_elsewhere, label_fault, label_in, name_adds, name_fault, optional_name_fault, out_of_memory, text_at};
 
     /// No names, where those of that many bytes are to come. Allocates nothing.
     pub fn new(alloc: A, bytes: usize) -> Self
