@@ -17,7 +17,7 @@ WIDER = {
     "map65": 4,
     "usage65": 5,
     "da65": 27,
-    "reach65": 20,
+    "reach65": 4,
     "files65": 2,
     "da65_cli": 2,
     "as65": 11,

@@ -27,9 +27,13 @@ keep_ranked marks rank c p = if p.rank == rank && is_likely marks p.address then
 unfoldable pub keep_rank : Survey → List Pair → Choice → ℕ → Choice
 keep_rank marks pairs c rank = fold (keep_ranked marks rank) c pairs
 
--- one rank after the other, where these marks are set for bytes that are in no pair
+-- one rank after the other
+abbrev pub keep_ranks : Survey → List Pair → Choice → List ℕ → Choice
+keep_ranks marks pairs c ranks = fold (keep_rank marks pairs) c ranks
+
+-- the ranks from 0 on, where these marks are set for bytes that are in no pair
 unfoldable pub kept_of : Survey → List Bool → List Pair → List Pair
-kept_of marks used pairs = (fold (keep_rank marks pairs) (record { used = used; kept = [] }) (0 ∷ 1 ∷ 2 ∷ 3 ∷ 4 ∷ 5 ∷ 6 ∷ [])).kept
+kept_of marks used pairs = (keep_ranks marks pairs (record { used = used; kept = [] }) (0 ∷ 1 ∷ 2 ∷ 3 ∷ 4 ∷ 5 ∷ 6 ∷ [])).kept
 
 -- those that are kept, by the places of their low bytes
 pub record AreHalves (marks : Survey) (used : List Bool) (pairs found : List Pair) : Type 0 where

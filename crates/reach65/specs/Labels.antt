@@ -7,9 +7,13 @@ use Rattle.info65.specs.Words.{NameView, covering, default_name}
 use Rattle.reach65.specs.Reached.{is_marked}
 use Rattle.reach65.specs.Types.{Pair}
 
+-- a pair forms the address
+abbrev pub is_formed : List Pair → ℕ → Bool
+is_formed pairs a = list_any (λ p. p.address == a) pairs
+
 -- the address of a pair, or a variable
 unfoldable pub is_wanted : List Pair → List ℕ → ℕ → Bool
-is_wanted pairs variables a = list_any (λ p. p.address == a) pairs || list_any (λ v. v == a) variables
+is_wanted pairs variables a = is_formed pairs a || list_any (λ v. v == a) variables
 
 unfoldable pub is_label : List NameView → List Pair → List ℕ → ℕ → Bool
 is_label names pairs variables a = is_wanted pairs variables a && is_none (covering names a)

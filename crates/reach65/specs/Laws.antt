@@ -5,7 +5,7 @@ use Rattle.reach65.specs.Types.{Op, RangeSpec, Tag}
 use Rattle.info65.specs.Words.{InfoView}
 use Rattle.map65.specs.Words.{AreOneRun, IsPlaced, MapView, item_len}
 use Rattle.reach65.specs.Flow.{instruction_at}
-use Rattle.reach65.specs.Pieces.{ArePieces}
+use Rattle.reach65.specs.Pieces.{ArePieces, ground_with}
 use Rattle.reach65.specs.Reached.{AreReached, is_marked}
 use Rattle.reach65.specs.Taken.{AreMarkedBy, has_byte, is_given, is_taken}
 
@@ -47,5 +47,5 @@ pub record KeepsItems (m : MapView) (marks : List Bool) (info : InfoView) : Type
 abbrev pub CodeLaw : MapView → Type 0
 CodeLaw m = (tags : List Tag) (entries : List ℕ) (marks taken words returns texts : List Bool) (pieces : List RangeSpec) (info : InfoView)
     → IsPlaced m.image → AreReached (record { map = m; tags = tags }) entries marks → AreMarkedBy (is_taken m marks) taken
-    → ArePieces (record { image = m.image; taken = taken; words = words; returns = returns; texts = texts }) 0 pieces → IsWith m.info info pieces
+    → ArePieces (ground_with m.image taken words returns texts) 0 pieces → IsWith m.info info pieces
     → AreWhole m marks → KeepsItems m marks info

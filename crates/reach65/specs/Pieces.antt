@@ -9,6 +9,7 @@ use Rattle.reach65.specs.Types.{Alphabet, RangeSpec, RangeType}
 use Rattle.info65.specs.declared.information.range.RangeType.TheVariants as role
 use Rattle.map65.specs.Words.{ImageView, byte_at, bytes_from, end_of, is_inside}
 use Rattle.reach65.specs.Reached.{is_marked}
+use Rattle.reach65.specs.Taken.{is_given}
 use Rattle.reach65.specs.Texts.{are_chars, are_enough, is_char, letter_count}
 use Rattle.reach65.specs.declared.texts.Alphabet.TheVariants as alphabet
 
@@ -20,6 +21,9 @@ pub record Ground : Type 0 where
   pub words : List Bool
   pub returns : List Bool
   pub texts : List Bool
+
+abbrev pub ground_with : ImageView → List Bool → List Bool → List Bool → List Bool → Ground
+ground_with image taken words returns texts = record { image = image; taken = taken; words = words; returns = returns; texts = texts }
 
 -- an address of the image that nothing speaks for
 unfoldable pub is_free : Ground → ℕ → Bool
@@ -152,3 +156,7 @@ pub record LiesIn (image : ImageView) (r : RangeSpec) : Type 0 where
 
 abbrev pub LieIn : ImageView → List RangeSpec → Type 0
 LieIn image ranges = All (LiesIn image) ranges
+
+-- the ranges have exactly the addresses that nothing speaks for
+abbrev pub HaveAllFree : Ground → List RangeSpec → Type 0
+HaveAllFree g ranges = (a : ℕ) → is_given ranges a ≡ is_free g a

@@ -12,6 +12,10 @@ pub data Reached (f : FlowView) (entries : List ℕ) : ℕ → Type 0 where
 abbrev pub is_marked : List Bool → ℕ → Bool
 is_marked marks a = get_or marks a false
 
+-- the address is marked, and passes the test
+abbrev pub is_marked_and : List Bool → ℕ → (ℕ → Bool) → Bool
+is_marked_and marks a p = is_marked marks a && p a
+
 -- none is set
 unfoldable pub no_marks : List Bool
 no_marks = replicate 65536 false
@@ -23,4 +27,4 @@ pub record AreReached (f : FlowView) (entries : List ℕ) (marks : List Bool) : 
 
 -- an address of the image is marked and passes the test
 unfoldable pub any_marked : MapView → List Bool → (ℕ → Bool) → Bool
-any_marked m marks p = list_any (λ a. is_marked marks a && p a) (addresses (length m.image.bytes) m.image.start)
+any_marked m marks p = list_any (λ a. is_marked_and marks a p) (addresses (length m.image.bytes) m.image.start)

@@ -5,7 +5,7 @@ use Rattle.info65.specs.Words.{AreNames, InfoView, NameView, OptionsView, by_add
 use Rattle.reach65.specs.Types.{RangeSpec}
 use Rattle.map65.specs.Words.{ImageView, IsPlaced, MapView}
 use Rattle.reach65.specs.Labels.{AreNewLabels, label_lines}
-use Rattle.reach65.specs.Pieces.{ArePieces}
+use Rattle.reach65.specs.Pieces.{ArePieces, ground_with}
 use Rattle.reach65.specs.RangeLines.{range_lines}
 use Rattle.reach65.specs.Taken.{AreMarkedBy, is_taken}
 
@@ -43,7 +43,7 @@ with_found info ranges labels = record info { ranges = info.ranges ++ ranges; na
 abbrev pub TextLaw : MapView → Type 0
 TextLaw m = (o : OptionsView) (file text : List ℕ) (info : InfoView) (marks taken words returns texts : List Bool) (pieces : List RangeSpec) (labels : List ℕ)
     → information o file ≡ Ok info → m.info.ranges ≡ info.ranges → AreAmong info.names m.info.names → AreNames m.info.names
-    → IsPlaced m.image → AreMarkedBy (is_taken m marks) taken → ArePieces (record { image = m.image; taken = taken; words = words; returns = returns; texts = texts }) 0 pieces
+    → IsPlaced m.image → AreMarkedBy (is_taken m marks) taken → ArePieces (ground_with m.image taken words returns texts) 0 pieces
     → AreNewLabels m.info.names 0 labels
     → IsProposal m.image pieces labels text → length (file ++ text) ≤ 1_048_576
     → information o (file ++ text) ≡ Ok (with_found info pieces labels)

@@ -1,9 +1,9 @@
 //! Where reading begins.
 
-ghost use Rattle.std.specs.Prelude.{◌≡◌, ◌+◌, ◌++◌, ◌<◌, ◌≤◌, ℕ, IfOk, OnOk, length};
+ghost use Rattle.std.specs.Prelude.{◌≡◌, ◌+◌, ◌<◌, ◌≤◌, ℕ, length};
 ghost use Rattle.std.specs.Option.{option_to_list};
 ghost use Rattle.map65.specs.Words.{MapView, end_of};
-ghost use Rattle.reach65.specs.Words.{code_start, code_starts, entries_of, entries_with, has_vectors, plain_entries_of, pointer_at, pointer_for, pointers, vectors, word_at};
+ghost use Rattle.reach65.specs.Words.{Puts, Returns, code_start, code_starts, entries_of, entries_with, has_vectors, plain_entries_of, pointer_at, pointer_for, pointers, vectors, word_at};
 
 use crate::flow::{byte_at, bytes_from};
 use info65::{Entry, RangeSpec, RangeType};
@@ -12,7 +12,7 @@ use std::alloc::{AllocError, Allocator};
 
 /// Adds an address, if there is one.
 fn put_some<A: Allocator>(found: &mut Vec<u16, A>, address: Option<u16>) -> Result<(), AllocError>
-    ensures { OnOk result (found.new.items ≡ found.old.items ++ option_to_list address) }
+    ensures { Puts result found.old found.new (option_to_list address) }
 {
     if let Some(address) = address {
         found.push(address)?;
@@ -56,7 +56,7 @@ pub fn pointers_of<A: Allocator, B: Allocator>(
     alloc: A,
     map: &Map<'_, B>,
 ) -> Result<Vec<u16, A>, AllocError>
-    ensures { IfOk result (λ found. found.items ≡ pointers map.now) }
+    ensures { Returns result (pointers map.now) }
 {
     let mut found = Vec::new(alloc);
     let image = map.image();
@@ -86,7 +86,7 @@ fn put_code_starts<A: Allocator>(
     found: &mut Vec<u16, A>,
     ranges: &[RangeSpec],
 ) -> Result<(), AllocError>
-    ensures { OnOk result (found.new.items ≡ found.old.items ++ code_starts ranges.now) }
+    ensures { Puts result found.old found.new (code_starts ranges.now) }
 {
     'starts: for &range in ranges {
         put_some(found, code_start(range))?;
@@ -119,7 +119,7 @@ fn put_vectors<A: Allocator, B: Allocator>(
     found: &mut Vec<u16, A>,
     image: &Image<B>,
 ) -> Result<(), AllocError>
-    ensures { OnOk result (found.new.items ≡ found.old.items ++ vectors image.now) }
+    ensures { Puts result found.old found.new (vectors image.now) }
 {
     if has_vectors(image) {
         found.push(word_at(image, 0xFFFA))?;
@@ -138,7 +138,7 @@ fn entries_with<A: Allocator, B: Allocator>(
     map: &Map<'_, B>,
     given: &[u16],
 ) -> Result<Vec<u16, A>, AllocError>
-    ensures { IfOk result (λ found. found.items ≡ entries_with map.now tables.items given.now) }
+    ensures { Returns result (entries_with map.now tables.items given.now) }
 {
     put_code_starts(&mut tables, map.info().ranges())?;
     put_vectors(&mut tables, map.image())?;
@@ -157,7 +157,7 @@ pub fn entries_of<A: Allocator, B: Allocator>(
     map: &Map<'_, B>,
     given: &[u16],
 ) -> Result<Vec<u16, A>, AllocError>
-    ensures { IfOk result (λ found. found.items ≡ entries_of map.now given.now) }
+    ensures { Returns result (entries_of map.now given.now) }
 {
     entries_with(Vec::new(alloc), map, given)
 }
@@ -170,7 +170,7 @@ pub fn plain_entries_of<A: Allocator, B: Allocator>(
     map: &Map<'_, B>,
     given: &[u16],
 ) -> Result<Vec<u16, A>, AllocError>
-    ensures { IfOk result (λ found. found.items ≡ plain_entries_of map.now given.now) }
+    ensures { Returns result (plain_entries_of map.now given.now) }
 {
     entries_with(pointers_of(alloc, map)?, map, given)
 }

@@ -1,8 +1,8 @@
 //! The addresses that get labels with default names.
 
-ghost use Rattle.std.specs.Prelude.{[], ◌≡◌, ◌==◌, ◌++◌, ◌<◌, IfOk, OnOk, length};
+ghost use Rattle.std.specs.Prelude.{[], ◌≡◌, ◌==◌, ◌<◌, IfOk, length};
 ghost use Rattle.std.specs.List.{list_any};
-ghost use Rattle.reach65.specs.Words.{AreNewLabels, Marks, is_unnamed, is_wanted, label_at, labels_from, labels_of};
+ghost use Rattle.reach65.specs.Words.{AreNewLabels, Marks, Puts, Returns, is_formed, is_unnamed, is_wanted, label_at, labels_from, labels_of};
 
 use crate::marks::{blank_marks, mark_some};
 use crate::pairs::Pair;
@@ -13,7 +13,7 @@ use std::alloc::{AllocError, Allocator};
 /// Marks the addresses that the pairs form.
 fn mark_pairs<A: Allocator>(marks: &mut Vec<bool, A>, pairs: &[Pair])
     requires count { length marks.old.items ≡ 65536 }
-    ensures { Marks (λ a. list_any (λ p. p.address == a) pairs.now) marks.old.items marks.new.items }
+    ensures { Marks (is_formed pairs.now) marks.old.items marks.new.items }
 {
     'pairs: for &pair in pairs {
         mark_some(marks, Some(pair.address));
@@ -64,7 +64,7 @@ fn put_unnamed<A: Allocator, B: Allocator>(
 ) -> Result<(), AllocError>
     requires count { length marks.now ≡ 65536 }
     requires low { at < 65536 }
-    ensures { OnOk result (found.new.items ≡ found.old.items ++ label_at (is_unnamed info.now.names marks.now) at) }
+    ensures { Puts result found.old found.new (label_at (is_unnamed info.now.names marks.now) at) }
 {
     if is_unnamed(info, marks, at) {
         found.push(at as u16)?;
@@ -80,7 +80,7 @@ fn unnamed<A: Allocator, B: Allocator>(
     marks: &[bool],
 ) -> Result<Vec<u16, A>, AllocError>
     requires { length marks.now ≡ 65536 }
-    ensures { IfOk result (λ found. found.items ≡ labels_from (is_unnamed info.now.names marks.now) 0 65536) }
+    ensures { Returns result (labels_from (is_unnamed info.now.names marks.now) 0 65536) }
 {
     let mut found = Vec::new(alloc);
     'labels: for at in 0..ADDRESSES {
@@ -99,7 +99,7 @@ pub fn labels_of<A: Allocator, B: Allocator>(
 ) -> Result<Vec<u16, A>, AllocError>
 where
     A: Copy,
-    ensures labels { IfOk result (λ found. found.items ≡ labels_of info.now.names pairs.now variables.now) }
+    ensures labels { Returns result (labels_of info.now.names pairs.now variables.now) }
     ensures new { IfOk result (λ found. AreNewLabels info.now.names 0 found.items) }
 {
     let marks = wanted(alloc, pairs, variables)?;

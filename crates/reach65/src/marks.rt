@@ -2,7 +2,7 @@
 
 ghost use Rattle.std.specs.Prelude.{◌≡◌, ◌≤◌, ◌&&◌, ℕ, IfOk, false, length, nat_le, nat_lt, replicate};
 ghost use Rattle.info65.specs.Words.{has_address};
-ghost use Rattle.reach65.specs.Words.{Marks, is_given, is_it, is_marked, no_marks};
+ghost use Rattle.reach65.specs.Words.{Marks, Returns, is_given, is_it, is_marked, no_marks};
 
 use info65::RangeSpec;
 use map65::ADDRESSES;
@@ -11,7 +11,7 @@ use std::alloc::{AllocError, Allocator};
 /// This many marks, none of which is set.
 #[tactic(auto, using(crate::proofs::TakenLemmas::none_set))]
 fn unset_marks<A: Allocator>(alloc: A, count: usize) -> Result<Vec<bool, A>, AllocError>
-    ensures marks { IfOk result (λ v. v.items ≡ replicate count false) }
+    ensures marks { Returns result (replicate count false) }
     ensures each { IfOk result (λ v. (a : ℕ) → is_marked v.items a ≡ false) }
 {
     vec![in alloc; false; count]
@@ -20,7 +20,7 @@ fn unset_marks<A: Allocator>(alloc: A, count: usize) -> Result<Vec<bool, A>, All
 /// Marks of which none is set.
 #[tactic(auto, unfolding(crate::specs::Reached::no_marks))]
 pub fn blank_marks<A: Allocator>(alloc: A) -> Result<Vec<bool, A>, AllocError>
-    ensures marks { IfOk result (λ v. v.items ≡ no_marks) }
+    ensures marks { Returns result no_marks }
     ensures count { IfOk result (λ v. length v.items ≡ 65536) }
     ensures each { IfOk result (λ v. (a : ℕ) → is_marked v.items a ≡ false) }
 {

@@ -2,7 +2,7 @@
 
 ghost use Rattle.std.specs.Prelude.{◌≡◌, ◌≢◌, ◌+◌, ◌<◌, ◌≤◌, ℕ, IfNone, IfOk, IfSome, IsTrue, false, true, get_or, length, replicate, take};
 ghost use Rattle.map65.specs.Words.{byte_at, bytes_from, end_of, is_inside};
-ghost use Rattle.reach65.specs.Words.{AreLens, AreMarkedBy, ArePieces, AreTails, IsKnown, IsPiece, IsRun, IsStretch, IsTail, LieIn, NoneIn, begins_text, chars_at, free_word, is_break, is_filler, is_free, is_given, is_marked, is_of, is_open, is_plain, is_same, is_written, no_lens, text_len};
+ghost use Rattle.reach65.specs.Words.{AreLens, AreMarkedBy, ArePieces, AreTails, HaveAllFree, IsKnown, IsPiece, IsRun, IsStretch, IsTail, LieIn, NoneIn, Returns, ReturnsMarks, begins_text, chars_at, free_word, ground_with, is_break, is_filler, is_free, is_marked, is_of, is_open, is_plain, is_same, is_written, no_lens, text_len};
 
 use crate::entries::word_at;
 use crate::flow::byte_at;
@@ -40,7 +40,7 @@ impl<'a, A: Allocator> Model for Ground<'a, A> {
 
 /// This many lengths, all 0.
 fn zero_lens<A: Allocator>(alloc: A, count: usize) -> Result<Vec<usize, A>, AllocError>
-    ensures { IfOk result (λ lens. lens.items ≡ replicate count 0) }
+    ensures { Returns result (replicate count 0) }
 {
     vec![in alloc; 0usize; count]
 }
@@ -48,7 +48,7 @@ fn zero_lens<A: Allocator>(alloc: A, count: usize) -> Result<Vec<usize, A>, Allo
 /// A length for each address, all 0.
 #[tactic(auto, unfolding(crate::specs::Code::Cutting::no_lens))]
 fn no_lens<A: Allocator>(alloc: A) -> Result<Vec<usize, A>, AllocError>
-    ensures lens { IfOk result (λ lens. lens.items ≡ no_lens) }
+    ensures lens { Returns result no_lens }
     ensures count { IfOk result (λ lens. length lens.items ≡ 65536) }
 {
     zero_lens(alloc, ADDRESSES)
@@ -79,7 +79,7 @@ impl<'a, A: Allocator> Ground<'a, A> {
         requires words { length words.now ≡ 65536 }
         requires returns { length returns.now ≡ 65536 }
         requires texts { length texts.now ≡ 65536 }
-        ensures { result ≡ record { image = image.now; taken = taken.now; words = words.now; returns = returns.now; texts = texts.now } }
+        ensures { result ≡ ground_with image.now taken.now words.now returns.now texts.now }
     {
         Ground {
             image,
@@ -171,7 +171,7 @@ impl<'a, A: Allocator> Ground<'a, A> {
     /// Marks where filler begins.
     #[tactic(auto, using(crate::proofs::PieceLemmas::before_filler, crate::proofs::PieceLemmas::past_filler, crate::proofs::PieceLemmas::run_past))]
     fn fillers<B: Allocator>(&self, alloc: B) -> Result<Vec<bool, B>, AllocError>
-        ensures { IfOk result (λ marks. AreMarkedBy (is_filler self.now) marks.items) }
+        ensures { ReturnsMarks result (is_filler self.now) }
     {
         let mut marks = blank_marks(alloc)?;
         let start = usize::from(self.image.start());
@@ -385,7 +385,7 @@ impl<'a, A: Allocator> Ground<'a, A> {
         ensures pieces { IfOk result (λ found. ArePieces self.now 0 found.items) }
 
         // They have exactly the addresses that nothing speaks for.
-        ensures cover { IfOk result (λ found. (a : ℕ) → is_given found.items a ≡ is_free self.now a) }
+        ensures cover { IfOk result (λ found. HaveAllFree self.now found.items) }
         ensures inside { IfOk result (λ found. LieIn self.now.image found.items) }
     {
         let fillers = self.fillers(alloc)?;
@@ -568,7 +568,7 @@ impl<'a, 'g, A: Allocator> Texts<'a, 'g, A> {
         ensures pieces { IfOk result (λ found. ArePieces self.now 0 found.items) }
 
         // They have exactly the addresses that nothing speaks for.
-        ensures cover { IfOk result (λ found. (a : ℕ) → is_given found.items a ≡ is_free self.now a) }
+        ensures cover { IfOk result (λ found. HaveAllFree self.now found.items) }
         ensures inside { IfOk result (λ found. LieIn self.now.image found.items) }
     {
         let mut found = Vec::new(alloc);

@@ -3,7 +3,7 @@
 ghost use Rattle.std.specs.Prelude.{◌≡◌, ◌⊎◌, ◌<◌, ◌+◌, ◌≤◌, IfOk, IfSome, OnOk, false, length, true};
 ghost use Rattle.isa65.specs.Words.{len_of};
 ghost use Rattle.map65.specs.Words.{end_of};
-ghost use Rattle.reach65.specs.Words.{AreBeside, AreMarkedBy, IsDone, IsGrown, IsWordOf, is_given, is_taken};
+ghost use Rattle.reach65.specs.Words.{AreBeside, AreMarkedBy, IsDone, IsGrown, IsWordOf, ReturnsMarks, is_given, is_taken};
 
 use crate::entries::word_at;
 use crate::flow::{Flow, is_last, start_and_len};
@@ -121,7 +121,7 @@ fn hopeful_marks<A: Allocator, B: Allocator>(
 
 /// Marks the addresses of these ranges. There is a mark for each address from $0000 to $FFFF.
 fn given_marks<A: Allocator>(alloc: A, ranges: &[RangeSpec]) -> Result<Vec<bool, A>, AllocError>
-    ensures { IfOk result (λ marks. AreMarkedBy (is_given ranges.now) marks.items) }
+    ensures { ReturnsMarks result (is_given ranges.now) }
 {
     let mut marks = blank_marks(alloc)?;
     mark_ranges(&mut marks, ranges);

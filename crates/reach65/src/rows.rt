@@ -1,7 +1,7 @@
 //! Rows of words that are addresses of routines.
 
-ghost use Rattle.std.specs.Prelude.{◌≡◌, ◌+◌, ◌<◌, ◌≤◌, ◌||◌, ℕ, IfNone, IfOk, IfSome, IsTrue, false, length, true};
-ghost use Rattle.reach65.specs.Words.{AreMarkedBy, AreRows, AreWords, IsRow, Marks, NoneIn, are_different, is_any_row, is_in_table, is_marked, is_of_table, is_row};
+ghost use Rattle.std.specs.Prelude.{◌≡◌, ◌+◌, ◌<◌, ◌≤◌, ℕ, IfNone, IfOk, IfSome, IsTrue, false, length, true};
+ghost use Rattle.reach65.specs.Words.{AreRows, AreWords, IsRow, Marks, NoneIn, ReturnsMarks, are_different, is_any_row, is_in_table, is_of_table, is_row};
 ghost use Rattle.reach65.specs.Rows.{is_word};
 
 use crate::marks::{blank_marks, mark_range};
@@ -167,7 +167,7 @@ pub fn table_marks<A: Allocator>(
     role: RangeType,
     rows: &[RangeSpec],
 ) -> Result<Vec<bool, A>, AllocError>
-    ensures { IfOk result (λ marks. AreMarkedBy (is_of_table role rows.now) marks.items) }
+    ensures { ReturnsMarks result (is_of_table role rows.now) }
 {
     let mut marks = blank_marks(alloc)?;
     mark_tables(&mut marks, role, rows);
@@ -178,8 +178,7 @@ pub fn table_marks<A: Allocator>(
 #[tactic(auto, unfolding(crate::specs::Rows::is_of_table))]
 pub fn mark_tables<A: Allocator>(marks: &mut Vec<bool, A>, role: RangeType, rows: &[RangeSpec])
     requires count { length marks.old.items ≡ 65536 }
-    ensures count { length marks.new.items ≡ 65536 }
-    ensures each { (a : ℕ) → is_marked marks.new.items a ≡ (is_marked marks.old.items a || is_of_table role rows.now a) }
+    ensures { Marks (is_of_table role rows.now) marks.old.items marks.new.items }
 {
     'tables: for &row in rows {
         mark_table(marks, role, row);

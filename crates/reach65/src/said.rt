@@ -1,7 +1,7 @@
 //! What the lines `#: ..` of an information file say of halves.
 
-ghost use Rattle.std.specs.Prelude.{◌≡◌, ◌<◌, IfOk, length};
-ghost use Rattle.reach65.specs.Words.{AreMarkedBy, MarksBelow, is_among, is_said};
+ghost use Rattle.std.specs.Prelude.{◌≡◌, ◌<◌, length};
+ghost use Rattle.reach65.specs.Words.{MarksBelow, ReturnsMarks, is_among, is_said};
 ghost use Rattle.reach65.specs.Said.{has_byte};
 
 use crate::marks::{blank_marks, mark_span};
@@ -48,7 +48,7 @@ fn mark_tags<A: Allocator>(marks: &mut Vec<bool, A>, tags: &[Tag])
 /// Marks each place of which a group HALVES has the byte. There is a mark for each address from $0000 to $FFFF. Fails only if an
 /// allocation failed.
 pub fn mark_said<A: Allocator>(alloc: A, tags: &[Tag]) -> Result<Vec<bool, A>, AllocError>
-    ensures { IfOk result (λ marks. AreMarkedBy (is_said tags.now) marks.items) }
+    ensures { ReturnsMarks result (is_said tags.now) }
 {
     let mut marks = blank_marks(alloc)?;
     mark_tags(&mut marks, tags);

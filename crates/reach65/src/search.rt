@@ -1,8 +1,8 @@
 //! The search of what is reached.
 
-ghost use Rattle.std.specs.Prelude.{◌≡◌, ◌++◌, ◌∷◌, [], ℕ, true, List, Contains, Ok, None, Some, IfOk, IfNone, IfSome, OnOk, false, length, slice_set};
+ghost use Rattle.std.specs.Prelude.{◌≡◌, ◌++◌, ◌∷◌, [], ℕ, true, List, Ok, None, Some, IfOk, IfNone, IfSome, OnOk, false, length, slice_set};
 ghost use Rattle.map65.specs.Words.{is_inside};
-ghost use Rattle.reach65.specs.Words.{AreChecked, AreReached, AreSound, BeginsCode, HasBegun, HasNext, IsAsBefore, IsAtEnd, IsBegun, IsDone, IsSoundAt, IsTried, KeepsTrial, extent_of, goal_at, is_fine, is_marked, next_at, no_marks, put, put_entry, put_inside, put_leads, put_some, unset};
+ghost use Rattle.reach65.specs.Words.{AreChecked, AreFine, AreReached, AreSound, BeginsCode, HasBegun, HasNext, IsAsBefore, IsAtEnd, IsBegun, IsDone, IsSoundAt, IsTried, KeepsTrial, extent_of, goal_at, is_fine, is_marked, next_at, no_marks, put, put_entry, put_inside, put_leads, put_some, unset};
 
 use crate::entered::is_entered;
 use crate::flow::{Flow, image_of};
@@ -201,7 +201,7 @@ impl<A: Allocator> Search<A> {
         requires begun { IsBegun flow.now self.old }
         requires checked { AreChecked flow.now self.old }
         ensures done { result ≡ Ok true → IsDone flow.now self.new }
-        ensures fine { result ≡ Ok true → (b : ℕ) → Contains self.new.added b → is_fine flow.now b ≡ true }
+        ensures fine { result ≡ Ok true → AreFine flow.now self.new.added }
         ensures entries { OnOk result (self.new.entries ≡ self.old.entries) }
         ensures trial { OnOk result (KeepsTrial self.old self.new) }
     {

@@ -3,7 +3,7 @@
 ghost use Rattle.std.specs.Prelude.{◌≡◌, ◌+◌, ◌<◌, ◌≤◌, ◌==◌, ◌&&◌, ◌||◌, IfOk, OnOk, Some, length, nat_le, nat_lt, true};
 ghost use Rattle.isa65.specs.Words.{len_of, row_len};
 ghost use Rattle.map65.specs.Words.{end_of};
-ghost use Rattle.reach65.specs.Words.{Adds, AddsOp, AddsRanges, AreSurvey, Marks, any_marked, blank_survey, branch_of, call_of, is_likely, is_marked, is_routine, word_in};
+ghost use Rattle.reach65.specs.Words.{Adds, AddsOp, AddsRanges, AreSurvey, Marks, any_marked, blank_survey, branch_of, call_of, is_likely, is_marked, is_marked_and, is_routine, word_in};
 
 use crate::flow::{Flow, bytes_from, start_and_len};
 use crate::marks::{blank_marks, mark_ranges, mark_some};
@@ -157,7 +157,7 @@ impl<A: Allocator> Survey<A> {
     /// The same of the instruction of the address, if it is reached.
     #[tactic(auto, using(crate::proofs::SurveyLemmas::adds_none, crate::proofs::SurveyLemmas::adds_unmarked))]
     fn mark_at<B: Allocator>(&mut self, flow: &Flow<'_, '_, B>, address: u16)
-        ensures { Adds flow.now (λ p. is_marked self.old.reached address && p address) self.old self.new }
+        ensures { Adds flow.now (is_marked_and self.old.reached address) self.old self.new }
     {
         if !self.is_reached(address) {
             return;

@@ -2,7 +2,7 @@
 
 ghost use Rattle.std.specs.Prelude.{◌≡◌, ◌++◌, ◌+◌, ◌-◌, ◌<◌, ◌≤◌, IfOk, length};
 ghost use Rattle.map65.specs.Words.{end_of};
-ghost use Rattle.reach65.specs.Words.{is_marked, variables_from, variables_of};
+ghost use Rattle.reach65.specs.Words.{Returns, is_marked, variables_from, variables_of};
 
 use map65::{ADDRESSES, Image};
 use std::alloc::{AllocError, Allocator};
@@ -49,7 +49,7 @@ pub fn variables_of<A: Allocator, B: Allocator>(
     operands: &[bool],
 ) -> Result<Vec<u16, A>, AllocError>
     requires { length operands.now ≡ 65536 }
-    ensures { IfOk result (λ found. found.items ≡ variables_of image.now operands.now) }
+    ensures { Returns result (variables_of image.now operands.now) }
 {
     let mut found = Vec::new(alloc);
     let end = end_of(image);

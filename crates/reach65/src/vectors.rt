@@ -1,7 +1,7 @@
 //! The vectors of the CPU that led to code.
 
-ghost use Rattle.std.specs.Prelude.{◌≡◌, ◌+◌, ◌<◌, ◌≤◌, IfOk, length};
-ghost use Rattle.reach65.specs.Words.{AreMarkedBy, Marks, has_vector, is_of_vector, is_vector};
+ghost use Rattle.std.specs.Prelude.{◌≡◌, ◌+◌, ◌<◌, ◌≤◌, length};
+ghost use Rattle.reach65.specs.Words.{Marks, ReturnsMarks, has_vector, is_of_vector, is_vector};
 
 use crate::entries::{has_vectors, word_at};
 use crate::marks::{blank_marks, mark_span};
@@ -55,7 +55,7 @@ pub fn mark_vectors<A: Allocator, B: Allocator>(
 ) -> Result<Vec<bool, A>, AllocError>
     requires reached { length reached.now ≡ 65536 }
     requires taken { length taken.now ≡ 65536 }
-    ensures { IfOk result (λ marks. AreMarkedBy (is_of_vector image.now reached.now taken.now) marks.items) }
+    ensures { ReturnsMarks result (is_of_vector image.now reached.now taken.now) }
 {
     let mut marks = blank_marks(alloc)?;
     mark_vector(&mut marks, image, reached, taken, 0xFFFA);

@@ -125,6 +125,10 @@ abbrev pub IsTried : FlowView → ℕ → State → ℕ → State → Bool → T
 IsTried f least old a new true = HasJoined f least old a new
 IsTried f least old a new false = IsAsBefore old new
 
+-- each of these is fine
+abbrev pub AreFine : FlowView → List ℕ → Type 0
+AreFine f added = (b : ℕ) → Contains added b → is_fine f b ≡ true
+
 -- each of these is apart from all that is marked, and there are so many at least
 pub record AreApart (f : FlowView) (least : ℕ) (marks : List Bool) (added : List ℕ) : Type 0 where
   pub each : (b : ℕ) → Contains added b → IsApart f.map marks b
@@ -132,6 +136,6 @@ pub record AreApart (f : FlowView) (least : ℕ) (marks : List Bool) (added : Li
 
 -- and each is fine
 pub record AreSound (f : FlowView) (least : ℕ) (marks : List Bool) (added : List ℕ) : Type 0 where
-  pub fine : (b : ℕ) → Contains added b → is_fine f b ≡ true
+  pub fine : AreFine f added
   pub apart : (b : ℕ) → Contains added b → IsApart f.map marks b
   pub many : least ≤ length added

@@ -1,0 +1,16 @@
+-- What calls append to a list, and what they return.
+use Rattle.std.specs.Prelude.{◌≡◌, ◌++◌, ℕ, Bool, List, IfOk, OnOk, Result}
+use Rattle.std.specs.declared.vec.Vec.{Vec}
+use Rattle.reach65.specs.Taken.{AreMarkedBy}
+
+-- the list has these items after its own, if the call succeeds
+abbrev pub Puts : {T A E : Type 0} → Result (Unit {0}) E → Vec T A → Vec T A → List T → Type 0
+Puts result old new items = OnOk result (new.items ≡ old.items ++ items)
+
+-- it returns a list of these items, if it succeeds
+abbrev pub Returns : {T A E : Type 0} → Result (Vec T A) E → List T → Type 0
+Returns result items = IfOk result (λ list. list.items ≡ items)
+
+-- it returns marks of the addresses that pass the test, if it succeeds
+abbrev pub ReturnsMarks : {A E : Type 0} → Result (Vec Bool A) E → (ℕ → Bool) → Type 0
+ReturnsMarks result p = IfOk result (λ marks. AreMarkedBy p marks.items)
