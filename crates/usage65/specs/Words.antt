@@ -1,6 +1,6 @@
 -- The words of clauses and proofs, here and in the crates above, from one place.
 pub use Rattle.usage65.specs.Choices.{ChoiceView, ProgramView, cpu_choice, help_choice, info_choice, output_choice, start_choice, version_choice}
-pub use Rattle.usage65.specs.Code.Names.{names_seen}
+pub use Rattle.usage65.specs.Code.Names.{names_seen, text_seen, texts_seen}
 pub use Rattle.usage65.specs.Code.Rows.{HasRule, choice_of, program_of}
 pub use Rattle.usage65.specs.Command.{rule_for, with_choices}
 unfoldable pub use Rattle.usage65.specs.Command.{command_of}

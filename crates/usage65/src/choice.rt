@@ -1,8 +1,8 @@
 //! An option of a command line.
 
-ghost use Rattle.std.specs.Prelude.{IfOk, OnOk, ◌≡◌, ◌++◌, option_map};
+ghost use Rattle.std.specs.Prelude.{IfOk, OnOk, ◌≡◌, ◌++◌};
 ghost use Rattle.clap.specs.Words.{new_rule};
-ghost use Rattle.usage65.specs.Words.{HasRule, choice_of, help_line, names, names_and_value, rule_for, with_value};
+ghost use Rattle.usage65.specs.Words.{HasRule, choice_of, help_line, names, names_and_value, rule_for, text_seen, with_value};
 
 use clap::{Arg, ArgAction};
 use std::alloc::{AllocError, Global};
@@ -61,7 +61,7 @@ impl<'a> Choice<'a> {
 /// An argument of these names.
 fn named<'a>(alloc: Global, id: &'a str, short: Option<u8>, long: Option<&'a str>) -> Arg<'a>
     ensures { HasRule result (record (new_rule id.entry.now)
-        { short = short; long = option_map (λ s. s.now) long.entry }) }
+        { short = short; long = text_seen long.entry }) }
 {
     let arg = Arg::new(alloc, id);
     match (short, long) {
@@ -74,7 +74,7 @@ fn named<'a>(alloc: Global, id: &'a str, short: Option<u8>, long: Option<&'a str
 
 /// Appends `-i, --info`, or the one of the two that there is.
 fn put_names(out: &mut Vec<u8>, short: Option<u8>, long: Option<&str>) -> Result<(), AllocError>
-    ensures { OnOk result (out.new.items ≡ out.old.items ++ names short (option_map (λ s. s.now) long.entry)) }
+    ensures { OnOk result (out.new.items ≡ out.old.items ++ names short (text_seen long.entry)) }
 {
     match (short, long) {
         (Some(short), Some(long)) => {
@@ -92,7 +92,7 @@ fn put_names(out: &mut Vec<u8>, short: Option<u8>, long: Option<&str>) -> Result
 
 /// Appends a blank and what the value is called.
 fn put_value(out: &mut Vec<u8>, value: Option<&str>) -> Result<(), AllocError>
-    ensures { OnOk result (out.new.items ≡ out.old.items ++ with_value (option_map (λ s. s.now) value.entry)) }
+    ensures { OnOk result (out.new.items ≡ out.old.items ++ with_value (text_seen value.entry)) }
 {
     match value {
         Some(value) => {

@@ -1,7 +1,6 @@
 //! The files that a command line names.
 
-ghost use Rattle.std.specs.Prelude.{◌≡◌, option_map};
-ghost use Rattle.usage65.specs.Words.{names_apart, names_seen};
+ghost use Rattle.usage65.specs.Words.{names_apart, names_seen, text_seen};
 ghost use Rattle.usage65.specs.Requests.{Gives};
 
 use crate::file_names::{is_name, is_taken};
@@ -28,7 +27,7 @@ pub fn names_apart(
     output: Option<&str>,
 ) -> Result<Names, RequestFault>
     ensures { Gives names_seen result (names_apart listing.now
-        (option_map (λ s. s.now) info.entry) (option_map (λ s. s.now) output.entry)) }
+        (text_seen info.entry) (text_seen output.entry)) }
 {
     if is_taken(info, listing) {
         return Err(RequestFault::StandardTwice);

@@ -2,9 +2,8 @@
 
 ghost use Rattle.std.specs.Prelude.{IfOk, OnOk, map, ◌≡◌, ◌++◌};
 ghost use Rattle.std.specs.List.{flat_map};
-ghost use Rattle.std.specs.String.{string_bytes};
 ghost use Rattle.clap.specs.Words.{FailsBy, app_of, fault_of, found_of, matches_of, rows_of};
-ghost use Rattle.usage65.specs.Words.{IsPlain, accepted, bare, choice_of, command_of, help_line, help_of, program_of, version_of, with_choices};
+ghost use Rattle.usage65.specs.Words.{IsPlain, accepted, bare, choice_of, command_of, help_line, help_of, program_of, texts_seen, version_of, with_choices};
 ghost use Rattle.usage65.specs.Values.{Gives};
 
 use crate::choice::Choice;
@@ -31,7 +30,7 @@ impl<'a> Program<'a> {
     pub fn matches(&self, alloc: Global, words: &'a [String]) -> Result<ArgMatches<'a>, UsageFault>
         requires { IsPlain (command_of (program_of self.now)) }
         ensures { Gives (λ m. rows_of (found_of m)) result
-            (accepted (command_of (program_of self.now)) (map string_bytes words.entry.now)) }
+            (accepted (command_of (program_of self.now)) (texts_seen words.entry.now)) }
     {
         accepted(self.command(alloc)?, words)
     }
@@ -108,8 +107,8 @@ fn put_help_lines(
 fn matches_in<'a>(command: Command<'a>, words: &'a [String]) -> Result<ArgMatches<'a>, Error>
     requires { IsPlain (app_of command) }
     ensures matches { IfOk result (λ m.
-        rows_of (found_of m) ≡ matches_of (app_of command.entry) (map string_bytes words.entry.now)) }
-    ensures faults { FailsBy (fault_of (app_of command.entry) (map string_bytes words.entry.now)) result }
+        rows_of (found_of m) ≡ matches_of (app_of command.entry) (texts_seen words.entry.now)) }
+    ensures faults { FailsBy (fault_of (app_of command.entry) (texts_seen words.entry.now)) result }
 {
     command.try_get_matches_from(words)
 }
@@ -118,7 +117,7 @@ fn matches_in<'a>(command: Command<'a>, words: &'a [String]) -> Result<ArgMatche
 fn accepted<'a>(command: Command<'a>, words: &'a [String]) -> Result<ArgMatches<'a>, UsageFault>
     requires { IsPlain (app_of command) }
     ensures { Gives (λ m. rows_of (found_of m)) result
-        (accepted (app_of command.entry) (map string_bytes words.entry.now)) }
+        (accepted (app_of command.entry) (texts_seen words.entry.now)) }
 {
     match matches_in(command, words) {
         Ok(matches) => Ok(matches),

@@ -1,9 +1,9 @@
 //! The values in the matches of a command line.
 
-ghost use Rattle.std.specs.Prelude.{IfOk, option_map, ◌≡◌};
+ghost use Rattle.std.specs.Prelude.{IfOk, ◌≡◌};
 ghost use Rattle.clap.specs.Words.{first_of, found_of, rows_of};
 ghost use Rattle.info65.specs.Words.{name_seen};
-ghost use Rattle.usage65.specs.Words.{address_in, byte_in, cpu_in, given, is_set};
+ghost use Rattle.usage65.specs.Words.{address_in, byte_in, cpu_in, given, is_set, text_seen};
 
 use crate::fault::UsageFault;
 use crate::number::{address_in, byte_in};
@@ -14,7 +14,7 @@ use std::alloc::{AllocError, Global};
 /// Returns the text that a match has under this id.
 #[tactic(auto, using(crate::proofs::MatchLemmas::read_rows))]
 pub fn text_of<'a>(matches: &ArgMatches<'a>, id: &str) -> Option<&'a str>
-    ensures { option_map (λ s. s.now) result ≡ first_of id.now (rows_of (found_of matches.now)) }
+    ensures { text_seen result ≡ first_of id.now (rows_of (found_of matches.now)) }
 {
     matches.get_str(id)
 }
@@ -31,7 +31,7 @@ pub fn is_set(matches: &ArgMatches, id: &str) -> bool
 
 /// Returns a copy of a text, if there is one.
 pub fn owned(alloc: Global, text: Option<&str>) -> Result<Option<String>, AllocError>
-    ensures { IfOk result (λ copy. name_seen copy ≡ option_map (λ s. s.now) text.entry) }
+    ensures { IfOk result (λ copy. name_seen copy ≡ text_seen text.entry) }
 {
     match text {
         Some(text) => Ok(Some(String::from_str(alloc, text)?)),
