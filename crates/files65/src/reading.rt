@@ -1,6 +1,7 @@
 //! The contents of files.
 
-ghost use Rattle.std.specs.Prelude.{◌≡◌, ◌<◌, ◌≤◌, [], length, take, IfErr, IfNone, IfOk, IfSome, IsErr, IsOkAnd, MatchOption, Ok, Err, option_map};
+ghost use Rattle.std.specs.Prelude.{◌≡◌, ◌<◌, ◌≤◌, [], length, take, IfErr, IfNone, IfOk, IfSome, IsErr, IsOkAnd, MatchOption, Ok, Err};
+ghost use Rattle.usage65.specs.Words.{text_seen};
 ghost use Rattle.files65.specs.Faults.{CountsMissing, IsEmpty, IsUnread};
 
 use crate::fault::FileFault;
@@ -65,7 +66,7 @@ pub fn needed_contents(rt: &HostRuntime, name: &str, limit: usize) -> Result<Vec
 /// The bytes of the information file, of which at most 1,048,577 are read; without a name none. Fails with `Reading` if it can't be
 /// opened or read.
 pub fn read_information(rt: &HostRuntime, name: Option<&str>) -> Result<Vec<u8>, FileFault>
-    ensures { MatchOption (option_map (λ s. s.now) name.entry)
+    ensures { MatchOption (text_seen name.entry)
         (IsOkAnd result (λ bytes. bytes.items ≡ [])) (λ n. IfErr result (IsUnread n)) }
 {
     match name {
