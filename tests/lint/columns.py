@@ -21,7 +21,7 @@ WIDER = {
     "files65": 2,
     "da65_cli": 2,
     "as65": 11,
-    "trace65": 29,
+    "trace65": 7,
     "name65": 3,
 }
 

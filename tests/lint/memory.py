@@ -38,7 +38,6 @@ name65 assembled 2
 relist Failure::from 2
 stmt65 AsmFault::from 1
 stmt65 Symbols::define 2
-trace65 Failure::from 1
 trace65 failure_of 2
 usage65 RequestFault::from 3
 usage65 UsageFault::from 2

@@ -15,7 +15,7 @@ pub use Rattle.reach65.specs.Flow.{FlowView, LeadsTo, goal_by, if_whole, is, is_
 unfoldable pub use Rattle.reach65.specs.Flow.{end_after, goal_at, goal_of, instruction_at, next_at, text_at, text_of}
 pub use Rattle.reach65.specs.Growth.{AreBeside, AreFollowed, BeginsCode, Grows, IsCandidate, IsSoundAt, IsWordOf, MayJoin, after, alone, before, behind, goes_on_from, in_halves, in_row, in_table, unchanged}
 unfoldable pub use Rattle.reach65.specs.Growth.{is_entered, is_run_into}
-pub use Rattle.reach65.specs.Halves.{AreHalves, Choice, keep_ranks}
+pub use Rattle.reach65.specs.Halves.{AreHalves, keep_ranks}
 unfoldable pub use Rattle.reach65.specs.Halves.{keep, keep_rank, keep_ranked, kept_of}
 unfoldable pub use Rattle.reach65.specs.Inlines.{inline_of, is_inline, text_end, zero_end}
 pub use Rattle.reach65.specs.Labels.{AreNewLabels, is_formed, label_at}

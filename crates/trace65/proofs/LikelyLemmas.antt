@@ -8,8 +8,8 @@ use Rattle.std.proofs.lemmas.List.{append-nil, get_or-replicate, get_or_past, le
 use Rattle.std.proofs.lemmas.List.FromFn.{length-map-range_with_len, map-range_with_len_more}
 use Rattle.std.proofs.lemmas.List.Sums.{count_by-le-length, sum_by-append}
 use Rattle.trace65.specs.Words.{AreCounts, Calls, Op, fails, fails_by, first_of, is_call, is_end, is_failing, no_counts, with_one}
-use Rattle.map65.specs.Words.{ImageView, MapView}
-use Rattle.reach65.specs.Words.{FlowView, Ground, comment_line, instruction_at, next_at, next_of}
+use Rattle.map65.specs.Words.{MapView}
+use Rattle.reach65.specs.Words.{FlowView, comment_line, instruction_at, next_at, next_of}
 
 -- ---- the addresses of an image
 
@@ -73,6 +73,3 @@ pub counts_more : (f : FlowView) (marks : List Bool) (k a : ℕ) (old new : Call
     → ((t : ℕ) → get_or new.all t 0 ≡ with_one (is_call f.map marks t a) (get_or old.all t 0))
     → ((t : ℕ) → get_or new.failing t 0 ≡ with_one (is_failing f marks t a) (get_or old.failing t 0)) → AreCounts f marks (k + 1) new
 counts_more f marks k a old new is before all failing = grind (arith, count-more)
-
-abbrev pub ground_of : ImageView → List Bool → List Bool → List Bool → List Bool → Ground
-ground_of image taken words returns texts = record { image = image; taken = taken; words = words; returns = returns; texts = texts }

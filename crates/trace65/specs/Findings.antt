@@ -4,7 +4,7 @@ use Rattle.info65.specs.declared.information.range.RangeSpec.{RangeSpec}
 use Rattle.info65.specs.declared.information.range.RangeType.TheVariants as role
 use Rattle.info65.specs.declared.tags.tag.Tag.{Tag}
 use Rattle.map65.specs.Words.{ImageView, MapView}
-use Rattle.reach65.specs.Words.{AreFollowed, AreHalves, AreMarkedBy, AreNewLabels, ArePieces, AreReached, AreRows, AreSurvey, FlowView, Survey, entries_of, is_marked, is_of_table, is_of_vector, is_said, labels_of, pairs_of, plain_entries_of, variables_of}
+use Rattle.reach65.specs.Words.{AreFollowed, AreHalves, AreMarkedBy, AreNewLabels, ArePieces, AreReached, AreRows, AreSurvey, FlowView, Survey, entries_of, ground_with, is_marked, is_of_table, is_of_vector, is_said, labels_of, pairs_of, plain_entries_of, variables_of}
 use Rattle.reach65.specs.declared.pairs.Pair.{Pair}
 use Rattle.trace65.specs.Said.{entries_said}
 
@@ -27,11 +27,11 @@ abbrev pub AreTraced : FlowView → List ℕ → Bool → List Bool → Type 0
 AreTraced f given true marks = AreReached f (plain_entries_of f.map given) marks
 AreTraced f given false marks = AreFollowed f (entries_of f.map given) marks
 
--- which of these pairs are an address, if no byte is taken that a group HALVES has
-pub record ArePairs (tags : List Tag) (survey : Survey) (pairs found : List Pair) : Type 0 where
+-- which pairs of reached code are an address, if no byte is taken that a group HALVES has
+pub record ArePairs (m : MapView) (tags : List Tag) (survey : Survey) (found : List Pair) : Type 0 where
   pub used : List Bool
   pub said : AreMarkedBy (is_said tags) used
-  pub halves : AreHalves survey used pairs found
+  pub halves : AreHalves survey used (pairs_of m survey.reached) found
 
 -- The words that are addresses: vectors that led to code, and rows of words beside them that are addresses of routines. And those of the rows
 -- that are such addresses less one.
@@ -39,7 +39,7 @@ pub record AreWordMarks (image : ImageView) (survey : Survey) (words returns : L
   pub vectors : List Bool
   pub of_vectors : AreMarkedBy (is_of_vector image survey.reached survey.taken) vectors
   pub rows : List RangeSpec
-  pub are_rows : AreRows (record { within = record { image = image; taken = survey.taken; words = vectors; returns = vectors; texts = survey.texts }; code = survey }) 0 rows
+  pub are_rows : AreRows (record { within = ground_with image survey.taken vectors vectors survey.texts; code = survey }) 0 rows
   pub each : AreMarkedBy (λ a. is_marked vectors a || is_of_table role.AddrTable rows a) words
   pub less : AreMarkedBy (is_of_table role.RtsTable rows) returns
 
@@ -49,8 +49,8 @@ pub record AreFindings (m : MapView) (given : List ℕ) (plain : Bool) (tags : L
   pub reached : AreTraced (record { map = m; tags = tags }) f.entries plain f.survey.reached
   pub survey : AreSurvey (record { map = m; tags = tags }) f.survey
   pub words : AreWordMarks m.image f.survey f.words f.returns
-  pub ranges : ArePieces (record { image = m.image; taken = f.survey.taken; words = f.words; returns = f.returns; texts = f.survey.texts }) 0 f.ranges
-  pub pairs : ArePairs tags f.survey (pairs_of m f.survey.reached) f.pairs
+  pub ranges : ArePieces (ground_with m.image f.survey.taken f.words f.returns f.survey.texts) 0 f.ranges
+  pub pairs : ArePairs m tags f.survey f.pairs
   pub variables : f.variables ≡ variables_of m.image f.survey.operands
   pub labels : f.labels ≡ labels_of m.info.names f.pairs f.variables
   pub new : AreNewLabels m.info.names 0 f.labels

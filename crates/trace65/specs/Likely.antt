@@ -8,7 +8,7 @@ use Rattle.text65.specs.Digits.{digits4}
 use Rattle.info65.specs.Words.{NameView, covering}
 use Rattle.info65.specs.declared.tags.tag.Tag.{Tag}
 use Rattle.map65.specs.Words.{MapView, is_inside}
-use Rattle.reach65.specs.Words.{FlowView, Survey, call_at, free_word, inline_of, instruction_at, is, is_it, is_marked, is_routine, next_at}
+use Rattle.reach65.specs.Words.{FlowView, Survey, call_at, free_word, ground_with, inline_of, instruction_at, is, is_it, is_marked, is_routine, next_at}
 use Rattle.trace65.specs.PairComments.{name_text}
 
 -- the first so many addresses of the image
@@ -44,7 +44,7 @@ comments_of_word m s a (Some w) = if is_meant m s w && has_two_bytes w then word
 
 -- the word of two bytes that nothing speaks for and that are of no proposed table of addresses or of returns, where these marks say which are
 abbrev pub word_at : MapView → Survey → List Bool → List Bool → ℕ → Option ℕ
-word_at m s words returns a = free_word (record { image = m.image; taken = s.taken; words = words; returns = returns; texts = s.texts }) a
+word_at m s words returns a = free_word (ground_with m.image s.taken words returns s.texts) a
 
 -- one for each that is an address, in order
 unfoldable pub word_comments : MapView → Survey → List Bool → List Bool → List (List ℕ)
@@ -86,6 +86,10 @@ pub record Calls : Type 0 where
 -- one more, if that is so
 abbrev pub with_one : Bool → ℕ → ℕ
 with_one x n = if x then suc n else n
+
+-- the count of each address that passes the test is one more
+abbrev pub AddsOne : (ℕ → Bool) → List ℕ → List ℕ → Type 0
+AddsOne p old new = (t : ℕ) → get_or new t 0 ≡ with_one (p t) (get_or old t 0)
 
 -- all are 0
 unfoldable pub no_counts : List ℕ

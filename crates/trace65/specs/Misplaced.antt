@@ -47,6 +47,12 @@ range_comments image r = if is_outside image r then range_comment r ∷ [] else 
 
 -- ---- all
 
+abbrev pub for_entries : MapView → List Bool → List ℕ → List (List ℕ)
+for_entries m marks entries = flat_map (entry_comments m marks) entries
+
+abbrev pub for_ranges : ImageView → List RangeSpec → List (List ℕ)
+for_ranges image ranges = flat_map (range_comments image) ranges
+
 -- those of these entries, and then those of these ranges, in order
 abbrev pub misplaced_comments : MapView → List Bool → List ℕ → List (List ℕ)
-misplaced_comments m marks entries = flat_map (entry_comments m marks) entries ++ flat_map (range_comments m.image) m.info.ranges
+misplaced_comments m marks entries = for_entries m marks entries ++ for_ranges m.image m.info.ranges

@@ -28,10 +28,13 @@ cell_character code taken =
 abbrev pub cell_at : List Bool → List Bool → ℕ → ℕ
 cell_at code taken k = cell_character (part (64 * k) 64 code) (part (64 * k) 64 taken)
 
--- ` $hhhh `, and a character for 64 bytes, the last one for those that are left
+-- a character for 64 bytes, the last one for those that are left
+abbrev pub cells : List Bool → List Bool → List ℕ
+cells code taken = map (cell_at code taken) (range_with_len 0 ((length code + 63) / 64))
+
+-- ` $hhhh `, and these characters
 unfoldable pub row_comment : ℕ → List Bool → List Bool → List ℕ
-row_comment address code taken =
-    codes " $" ++ digits4 address ++ codes " " ++ map (cell_at code taken) (range_with_len 0 ((length code + 63) / 64))
+row_comment address code taken = codes " $" ++ digits4 address ++ codes " " ++ cells code taken
 
 -- the k-th line, for 1024 bytes
 abbrev pub row_at : ℕ → List Bool → List Bool → ℕ → List ℕ

@@ -18,6 +18,10 @@ legend = codes " a character for 64 bytes: # code that is reached, + partly,"
 abbrev pub legend_more : List ℕ
 legend_more = codes " r in a range of the information file, . neither"
 
+-- the first comment, and then these
+abbrev pub headed : List (List ℕ) → List ℕ
+headed comments = comment_line legend ++ flat_map comment_line comments
+
 -- the picture, and the counts
 abbrev pub picture_and_counts : ℕ → List Bool → List Bool → List (List ℕ)
 picture_and_counts start code taken = legend_more ∷ (picture_comments start code taken ++ counts_comment code taken ∷ [])
@@ -42,7 +46,7 @@ found_comments m tags f = move_comments m tags f ++ likely_comments m tags f
 -- The picture, the counts and what counts for nothing as comments, a line for each range that is proposed and for each label, and the comments `#: ..`.
 unfoldable pub report_text : MapView → List Tag → Findings → List ℕ
 report_text m tags f =
-    (comment_line legend ++ flat_map comment_line (comments_before m f))
+    headed (comments_before m f)
     ++ (range_lines m.image f.ranges ++ (label_lines f.labels ++ flat_map comment_line (found_comments m tags f)))
 
 -- After an information file that is accepted, and that has the ranges of the map and of its names, the text is accepted, and adds these ranges, and

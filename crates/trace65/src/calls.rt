@@ -1,10 +1,10 @@
 //! Comments for calls after which nothing decodes: text that the called routine reads may follow them.
 
-ghost use Rattle.std.specs.Prelude.{◌≡◌, ◌<◌, ◌++◌, ℕ, IfOk, OnOk, Some, flat_map, get_or, length, replicate};
-ghost use Rattle.reach65.specs.Words.{call_at, comment_line, is_it};
-ghost use Rattle.trace65.specs.Words.{AreCounts, Puts, PutsLine, are_many, call_comment, call_comments, comments_at, comments_of_calls, fails, fails_at, is_call, is_end, is_failing, no_counts, with_one};
+ghost use Rattle.std.specs.Prelude.{◌≡◌, ◌<◌, ℕ, IfOk, Some, get_or, length, replicate};
+ghost use Rattle.reach65.specs.Words.{Returns, call_at, is_it};
+ghost use Rattle.trace65.specs.Words.{AddsOne, AreCounts, PutsLine, PutsLines, are_many, call_comment, call_comments, comments_at, comments_of_calls, fails, fails_at, is_call, is_end, is_failing, no_counts};
 
-use crate::digits::{put_address, put_decimal};
+use files65::{put_address, put_decimal};
 use info65::Tag;
 use isa65::Mnemonic;
 use map65::ADDRESSES;
@@ -76,11 +76,11 @@ fn are_many(failing: usize, calls: usize) -> bool
 
 /// Appends the comment of a routine.
 fn put_call(out: &mut Vec<u8>, failing: usize, calls: usize, routine: u16) -> Result<(), AllocError>
-    ensures { PutsLine result out.old.items out.new.items (call_comment failing calls routine) }
+    ensures { PutsLine result out.old out.new (call_comment failing calls routine) }
 {
     put_decimal(out, b"# what follows ", failing)?;
     put_decimal(out, b" of ", calls)?;
-    put_address(out, b" calls of $", routine)?;
+    put_address(out, b" calls of $", routine as usize)?;
     out.extend_from_slice(b" does not decode: INLINE?\n")
 }
 
@@ -94,7 +94,7 @@ fn put_if_many(
     routine: u16,
 ) -> Result<(), AllocError>
     requires { failing < 65537 }
-    ensures { Puts result out.old.items out.new.items (comments_of_calls tags.now failing calls routine) }
+    ensures { PutsLines result out.old out.new (comments_of_calls tags.now failing calls routine) }
 {
     if are_many(failing, calls) && inline_of(tags, routine).is_none() {
         return put_call(out, failing, calls, routine);
@@ -122,7 +122,7 @@ impl Model for Calls {
 
 /// This many counts, all 0.
 fn zero_counts(alloc: Global, count: usize) -> Result<Vec<u32>, AllocError>
-    ensures { IfOk result (λ counts. counts.items ≡ replicate count 0) }
+    ensures { Returns result (replicate count 0) }
 {
     vec![in alloc; 0u32; count]
 }
@@ -130,7 +130,7 @@ fn zero_counts(alloc: Global, count: usize) -> Result<Vec<u32>, AllocError>
 /// A count for each address, all 0.
 #[tactic(auto, unfolding(crate::specs::Likely::no_counts))]
 fn no_counts(alloc: Global) -> Result<Vec<u32>, AllocError>
-    ensures counts { IfOk result (λ counts. counts.items ≡ no_counts) }
+    ensures counts { Returns result no_counts }
     ensures count { IfOk result (λ counts. length counts.items ≡ 65536) }
 {
     zero_counts(alloc, ADDRESSES)
@@ -141,7 +141,7 @@ fn add_one(counts: &mut Vec<u32>, address: u16)
     requires count { length counts.old.items ≡ 65536 }
     requires few { get_or counts.old.items address 0 < 65536 }
     ensures count { length counts.new.items ≡ 65536 }
-    ensures each { (t : ℕ) → get_or counts.new.items t 0 ≡ with_one (is_it (Some address) t) (get_or counts.old.items t 0) }
+    ensures each { AddsOne (is_it (Some address)) counts.old.items counts.new.items }
 {
     counts[usize::from(address)] += 1;
 }
@@ -153,8 +153,8 @@ impl Calls {
         requires reached { length reached.now ≡ 65536 }
         requires all { (t : ℕ) → get_or self.old.all t 0 < 65536 }
         requires failing { (t : ℕ) → get_or self.old.failing t 0 < 65536 }
-        ensures all { (t : ℕ) → get_or self.new.all t 0 ≡ with_one (is_call flow.now.map reached.now t address) (get_or self.old.all t 0) }
-        ensures failing { (t : ℕ) → get_or self.new.failing t 0 ≡ with_one (is_failing flow.now reached.now t address) (get_or self.old.failing t 0) }
+        ensures all { AddsOne (λ t. is_call flow.now.map reached.now t address) self.old.all self.new.all }
+        ensures failing { AddsOne (λ t. is_failing flow.now reached.now t address) self.old.failing self.new.failing }
     {
         if !reached[usize::from(address)] {
             return;
@@ -189,7 +189,7 @@ impl Calls {
     /// Appends the comment of an address.
     fn put(&self, out: &mut Vec<u8>, tags: &[Tag], address: u16) -> Result<(), AllocError>
         requires { get_or self.now.failing address 0 < 65537 }
-        ensures { Puts result out.old.items out.new.items (comments_at tags.now self.now address) }
+        ensures { PutsLines result out.old out.new (comments_at tags.now self.now address) }
     {
         let at = usize::from(address);
         put_if_many(
@@ -211,7 +211,7 @@ pub fn put_calls(
     reached: &[bool],
 ) -> Result<(), AllocError>
     requires { length reached.now ≡ 65536 }
-    ensures { OnOk result (out.new.items ≡ out.old.items ++ flat_map comment_line (call_comments flow.now reached.now)) }
+    ensures { PutsLines result out.old out.new (call_comments flow.now reached.now) }
 {
     let image = flow.map().image();
     let start = usize::from(image.start());

@@ -1,21 +1,22 @@
 //! What the information file and its include files say, and the image.
 
 ghost use Rattle.std.specs.Prelude.{◌≡◌, ◌≢◌};
+ghost use Rattle.files65.specs.declared.failure.Failure.TheVariants.{Memory, Own};
 
-use crate::failure::Failure;
+use crate::failure::{Failure, Refused};
 use files65::{INFORMATION_LIMIT, Input, needed_contents};
 use info65::{Info, InfoFault, InfoFaultKind, Options, Tag, read_include, read_info, read_tags};
-use map65::{Image, read_image};
+use map65::{Image, ImageFault, read_image};
 
-/// The failure for a fault of a file: this one, unless memory ran out.
-fn failure_of(fault: InfoFault, failure: Failure) -> Failure
-    ensures memory { fault.kind ≡ InfoFaultKind.Memory → result ≡ Failure.Memory }
-    ensures other { fault.kind ≢ InfoFaultKind.Memory → result ≡ failure }
+/// The failure for a fault of the include file of this name.
+fn failure_of(fault: InfoFault, name: String) -> Failure
+    ensures memory { fault.kind ≡ InfoFaultKind.Memory → result ≡ Memory }
+    ensures other { fault.kind ≢ InfoFaultKind.Memory → result ≡ Own (Refused.Include name fault) }
 {
     if fault.kind == InfoFaultKind::Memory {
         Failure::Memory
     } else {
-        failure
+        Failure::Own(Refused::Include(name, fault))
     }
 }
 
@@ -28,7 +29,7 @@ fn add_include(rt: &HostRuntime, info: &mut Info, index: usize) -> Result<(), Fa
     let bytes = needed_contents(rt, name.as_str(), INFORMATION_LIMIT)?;
     match read_include(rt.alloc(), info, index, &bytes) {
         Ok(()) => Ok(()),
-        Err(fault) => Err(failure_of(fault, Failure::Include(name, fault))),
+        Err(fault) => Err(failure_of(fault, name)),
     }
 }
 
@@ -37,29 +38,33 @@ pub fn tags(rt: &HostRuntime, bytes: &[u8]) -> Result<Vec<Tag>, Failure> {
     if bytes.len() > 1_048_576 {
         return Ok(Vec::new(rt.alloc()));
     }
-    match read_tags(rt.alloc(), bytes) {
-        Ok(tags) => Ok(tags),
-        Err(fault) => Err(failure_of(fault, Failure::Info(fault))),
-    }
+    Ok(read_tags(rt.alloc(), bytes)?)
 }
 
 /// What the information file of these bytes says under the options, with the names of its include files.
 pub fn information(rt: &HostRuntime, options: &Options, bytes: &[u8]) -> Result<Info, Failure> {
-    let mut info = match read_info(rt.alloc(), options, bytes) {
-        Ok(info) => info,
-        Err(fault) => return Err(failure_of(fault, Failure::Info(fault))),
-    };
+    let mut info = read_info(rt.alloc(), options, bytes)?;
     for index in 0..info.includes().len() {
         add_include(rt, &mut info, index)?;
     }
     Ok(info)
 }
 
+/// The failure for a fault of the image.
+fn image_failure(fault: ImageFault) -> Failure
+    ensures { result ≡ Own (Refused.Image fault) }
+{
+    Failure::Own(Refused::Image(fault))
+}
+
 /// The image that the settings ask for.
 pub fn image(rt: &HostRuntime, info: &Info) -> Result<Image, Failure> {
     let Some(name) = info.settings().input.as_deref() else {
-        return Err(Failure::NoInput);
+        return Err(Failure::Own(Refused::NoInput));
     };
     let mut input = Input::open(rt, name)?;
-    Ok(read_image(rt.alloc(), info, &mut input)?)
+    match read_image(rt.alloc(), info, &mut input) {
+        Ok(image) => Ok(image),
+        Err(fault) => Err(image_failure(fault)),
+    }
 }

@@ -1,12 +1,11 @@
 //! Comments for words in data that are likely addresses.
 
-ghost use Rattle.std.specs.Prelude.{◌≡◌, ◌<◌, ◌++◌, OnOk, flat_map, length, option_map};
+ghost use Rattle.std.specs.Prelude.{◌≡◌, ◌<◌, length, option_map};
 ghost use Rattle.info65.specs.Words.{given_seen};
-ghost use Rattle.reach65.specs.Words.{comment_line};
-ghost use Rattle.trace65.specs.Words.{Puts, PutsLine, comments_of_word, has_two_bytes, is_meant, is_own, word_comment, word_comments};
+ghost use Rattle.trace65.specs.Words.{PutsLine, PutsLines, comments_of_word, has_two_bytes, is_meant, is_own, word_comment, word_comments};
 
-use crate::digits::put_address;
 use crate::pair_comments::put_name;
+use files65::put_address;
 use info65::Given;
 use map65::{Map, is_inside};
 use reach65::{Ground, Survey};
@@ -41,10 +40,10 @@ fn has_two_bytes(word: u16) -> bool
 
 /// Appends the comment of the word at an address.
 fn put_word(out: &mut Vec<u8>, map: &Map<'_>, address: u16, word: u16) -> Result<(), AllocError>
-    ensures { PutsLine result out.old.items out.new.items (word_comment map.now address word) }
+    ensures { PutsLine result out.old out.new (word_comment map.now address word) }
 {
-    put_address(out, b"# the word at $", address)?;
-    put_address(out, b" is $", word)?;
+    put_address(out, b"# the word at $", address as usize)?;
+    put_address(out, b" is $", word as usize)?;
     put_name(out, map.info().covering(word), word)?;
     out.extend_from_slice(b": AddrTable?\n")
 }
@@ -57,7 +56,7 @@ fn put_likely(
     address: u16,
     word: Option<u16>,
 ) -> Result<(), AllocError>
-    ensures { Puts result out.old.items out.new.items (comments_of_word map.now survey.now address word) }
+    ensures { PutsLines result out.old out.new (comments_of_word map.now survey.now address word) }
 {
     let Some(word) = word else {
         return Ok(());
@@ -70,7 +69,7 @@ fn put_likely(
 
 /// Appends a comment for each word that is likely an address: nothing speaks for its bytes, and these marks of words that are addresses,
 /// or less one, are not set there.
-#[tactic(auto, unfolding(crate::specs::Likely::word_comments), using(crate::proofs::LikelyLemmas::comments_more, crate::proofs::LikelyLemmas::ground_of))]
+#[tactic(auto, unfolding(crate::specs::Likely::word_comments), using(crate::proofs::LikelyLemmas::comments_more, reach65::specs::Pieces::ground_with))]
 pub fn put_words(
     out: &mut Vec<u8>,
     map: &Map<'_>,
@@ -80,7 +79,7 @@ pub fn put_words(
 ) -> Result<(), AllocError>
     requires words { length words.now ≡ 65536 }
     requires returns { length returns.now ≡ 65536 }
-    ensures { OnOk result (out.new.items ≡ out.old.items ++ flat_map comment_line (word_comments map.now survey.now words.now returns.now)) }
+    ensures { PutsLines result out.old out.new (word_comments map.now survey.now words.now returns.now) }
 {
     let image = map.image();
     let start = usize::from(image.start());

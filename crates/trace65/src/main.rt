@@ -9,7 +9,6 @@
 
 mod calls;
 mod command;
-mod digits;
 mod failure;
 mod information;
 mod labels;
@@ -32,10 +31,10 @@ use map65::Map;
 use report::report;
 use request::{Request, Tracing, request_of};
 use std::process::ExitCode;
-use usage65::words_of;
+use usage65::{RequestFault, words_of};
 
 /// What the program's words ask for.
-fn requested(rt: &HostRuntime) -> Result<Request, Failure> {
+fn requested(rt: &HostRuntime) -> Result<Request, RequestFault> {
     let words = words_of(rt)?;
     Ok(request_of(rt.alloc(), &words)?)
 }

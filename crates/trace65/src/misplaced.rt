@@ -1,11 +1,10 @@
 //! Comments for what is given where it counts for nothing: an entry or a range outside the image, and an entry inside a reached instruction.
 
-ghost use Rattle.std.specs.Prelude.{◌≡◌, ◌++◌, OnOk, flat_map, length};
+ghost use Rattle.std.specs.Prelude.{◌≡◌, length};
 ghost use Rattle.reach65.specs.Taken.{has_byte};
-ghost use Rattle.reach65.specs.Words.{comment_line};
-ghost use Rattle.trace65.specs.Words.{Puts, PutsLine, entry_comments, holder_of, holds, inside_comment, is_outside, misplaced_comments, outside_comment, range_comment, range_comments};
+ghost use Rattle.trace65.specs.Words.{PutsLine, PutsLines, entry_comments, for_entries, for_ranges, holder_of, holds, inside_comment, is_outside, misplaced_comments, outside_comment, range_comment, range_comments};
 
-use crate::digits::put_address;
+use files65::put_address;
 use info65::RangeSpec;
 use map65::{Image, is_inside};
 use reach65::Flow;
@@ -52,19 +51,19 @@ fn holder_of(flow: &Flow<'_, '_>, reached: &[bool], address: u16) -> Option<u16>
 /// Appends the comment of an entry outside the image.
 #[tactic(auto, unfolding(crate::specs::Misplaced::outside_comment))]
 fn put_outside(out: &mut Vec<u8>, entry: u16) -> Result<(), AllocError>
-    ensures { PutsLine result out.old.items out.new.items (outside_comment entry) }
+    ensures { PutsLine result out.old out.new (outside_comment entry) }
 {
-    put_address(out, b"# entry $", entry)?;
+    put_address(out, b"# entry $", entry as usize)?;
     out.extend_from_slice(b" is outside the image\n")
 }
 
 /// Appends the comment of an entry inside the instruction that begins at an address.
 #[tactic(auto, unfolding(crate::specs::Misplaced::inside_comment))]
 fn put_inside(out: &mut Vec<u8>, entry: u16, first: u16) -> Result<(), AllocError>
-    ensures { PutsLine result out.old.items out.new.items (inside_comment entry first) }
+    ensures { PutsLine result out.old out.new (inside_comment entry first) }
 {
-    put_address(out, b"# entry $", entry)?;
-    put_address(out, b" is inside the instruction at $", first)?;
+    put_address(out, b"# entry $", entry as usize)?;
+    put_address(out, b" is inside the instruction at $", first as usize)?;
     out.extend_from_slice(b"\n")
 }
 
@@ -77,7 +76,7 @@ fn put_entry(
     entry: u16,
 ) -> Result<(), AllocError>
     requires { length reached.now ≡ 65536 }
-    ensures { Puts result out.old.items out.new.items (entry_comments flow.now.map reached.now entry) }
+    ensures { PutsLines result out.old out.new (entry_comments flow.now.map reached.now entry) }
 {
     if !is_inside(flow.map().image(), usize::from(entry)) {
         return put_outside(out, entry);
@@ -96,7 +95,7 @@ fn put_entries(
     entries: &[u16],
 ) -> Result<(), AllocError>
     requires { length reached.now ≡ 65536 }
-    ensures { Puts result out.old.items out.new.items (flat_map (entry_comments flow.now.map reached.now) entries.now) }
+    ensures { PutsLines result out.old out.new (for_entries flow.now.map reached.now entries.now) }
 {
     'entries: for &entry in entries {
         put_entry(out, flow, reached, entry)?;
@@ -116,17 +115,17 @@ fn is_outside(image: &Image, range: RangeSpec) -> bool
 /// Appends the comment of a range outside the image.
 #[tactic(auto, unfolding(crate::specs::Misplaced::range_comment))]
 fn put_range_outside(out: &mut Vec<u8>, range: RangeSpec) -> Result<(), AllocError>
-    ensures { PutsLine result out.old.items out.new.items (range_comment range) }
+    ensures { PutsLine result out.old out.new (range_comment range) }
 {
-    put_address(out, b"# range $", range.first)?;
-    put_address(out, b"-$", range.last)?;
+    put_address(out, b"# range $", range.first as usize)?;
+    put_address(out, b"-$", range.last as usize)?;
     out.extend_from_slice(b" is outside the image\n")
 }
 
 /// Appends the comment of a range, if it lies outside the image.
 #[tactic(auto, unfolding(crate::specs::Misplaced::range_comments))]
 fn put_range(out: &mut Vec<u8>, image: &Image, range: RangeSpec) -> Result<(), AllocError>
-    ensures { Puts result out.old.items out.new.items (range_comments image.now range) }
+    ensures { PutsLines result out.old out.new (range_comments image.now range) }
 {
     if is_outside(image, range) {
         return put_range_outside(out, range);
@@ -136,7 +135,7 @@ fn put_range(out: &mut Vec<u8>, image: &Image, range: RangeSpec) -> Result<(), A
 
 /// Appends the comments of ranges.
 fn put_ranges(out: &mut Vec<u8>, image: &Image, ranges: &[RangeSpec]) -> Result<(), AllocError>
-    ensures { Puts result out.old.items out.new.items (flat_map (range_comments image.now) ranges.now) }
+    ensures { PutsLines result out.old out.new (for_ranges image.now ranges.now) }
 {
     'outside: for &range in ranges {
         put_range(out, image, range)?;
@@ -152,7 +151,7 @@ pub fn put_misplaced(
     entries: &[u16],
 ) -> Result<(), AllocError>
     requires { length reached.now ≡ 65536 }
-    ensures { OnOk result (out.new.items ≡ out.old.items ++ flat_map comment_line (misplaced_comments flow.now.map reached.now entries.now)) }
+    ensures { PutsLines result out.old out.new (misplaced_comments flow.now.map reached.now entries.now) }
 {
     put_entries(out, flow, reached, entries)?;
     let map = flow.map();

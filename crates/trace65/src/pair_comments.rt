@@ -1,13 +1,13 @@
 //! The lines `#: ..`: for addresses that code loads in halves, and for what lies after the image.
 
-ghost use Rattle.std.specs.Prelude.{◌≡◌, ◌++◌, OnOk, flat_map, option_map};
+ghost use Rattle.std.specs.Prelude.{◌≡◌, option_map};
 ghost use Rattle.std.specs.List.{fold};
 ghost use Rattle.info65.specs.Words.{given_seen};
-ghost use Rattle.reach65.specs.Words.{comment_line};
-ghost use Rattle.trace65.specs.Words.{Puts, PutsLine, after_comments, greater, last_wanted, name_text, new_after, offset_text, pair_comment, pair_comments};
+ghost use Rattle.reach65.specs.Words.{Puts};
+ghost use Rattle.trace65.specs.Words.{PutsLine, PutsLines, after_comments, greater, last_wanted, name_text, new_after, offset_text, pair_comment, pair_comments};
 
-use crate::digits::{put_address, put_decimal};
 use crate::said::has_after;
+use files65::{put_address, put_decimal};
 use info65::{Given, Tag};
 use map65::{Image, Map};
 use reach65::Pair;
@@ -16,7 +16,7 @@ use std::alloc::AllocError;
 /// Appends how far an address lies after that of its name.
 #[tactic(auto, unfolding(crate::specs::PairComments::offset_text))]
 fn put_offset(out: &mut Vec<u8>, offset: u16) -> Result<(), AllocError>
-    ensures { OnOk result (out.new.items ≡ out.old.items ++ offset_text offset) }
+    ensures { Puts result out.old out.new (offset_text offset) }
 {
     if offset == 0 {
         return Ok(());
@@ -27,7 +27,7 @@ fn put_offset(out: &mut Vec<u8>, offset: u16) -> Result<(), AllocError>
 /// Appends the name of an address, if it has one.
 #[tactic(auto, unfolding(crate::specs::PairComments::name_text))]
 pub fn put_name(out: &mut Vec<u8>, name: Option<Given<'_>>, address: u16) -> Result<(), AllocError>
-    ensures { OnOk result (out.new.items ≡ out.old.items ++ name_text (option_map given_seen name.entry) address) }
+    ensures { Puts result out.old out.new (name_text (option_map given_seen name.entry) address) }
 {
     let Some(name) = name else {
         return Ok(());
@@ -40,18 +40,18 @@ pub fn put_name(out: &mut Vec<u8>, name: Option<Given<'_>>, address: u16) -> Res
 /// Appends the comment of a pair.
 #[tactic(auto, unfolding(crate::specs::PairComments::pair_comment))]
 fn put_pair(out: &mut Vec<u8>, map: &Map<'_>, pair: Pair) -> Result<(), AllocError>
-    ensures { PutsLine result out.old.items out.new.items (pair_comment map.now pair) }
+    ensures { PutsLine result out.old out.new (pair_comment map.now pair) }
 {
-    put_address(out, b"#: HALVES { LOW $", pair.low)?;
-    put_address(out, b"; HIGH $", pair.high)?;
-    put_address(out, b"; }; # $", pair.address)?;
+    put_address(out, b"#: HALVES { LOW $", pair.low as usize)?;
+    put_address(out, b"; HIGH $", pair.high as usize)?;
+    put_address(out, b"; }; # $", pair.address as usize)?;
     put_name(out, map.info().covering(pair.address), pair.address)?;
     out.extend_from_slice(b"\n")
 }
 
 /// Appends a comment for each pair.
 pub fn put_pairs(out: &mut Vec<u8>, map: &Map<'_>, pairs: &[Pair]) -> Result<(), AllocError>
-    ensures { OnOk result (out.new.items ≡ out.old.items ++ flat_map comment_line (pair_comments map.now pairs.now)) }
+    ensures { PutsLines result out.old out.new (pair_comments map.now pairs.now) }
 {
     'pairs: for &pair in pairs {
         put_pair(out, map, pair)?;
@@ -95,14 +95,14 @@ fn last_wanted(pairs: &[Pair], variables: &[u16]) -> u16
 /// Appends the line of what lies after the image, up to an address, if that lies there.
 #[tactic(auto, unfolding(crate::specs::PairComments::after_comments))]
 fn put_after_to(out: &mut Vec<u8>, image: &Image, last: u16) -> Result<(), AllocError>
-    ensures { Puts result out.old.items out.new.items (after_comments image.now last) }
+    ensures { PutsLines result out.old out.new (after_comments image.now last) }
 {
     let end = usize::from(image.start()) + image.bytes().len();
     if usize::from(last) < end {
         return Ok(());
     }
-    put_address(out, b"#: AFTER { START $", end as u16)?;
-    put_address(out, b"; END $", last)?;
+    put_address(out, b"#: AFTER { START $", end)?;
+    put_address(out, b"; END $", last as usize)?;
     out.extend_from_slice(b"; };\n")
 }
 
@@ -116,7 +116,7 @@ pub fn put_after(
     pairs: &[Pair],
     variables: &[u16],
 ) -> Result<(), AllocError>
-    ensures { OnOk result (out.new.items ≡ out.old.items ++ flat_map comment_line (new_after tags.now image.now (last_wanted pairs.now variables.now))) }
+    ensures { PutsLines result out.old out.new (new_after tags.now image.now (last_wanted pairs.now variables.now)) }
 {
     if has_after(tags) {
         return Ok(());

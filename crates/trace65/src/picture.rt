@@ -1,12 +1,12 @@
 //! A picture of an image: a character for 64 bytes, and the counts of its bytes.
 
-ghost use Rattle.std.specs.Prelude.{◌≡◌, ◌+◌, ◌/◌, ◌++◌, ◌≤◌, OnOk, flat_map, length, map};
-ghost use Rattle.std.specs.List.{list_all, list_any, range_with_len};
-ghost use Rattle.reach65.specs.Words.{comment_line};
-ghost use Rattle.trace65.specs.Words.{PutsLine, cell_at, cell_character, counts_comment, image_marks, picture_comments, row_comment, set_count};
+ghost use Rattle.std.specs.Prelude.{◌≡◌, ◌+◌, ◌/◌, ◌≤◌, length};
+ghost use Rattle.std.specs.List.{list_all, list_any};
+ghost use Rattle.reach65.specs.Words.{Puts};
+ghost use Rattle.trace65.specs.Words.{PutsLine, PutsLines, cell_character, cells, counts_comment, image_marks, picture_comments, row_comment, set_count};
 
-use crate::digits::{put_address, put_decimal};
 use crate::part::part;
+use files65::{put_address, put_decimal};
 use map65::Image;
 use std::alloc::AllocError;
 
@@ -55,7 +55,7 @@ fn cell_character(code: &[bool], taken: &[bool]) -> u8
 /// Appends the characters of a line.
 fn put_cells(out: &mut Vec<u8>, code: &[bool], taken: &[bool]) -> Result<(), AllocError>
     requires { length code.now ≤ 65536 }
-    ensures { OnOk result (out.new.items ≡ out.old.items ++ map (cell_at code.now taken.now) (range_with_len 0 ((length code.now + 63) / 64))) }
+    ensures { Puts result out.old out.new (cells code.now taken.now) }
 {
     'cells: for k in 0..(code.len() + (CELL - 1)) / CELL {
         let at = CELL * k;
@@ -68,9 +68,9 @@ fn put_cells(out: &mut Vec<u8>, code: &[bool], taken: &[bool]) -> Result<(), All
 #[tactic(auto, unfolding(crate::specs::Picture::row_comment))]
 fn put_row(out: &mut Vec<u8>, address: u16, code: &[bool], taken: &[bool]) -> Result<(), AllocError>
     requires { length code.now ≤ 65536 }
-    ensures { PutsLine result out.old.items out.new.items (row_comment address code.now taken.now) }
+    ensures { PutsLine result out.old out.new (row_comment address code.now taken.now) }
 {
-    put_address(out, b"# $", address)?;
+    put_address(out, b"# $", address as usize)?;
     out.extend_from_slice(b" ")?;
     put_cells(out, code, taken)?;
     out.extend_from_slice(b"\n")
@@ -85,7 +85,7 @@ pub fn put_picture(
     taken: &[bool],
 ) -> Result<(), AllocError>
     requires { start + length code.now ≤ 65536 }
-    ensures { OnOk result (out.new.items ≡ out.old.items ++ flat_map comment_line (picture_comments start code.now taken.now)) }
+    ensures { PutsLines result out.old out.new (picture_comments start code.now taken.now) }
 {
     'rows: for k in 0..(code.len() + (ROW - 1)) / ROW {
         let at = ROW * k;
@@ -112,7 +112,7 @@ fn set_count(marks: &[bool]) -> usize
 /// Appends the counts of the bytes that have these marks.
 #[tactic(auto, unfolding(crate::specs::Picture::counts_comment))]
 pub fn put_counts(out: &mut Vec<u8>, code: &[bool], taken: &[bool]) -> Result<(), AllocError>
-    ensures { OnOk result (out.new.items ≡ out.old.items ++ comment_line (counts_comment code.now taken.now)) }
+    ensures { PutsLine result out.old out.new (counts_comment code.now taken.now) }
 {
     let reached = set_count(code);
     let both = set_count(taken);

@@ -1,8 +1,8 @@
 //! What is found of an image, as text of an information file.
 
-ghost use Rattle.std.specs.Prelude.{◌≡◌, ◌+◌, ◌++◌, ◌≤◌, IfOk, OnOk, flat_map, length};
-ghost use Rattle.reach65.specs.Words.{LieIn, comment_line, pairs_of};
-ghost use Rattle.trace65.specs.Words.{AreFindings, ArePairs, AreTraced, AreWordMarks, IsWritten, Puts, comments_before, file_before, found_comments, image_marks, legend, legend_more, likely_comments, misplaced_comments, move_comments, picture_and_counts, report_text};
+ghost use Rattle.std.specs.Prelude.{◌≡◌, ◌+◌, ◌++◌, ◌≤◌, IfOk, length};
+ghost use Rattle.reach65.specs.Words.{LieIn, Puts, Returns, comment_line};
+ghost use Rattle.trace65.specs.Words.{AreFindings, ArePairs, AreTraced, AreWordMarks, IsWritten, PutsLines, comments_before, file_before, found_comments, headed, image_marks, legend, legend_more, likely_comments, misplaced_comments, move_comments, picture_and_counts, report_text};
 
 use crate::calls::put_calls;
 use crate::labels::put_labels;
@@ -78,7 +78,7 @@ fn halves(
     survey: &Survey,
     tags: &[Tag],
 ) -> Result<Vec<Pair>, AllocError>
-    ensures { IfOk result (λ found. ArePairs tags.now survey.now (pairs_of flow.now.map survey.now.reached) found.items) }
+    ensures { IfOk result (λ found. ArePairs flow.now.map tags.now survey.now found.items) }
 {
     let used = mark_said(alloc, tags)?;
     let pairs = pairs_of(alloc, flow, &survey.reached)?;
@@ -141,7 +141,7 @@ fn search_image(
 
 /// Appends what the picture's characters stand for.
 fn put_legend(out: &mut Vec<u8>) -> Result<(), AllocError>
-    ensures { OnOk result (out.new.items ≡ out.old.items ++ (comment_line legend ++ comment_line legend_more)) }
+    ensures { Puts result out.old out.new (comment_line legend ++ comment_line legend_more) }
 {
     out.extend_from_slice(b"# a character for 64 bytes: # code that is reached, + partly,\n")?;
     out.extend_from_slice(b"# r in a range of the information file, . neither\n")
@@ -155,7 +155,7 @@ fn put_picture_and_counts(
     taken: &[bool],
 ) -> Result<(), AllocError>
     requires { start + length code.now ≤ 65536 }
-    ensures { OnOk result (out.new.items ≡ out.old.items ++ (comment_line legend ++ flat_map comment_line (picture_and_counts start code.now taken.now))) }
+    ensures { Puts result out.old out.new (headed (picture_and_counts start code.now taken.now)) }
 {
     put_legend(out)?;
     put_picture(out, start, code, taken)?;
@@ -185,14 +185,14 @@ fn put_misplaced_in(
     survey: &Survey,
     entries: &[u16],
 ) -> Result<(), AllocError>
-    ensures { Puts result out.old.items out.new.items (misplaced_comments map.now survey.now.reached entries.now) }
+    ensures { PutsLines result out.old out.new (misplaced_comments map.now survey.now.reached entries.now) }
 {
     put_misplaced(out, &Flow::new(map, &[]), &survey.reached, entries)
 }
 
 /// Appends the picture, the counts, and what is given where it counts for nothing.
 fn put_head(out: &mut Vec<u8>, map: &Map<'_>, found: &Findings) -> Result<(), AllocError>
-    ensures { OnOk result (out.new.items ≡ out.old.items ++ (comment_line legend ++ flat_map comment_line (comments_before map.now found.now))) }
+    ensures { Puts result out.old out.new (headed (comments_before map.now found.now)) }
 {
     let image = map.image();
     let code = code_marks(image, &found.survey);
@@ -208,7 +208,7 @@ fn put_moves(
     tags: &[Tag],
     found: &Findings,
 ) -> Result<(), AllocError>
-    ensures { Puts result out.old.items out.new.items (move_comments map.now tags.now found.now) }
+    ensures { PutsLines result out.old out.new (move_comments map.now tags.now found.now) }
 {
     put_pairs(out, map, &found.pairs)?;
     put_after(out, map.image(), tags, &found.pairs, &found.variables)
@@ -224,7 +224,7 @@ fn put_likely(
 ) -> Result<(), AllocError>
     requires words { length found.now.words ≡ 65536 }
     requires returns { length found.now.returns ≡ 65536 }
-    ensures { Puts result out.old.items out.new.items (likely_comments map.now tags.now found.now) }
+    ensures { PutsLines result out.old out.new (likely_comments map.now tags.now found.now) }
 {
     let words: &[bool] = &found.words;
     let returns: &[bool] = &found.returns;
@@ -242,7 +242,7 @@ fn put_comments(
 ) -> Result<(), AllocError>
     requires words { length found.now.words ≡ 65536 }
     requires returns { length found.now.returns ≡ 65536 }
-    ensures { Puts result out.old.items out.new.items (found_comments map.now tags.now found.now) }
+    ensures { PutsLines result out.old out.new (found_comments map.now tags.now found.now) }
 {
     put_moves(out, map, tags, found)?;
     put_likely(out, alloc, map, tags, found)
@@ -260,7 +260,7 @@ fn put_report(
     requires inside { LieIn map.now.image found.now.ranges }
     requires words { length found.now.words ≡ 65536 }
     requires returns { length found.now.returns ≡ 65536 }
-    ensures { OnOk result (out.new.items ≡ out.old.items ++ report_text map.now tags.now found.now) }
+    ensures { Puts result out.old out.new (report_text map.now tags.now found.now) }
 {
     put_head(out, map, found)?;
     put_ranges(out, map.image(), &found.ranges)?;
@@ -270,7 +270,7 @@ fn put_report(
 
 /// The bytes of the information file, if the whole is to be written, else none.
 fn file_before(alloc: Global, whole: bool, file: &[u8]) -> Result<Vec<u8>, AllocError>
-    ensures { IfOk result (λ text. text.items ≡ file_before whole file.now) }
+    ensures { Returns result (file_before whole file.now) }
 {
     let mut text = Vec::new(alloc);
     if whole {

@@ -1,12 +1,11 @@
 //! What a command line asks for.
 
-ghost use Rattle.std.specs.Prelude.{◌≡◌, IfOk, map, option_map};
-ghost use Rattle.std.specs.List.{slice_split};
-ghost use Rattle.std.specs.String.{string_bytes};
+ghost use Rattle.std.specs.Prelude.{◌≡◌, IfOk, map, vec_items};
 ghost use Rattle.clap.specs.Words.{found_of, rows_of};
-ghost use Rattle.info65.specs.Words.{name_seen, no_options};
+ghost use Rattle.info65.specs.Words.{name_seen};
 ghost use Rattle.usage65.specs.Values.{Gives};
-ghost use Rattle.trace65.specs.Words.{addresses_in, asked, asked_in, asked_of, entries_given, entries_in, is_comma, traced_in};
+ghost use Rattle.usage65.specs.Words.{text_seen, texts_seen};
+ghost use Rattle.trace65.specs.Words.{addresses_in, asked, asked_in, asked_of, entries_given, entries_in, options_with, parts_of, traced_in};
 
 use crate::command::this_program;
 use clap::ArgMatches;
@@ -44,7 +43,7 @@ pub struct Tracing {
 /// looked at. Then the start, the CPU and the entries are read, in this order. `Memory` is returned only if memory ran out.
 #[tactic(auto, unfolding(crate::specs::Request::asked), using(crate::proofs::CommandLemmas::app_is_plain))]
 pub fn request_of(alloc: Global, words: &[String]) -> Result<Request, UsageFault>
-    ensures { Gives asked_of result (asked (map string_bytes words.now)) }
+    ensures { Gives asked_of result (asked (texts_seen words.now)) }
 {
     let matches = this_program().matches(alloc, words)?;
     request_in(alloc, &matches)
@@ -71,7 +70,7 @@ fn options_with(
     start: Option<u16>,
     cpu: Option<Cpu>,
 ) -> Options
-    ensures { result ≡ record no_options { info = name_seen info; input = name_seen input; start = start; cpu = cpu } }
+    ensures { result ≡ options_with (name_seen info) (name_seen input) start cpu }
 {
     let mut options = Options::none();
     options.info = info;
@@ -103,14 +102,14 @@ fn traced_in(alloc: Global, matches: &ArgMatches) -> Result<Request, UsageFault>
 
 /// The texts between the commas of a text.
 fn parts_of(alloc: Global, text: &str) -> Result<Vec<&str>, AllocError>
-    ensures { IfOk result (λ parts. map (λ part. part.now) parts.items ≡ slice_split is_comma text.now) }
+    ensures { IfOk result (λ parts. map (λ part. part.now) parts.items ≡ parts_of text.now) }
 {
     text.split(',').collect(alloc)
 }
 
 /// The addresses of these texts.
 fn addresses_in(alloc: Global, texts: &[&str]) -> Result<Vec<u16>, UsageFault>
-    ensures { Gives (λ found. found.items) result (addresses_in (map (λ text. text.now) texts.now)) }
+    ensures { Gives vec_items result (addresses_in (map (λ text. text.now) texts.now)) }
 {
     let mut found = Vec::new(alloc);
     'texts: for text in texts {
@@ -122,14 +121,14 @@ fn addresses_in(alloc: Global, texts: &[&str]) -> Result<Vec<u16>, UsageFault>
 /// The addresses of a text, with commas between them.
 #[tactic(auto, unfolding(crate::specs::Request::entries_in))]
 fn entries_in(alloc: Global, text: &str) -> Result<Vec<u16>, UsageFault>
-    ensures { Gives (λ found. found.items) result (entries_in text.now) }
+    ensures { Gives vec_items result (entries_in text.now) }
 {
     addresses_in(alloc, &parts_of(alloc, text)?)
 }
 
 /// The addresses that are given as entries, if any are.
 fn entries_given(alloc: Global, text: Option<&str>) -> Result<Vec<u16>, UsageFault>
-    ensures { Gives (λ found. found.items) result (entries_given (option_map (λ s. s.now) text.entry)) }
+    ensures { Gives vec_items result (entries_given (text_seen text.entry)) }
 {
     match text {
         Some(text) => entries_in(alloc, text),

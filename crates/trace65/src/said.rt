@@ -1,6 +1,7 @@
 //! What the lines `#: ..` of an information file say.
 
-ghost use Rattle.std.specs.Prelude.{◌≡◌, ◌++◌, IfOk, OnOk};
+ghost use Rattle.std.specs.Prelude.{◌≡◌, ◌++◌};
+ghost use Rattle.reach65.specs.Words.{Puts, Returns};
 ghost use Rattle.trace65.specs.Words.{entries_said, entry_said, has_after, is_after};
 
 use info65::{Tag, TagKind};
@@ -8,7 +9,7 @@ use std::alloc::{AllocError, Global};
 
 /// Adds the address of a group ENTRY.
 fn put_entry(entries: &mut Vec<u16>, tag: Tag) -> Result<(), AllocError>
-    ensures { OnOk result (entries.new.items ≡ entries.old.items ++ entry_said tag) }
+    ensures { Puts result entries.old entries.new (entry_said tag) }
 {
     if let (TagKind::Entry, Some(address)) = (tag.kind, tag.address) {
         entries.push(address)?;
@@ -19,7 +20,7 @@ fn put_entry(entries: &mut Vec<u16>, tag: Tag) -> Result<(), AllocError>
 /// The entries that are given, and those of the groups ENTRY.
 #[tactic(auto, unfolding(crate::specs::Said::entries_said))]
 pub fn all_entries(alloc: Global, given: &[u16], tags: &[Tag]) -> Result<Vec<u16>, AllocError>
-    ensures { IfOk result (λ entries. entries.items ≡ given.now ++ entries_said tags.now) }
+    ensures { Returns result (given.now ++ entries_said tags.now) }
 {
     let mut entries = Vec::new(alloc);
     entries.extend_from_slice(given)?;
