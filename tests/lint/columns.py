@@ -12,9 +12,9 @@ CLAUSE, SCRIPT, PAGE, MANUAL = 100, 140, 120, 80
 WIDER = {
     "isa65": 2,
     "text65": 1,
-    "stmt65": 83,
-    "info65": 51,
-    "map65": 13,
+    "stmt65": 21,
+    "info65": 22,
+    "map65": 4,
     "usage65": 1,
     "da65": 27,
     "reach65": 4,
