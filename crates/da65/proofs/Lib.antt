@@ -8,3 +8,4 @@ pub mod Blocks
 pub mod Reentry
 pub mod Outcomes
 pub mod Worked
+pub mod Rules

@@ -1,9 +1,9 @@
 -- What a run has written and read, for each of its results.
-use Rattle.std.specs.Prelude.{◌≡◌, ◌⊎◌, ℕ, ◌+◌, ◌-◌, ◌^◌, ◌<◌, ◌≤◌, List, length, IfOk, IfSome, Option, Result, Ok, Err}
+use Rattle.std.specs.Prelude.{◌≡◌, ◌⊎◌, ℕ, ◌+◌, ◌-◌, ◌^◌, ◌<◌, ◌≤◌, Bool, List, length, IfOk, IfSome, IsErrOf, Option, Result, Ok, Err}
 use Rattle.std.specs.Io.KnownBytes.{Keeps, Appends}
 use Rattle.info65.specs.Words.{Gives, InfoView}
 use Rattle.da65.specs.Types.{InfoFault, Messages, RunFault, Status, Write}
-use Rattle.map65.specs.Words.{AppendsFront, TakesUpTo, one_more, read_limit}
+use Rattle.map65.specs.Words.{AppendsFront, TakesUpTo, has_failed, one_more, read_limit}
 use Rattle.da65.specs.declared.runs.outcome.Status.TheVariants.{Refused}
 use Rattle.da65.specs.declared.runs.outcome.RunFault.TheVariants.{Memory}
 use Rattle.da65.specs.Outcome.{Outcome}
@@ -15,6 +15,14 @@ Writes (Ok status) outcome out out' msgs msgs' = (status ≡ outcome.status) × 
 Writes (Err Memory) outcome out out' msgs msgs' = Keeps out out' × Keeps msgs msgs'
 Writes (Err Write) outcome out out' msgs msgs' = AppendsFront out out' outcome.listing × Keeps msgs msgs'
 Writes (Err Messages) outcome out out' msgs msgs' = Appends out out' outcome.listing × AppendsFront msgs msgs' outcome.messages × (0 < length outcome.messages)
+
+-- nothing was written where the run gave up for this reason
+abbrev pub KeepsAt : RunFault → Result Status RunFault → Option (List ℕ) → Option (List ℕ) → Type 0
+KeepsAt fault result old new = IsErrOf result fault → Keeps old new
+
+-- nothing was written where the run was refused
+abbrev pub KeepsIfRefused : Result Status RunFault → Option (List ℕ) → Option (List ℕ) → Type 0
+KeepsIfRefused result old new = IfOk result (λ status. status ≡ Refused → Keeps old new)
 
 -- the count of failed writes of the listing rises by one exactly when the result is Write
 abbrev pub OutCount : Result Status RunFault → ℕ → ℕ → Type 0
@@ -49,6 +57,10 @@ OfRead read P = (defined : Result InfoView InfoFault) → Gives (λ i. i) read d
 -- what holds of an input's bytes, where it tells them and its count of failures can still rise
 abbrev pub OfBytes : ℕ → Option (List ℕ) → (List ℕ → Type 0) → Type 0
 OfBytes faults left P = faults < 2 ^ 64 - 1 → IfSome left P
+
+-- what holds of an input's bytes and of whether a read of it failed, by its counts of failures before and after
+abbrev pub OfInput : ℕ → ℕ → Option (List ℕ) → (List ℕ → Bool → Type 0) → Type 0
+OfInput faults faults' left P = OfBytes faults left (λ bytes. P bytes (has_failed faults faults'))
 
 -- at most the bytes that the settings ask for are read, if the run is not refused before
 abbrev pub ReadsFor : Result InfoView (List ℕ) → Option (List ℕ) → Option (List ℕ) → Type 0

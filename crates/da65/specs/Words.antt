@@ -30,7 +30,7 @@ pub use Rattle.da65.specs.Outcome.{Outcome, done, or_message, outcome_by, outcom
 unfoldable pub use Rattle.da65.specs.Outcome.{image_message, include_message, info_message, missing_message, no_input_message, prepared_by, with_includes}
 pub use Rattle.da65.specs.ReassemblyLaw.{CodesInMode, ExpressionsHaveTheirValues, ForcedWhereNeeded, GivesBytes, GroupGivesItsBytes, GroupsAreGroups, HasKnownSize, IsGroup, IsWritten, ItemGivesItsBytes, ListingGivesImage, ModeIsChosenBack, NamesAreDefinedOnce, NamesAreSound, TargetIsInRange, TextGivesImage, UnwrittenIsBytes, WrittenIsInstruction, fragments_in, item_in, operand_fragment, reading_of_line, readings_of, row_fragments}
 pub use Rattle.da65.specs.RunLaw.{Reassembles, Took, TookImage, TookImageOf}
-pub use Rattle.da65.specs.Running.{FailsAtMostOnce, InputCount, MessagesCount, OfBytes, OfRead, OutCount, ReadsFor, Writes, WritesFew}
+pub use Rattle.da65.specs.Running.{FailsAtMostOnce, InputCount, KeepsAt, KeepsIfRefused, MessagesCount, OfBytes, OfInput, OfRead, OutCount, ReadsFor, Writes, WritesFew}
 pub use Rattle.da65.specs.SegmentReentry.{leads_back, segment_name}
 unfoldable pub use Rattle.da65.specs.SegmentReentry.{enters_again, is_entered_again}
 pub use Rattle.da65.specs.Segments.{is_same_segment, segment_statement}

@@ -46,6 +46,7 @@ pub fn written_is_instruction()
 {}
 
 /// Otherwise it is the item's bytes.
+#[tactic(auto, using(crate::proofs::Statements::Reassembly::unwritten_is_bytes, std::proofs::lemmas::Grind::common_steps))]
 pub fn unwritten_is_bytes()
     ensures { UnwrittenIsBytes }
 {}

@@ -27,6 +27,7 @@ fn given_comment<A: Allocator>(info: &Info<A>, address: u16) -> Option<&[u8]>
 
 /// The comment of the name that has this address as its own, if it has one.
 #[inline(always)]
+#[tactic(auto, using(crate::proofs::Rules::comment_at_rules, std::proofs::lemmas::Grind::common_steps))]
 pub fn comment_at<'a, A: Allocator>(listed: &ListedImage<'a, A>, address: u16) -> Option<&'a [u8]>
     ensures comment { option_copied result ≡ comment_at listed.now address }
     ensures printable { IfSome (option_copied result) (λ text. IsPrintable (view.remark text)) }

@@ -111,6 +111,7 @@ fn named_from<A: Allocator>(map: &Map<'_, A>, from: usize, end: usize) -> usize
 }
 
 /// The first address from this one on and before `end` that has a constant line. The buffer holds its name.
+#[tactic(auto, using(crate::proofs::Rules::constant_before_rules, std::proofs::lemmas::Grind::common_steps))]
 fn constant_before<A: Allocator>(
     listed: &ListedImage<'_, A>,
     from: usize,
@@ -194,6 +195,7 @@ fn put_definition<A: Allocator>(
 
 /// Replaces the buffer by the comment of the constant of this address, if there is one, else by its constant line, and
 /// returns the next place.
+#[tactic(auto, using(crate::proofs::Rules::put_constant_rules, std::proofs::lemmas::Grind::common_steps))]
 fn put_constant<A: Allocator>(
     out: &mut Line,
     listed: &ListedImage<'_, A>,
@@ -214,6 +216,7 @@ fn put_constant<A: Allocator>(
 }
 
 /// Replaces the buffer by the next line of constants from this address on, and returns the next place.
+#[tactic(auto, using(crate::proofs::Rules::put_next_constant_rules, std::proofs::lemmas::Grind::common_steps))]
 pub fn put_next_constant<A: Allocator>(
     out: &mut Line,
     listed: &ListedImage<'_, A>,
@@ -229,6 +232,7 @@ pub fn put_next_constant<A: Allocator>(
 }
 
 /// Replaces the buffer by the constant line of this address, and returns the next place.
+#[tactic(auto, using(crate::proofs::Rules::put_assignment_rules, std::proofs::lemmas::Grind::common_steps))]
 pub fn put_assignment<A: Allocator>(
     out: &mut Line,
     listed: &ListedImage<'_, A>,

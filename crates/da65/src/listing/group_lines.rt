@@ -25,12 +25,14 @@ use stmt65::{Line, Operands, Remarks, Statement, put_line};
 
 /// Bytes are numbers below 256.
 #[inline(always)]
+#[tactic(auto, using(crate::proofs::Rules::are_bytes_rules, std::proofs::lemmas::Grind::common_steps))]
 fn are_bytes(bytes: &[u8])
     ensures { AreBytes bytes.now }
 {}
 
 /// The group that begins with the byte of this index, so far without a label.
 #[inline(always)]
+#[tactic(auto, using(crate::proofs::Rules::group_at_rules, std::proofs::lemmas::Grind::common_steps))]
 pub fn group_at<'a, A: Allocator>(listed: &ListedImage<'a, A>, index: usize) -> Group<'a>
     requires { IsGroupStart listed.now index }
     ensures index { result.index ≡ index }
@@ -54,6 +56,7 @@ pub fn group_at<'a, A: Allocator>(listed: &ListedImage<'a, A>, index: usize) -> 
 
 /// Replaces the buffer by this statement of a group, after its label, and returns whether an empty line follows.
 #[inline(always)]
+#[tactic(auto, using(crate::proofs::Rules::put_group_statement_rules, std::proofs::lemmas::Grind::common_steps), unfolding(crate::specs::Listing::line_text))]
 fn put_group_statement<A: Allocator>(
     out: &mut Line,
     listed: &ListedImage<'_, A>,
@@ -78,6 +81,7 @@ fn put_group_statement<A: Allocator>(
 
 /// The same of a line of a table. It has a stack frame of its own, so that lines of code are made in a small one.
 #[inline(never)]
+#[tactic(auto, using(crate::proofs::Rules::put_table_line_rules, std::proofs::lemmas::Grind::common_steps))]
 fn put_table_line<A: Allocator>(
     out: &mut Line,
     listed: &ListedImage<'_, A>,
@@ -129,6 +133,7 @@ fn put_instruction<A: Allocator>(
 /// The same of an item of code that is this instruction, with operands. If the target of one lies outside the address space, its bytes
 /// are written.
 #[inline(never)]
+#[tactic(auto, using(crate::proofs::Rules::put_with_operands_rules, std::proofs::lemmas::Grind::common_steps))]
 fn put_with_operands<A: Allocator>(
     out: &mut Line,
     listed: &ListedImage<'_, A>,
@@ -147,6 +152,7 @@ fn put_with_operands<A: Allocator>(
 
 /// The same. Most instructions with operands have one, and need no room for two names.
 #[inline(never)]
+#[tactic(auto, using(crate::proofs::Rules::put_with_operand_rules, std::proofs::lemmas::Grind::common_steps), unfolding(crate::specs::Statements::operands_of))]
 fn put_with_operand<A: Allocator>(
     out: &mut Line,
     listed: &ListedImage<'_, A>,
@@ -169,6 +175,7 @@ fn put_with_operand<A: Allocator>(
 
 /// The same of an item of code.
 #[inline(always)]
+#[tactic(auto, using(crate::proofs::Rules::put_code_line_rules, std::proofs::lemmas::Grind::common_steps), unfolding(crate::specs::Statements::operands_of))]
 fn put_code_line<A: Allocator>(
     out: &mut Line,
     listed: &ListedImage<'_, A>,
@@ -190,6 +197,7 @@ fn put_code_line<A: Allocator>(
 
 /// Replaces the buffer by the statement of a group, after its label, and returns whether an empty line follows.
 #[inline(always)]
+#[tactic(auto, using(crate::proofs::Rules::put_statement_line_rules, std::proofs::lemmas::Grind::common_steps))]
 fn put_statement_line<A: Allocator>(
     out: &mut Line,
     listed: &ListedImage<'_, A>,
@@ -227,6 +235,7 @@ pub fn put_statement<A: Allocator>(
 /// Replaces the buffer by the label of a group, and its statement if that has room beside it, and returns the next place. Without a
 /// label it is the statement.
 #[inline(never)]
+#[tactic(auto, using(crate::proofs::Rules::put_label_rules, std::proofs::lemmas::Grind::common_steps))]
 fn put_label<A: Allocator>(
     out: &mut Line,
     listed: &ListedImage<'_, A>,
@@ -251,6 +260,7 @@ fn put_label<A: Allocator>(
 
 /// The same. Most groups begin at an address without a name, and need no buffer for one.
 #[inline(always)]
+#[tactic(auto, using(crate::proofs::Rules::put_labelled_rules, std::proofs::lemmas::Grind::common_steps))]
 fn put_labelled<A: Allocator>(
     out: &mut Line,
     listed: &ListedImage<'_, A>,
@@ -269,6 +279,7 @@ fn put_labelled<A: Allocator>(
 
 /// Replaces the buffer by the first line of a group from what has this number before its label on, and returns the next place.
 #[inline(always)]
+#[tactic(auto, using(crate::proofs::Rules::put_group_line_rules, std::proofs::lemmas::Grind::common_steps))]
 pub fn put_group_line<A: Allocator>(
     out: &mut Line,
     listed: &ListedImage<'_, A>,

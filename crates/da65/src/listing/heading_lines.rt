@@ -83,6 +83,7 @@ fn put_segment_line(out: &mut Line, style: &Style, segment: Option<&[u8]>)
 }
 
 /// Replaces the buffer by the line that enters the segment of this group, if it is not that of the group before.
+#[tactic(auto, using(crate::proofs::Rules::put_segment_rules, std::proofs::lemmas::Grind::common_steps))]
 fn put_segment<A: Allocator>(out: &mut Line, listed: &ListedImage<'_, A>, group: Group<'_>) -> bool
     requires { IsGroupIn listed.now group }
     ensures { IsSegmentLine listed.now group.entry out.new.items result }
@@ -152,6 +153,7 @@ fn put_forward<A: Allocator>(
 
 /// Replaces the buffer by what has this number among the lines that may stand before the label of a group, if that is there.
 #[inline(always)]
+#[tactic(auto, using(crate::proofs::Rules::put_heading_rules, std::proofs::lemmas::Grind::common_steps), unfolding(crate::specs::Lines::heading_lines))]
 pub fn put_heading<A: Allocator>(
     out: &mut Line,
     listed: &ListedImage<'_, A>,
@@ -199,6 +201,7 @@ fn is_unnamed<A: Allocator>(listed: &ListedImage<'_, A>, group: Group<'_>) -> bo
 
 /// Whether a separator or a segment line may stand before a group. It stands only before the first group of a run.
 #[inline(always)]
+#[tactic(auto, using(crate::proofs::Rules::may_have_head_rules, std::proofs::lemmas::Grind::common_steps))]
 fn may_have_head<A: Allocator>(listed: &ListedImage<'_, A>, group: Group<'_>) -> bool
     requires { IsGroupIn listed.now group }
     ensures { OnFalse result (HasNoneBefore listed.now group.entry 2) }
@@ -214,6 +217,7 @@ fn may_have_head<A: Allocator>(listed: &ListedImage<'_, A>, group: Group<'_>) ->
 
 /// A number before which a group has no such lines. Most listings have none but forward lines, and most groups have no names.
 #[inline(always)]
+#[tactic(auto, using(crate::proofs::Rules::first_heading_rules, std::proofs::lemmas::Grind::common_steps))]
 pub fn first_heading<A: Allocator>(listed: &ListedImage<'_, A>, group: Group<'_>) -> usize
     requires { IsGroupIn listed.now group }
     ensures { HasNoneBefore listed.now group.entry result }

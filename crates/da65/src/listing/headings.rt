@@ -9,6 +9,7 @@ use info65::Info;
 use std::alloc::Allocator;
 
 /// Whether a given name has a comment.
+#[tactic(auto, using(crate::proofs::Rules::has_comment_rules, std::proofs::lemmas::Grind::common_steps))]
 fn has_comment<A: Allocator>(info: &Info<A>) -> bool
     ensures { result ≡ list_any has_comment info.now.names }
 {

@@ -75,7 +75,7 @@ fn goes_on<A: Allocator>(map: &Map<'_, A>, address: usize) -> bool
 
 /// How many bytes the items have that go on from an address, of so many at most.
 #[inline(never)]
-#[tactic(auto, unfolding(crate::specs::Groups::more_at))]
+#[tactic(auto, using(crate::proofs::Rules::more_at_rules, std::proofs::lemmas::Grind::common_steps), unfolding(crate::specs::Groups::more_at))]
 fn more_at<A: Allocator>(map: &Map<'_, A>, limit: usize, address: usize) -> usize
     requires placed { IsPlaced map.now.image }
     requires names { AreNames map.now.info.names }
@@ -112,6 +112,7 @@ fn limit_at<A: Allocator>(map: &Map<'_, A>, role: RangeType, address: usize) -> 
 /// How many bytes the group has that begins with the item at an address of the image: that item, and those that go on, as many as
 /// the line takes. Allocates nothing.
 #[inline(always)]
+#[tactic(auto, using(crate::proofs::Rules::group_len_rules, std::proofs::lemmas::Grind::common_steps), unfolding(crate::specs::Groups::group_len))]
 pub fn group_len<A: Allocator>(map: &Map<'_, A>, address: u16) -> usize
     requires placed { IsPlaced map.now.image }
     requires names { AreNames map.now.info.names }
@@ -163,7 +164,7 @@ pub fn has_skipped<A: Allocator>(map: &Map<'_, A>) -> bool
 }
 
 /// Whether a byte of the image is skipped, by each byte.
-#[tactic(auto, unfolding(crate::specs::Groups::skips))]
+#[tactic(auto, using(crate::proofs::Rules::is_any_skipped_rules, std::proofs::lemmas::Grind::common_steps), unfolding(crate::specs::Groups::skips))]
 fn is_any_skipped<A: Allocator>(map: &Map<'_, A>) -> bool
     ensures { result ≡ skips map.now }
 {

@@ -57,6 +57,7 @@ fn shown_from<A: Allocator>(listed: &ListedImage<'_, A>, from: usize) -> Option<
 
 /// Whether a group begins with the byte of this index, where one may: the byte is not skipped.
 #[inline(always)]
+#[tactic(auto, using(crate::proofs::Rules::is_shown_rules, std::proofs::lemmas::Grind::common_steps))]
 fn is_shown<A: Allocator>(listed: &ListedImage<'_, A>, index: usize) -> bool
     requires { IsGroupPlace listed.now index }
     ensures { OnTrue result (IsGroupStart listed.now index) }
@@ -87,6 +88,7 @@ fn put_first_line<A: Allocator>(
 
 /// Replaces the buffer by the first line of the next group from this byte on, and returns the next place.
 #[inline(never)]
+#[tactic(auto, using(crate::proofs::Rules::put_next_group_rules, std::proofs::lemmas::Grind::common_steps))]
 fn put_next_group<A: Allocator>(
     out: &mut Line,
     listed: &ListedImage<'_, A>,
@@ -172,7 +174,7 @@ fn put_next<A: Allocator>(
 
 impl<'a, A: Allocator> Lines<'a, A> {
     /// All lines of the listing of an image, by a map that was built from these two.
-    #[tactic(auto, unfolding(crate::specs::Listing::lines_of))]
+    #[tactic(auto, using(crate::proofs::Rules::lines_new_rules, std::proofs::lemmas::Grind::common_steps), unfolding(crate::specs::Listing::lines_of))]
     pub fn new(info: &'a Info<A>, image: &'a Image<A>, map: &'a Map<'a, A>) -> Lines<'a, A>
         requires { map.now ≡ record { info = info.now; image = image.now } }
         ensures { result ≡ lines_of map.entry.now }

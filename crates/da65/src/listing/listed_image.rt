@@ -39,6 +39,7 @@ impl<'a, A: Allocator> Model for ListedImage<'a, A> {
 
 impl<'a, A: Allocator> ListedImage<'a, A> {
     /// The image of a map.
+    #[tactic(auto, using(crate::proofs::NextLine::NextLemmas::style_cpu, std::proofs::lemmas::Grind::common_steps))]
     pub fn new(map: &'a Map<'a, A>) -> ListedImage<'a, A>
         ensures { result ≡ map.entry.now }
     {

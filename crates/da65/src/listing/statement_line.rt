@@ -38,6 +38,7 @@ pub fn put_remark(out: &mut Line, style: &Style, text: &[u8])
 
 /// Replaces the buffer by the line of this number of the header, 0 to 3.
 #[inline(never)]
+#[tactic(auto, using(crate::proofs::Rules::put_header_line_rules, std::proofs::lemmas::Grind::common_steps))]
 pub fn put_header_line(out: &mut Line, style: &Style, number: usize)
     requires { number < 4 }
     ensures { IsHeaderLine style.now number out.new.items }

@@ -1,8 +1,8 @@
 //! Which files a run needs, by its options and its information file.
 
-ghost use Rattle.std.specs.Prelude.{◌≡◌, IfOk, Result};
-ghost use Rattle.info65.specs.Words.{Gives, InfoView, information};
-ghost use Rattle.da65.specs.Words.{InfoFault, needs_in};
+ghost use Rattle.std.specs.Prelude.{◌≡◌, IfOk};
+ghost use Rattle.info65.specs.Words.{information};
+ghost use Rattle.da65.specs.Words.{OfRead, needs_in};
 
 use crate::runs::files::{Needs, needs_of, nothing};
 use info65::{Info, InfoFault, InfoFaultKind, Options, read_info};
@@ -26,7 +26,7 @@ pub fn needs_read<A: Allocator + Copy>(
     alloc: A,
     read: &Result<Info<A>, InfoFault>,
 ) -> Result<Needs<A>, AllocError>
-    ensures { (defined : Result InfoView InfoFault) → Gives (λ i. i) read.now defined → IfOk result (λ n. n ≡ needs_in defined) }
+    ensures { OfRead read.now (λ defined. IfOk result (λ n. n ≡ needs_in defined)) }
 {
     match read {
         Ok(info) => needs_of(alloc, info),

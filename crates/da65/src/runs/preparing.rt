@@ -106,6 +106,7 @@ fn all_names<'a, 'f: 'a, A: Allocator + Copy>(
 }
 
 /// Adds the names of all include files, if an input is named and no file is refused.
+#[tactic(auto, using(crate::proofs::Rules::add_includes_rules, std::proofs::lemmas::Grind::common_steps))]
 fn add_includes<A: Allocator + Copy>(
     alloc: A,
     info: &mut Info<A>,

@@ -1,9 +1,8 @@
 //! From an information file and an input to a listing and messages.
 
 ghost use Rattle.std.specs.Prelude.{◌≡◌, ◌-◌, ◌<◌, ◌≤◌, Ok, false, IfErr, IfOk, IsErrOf, Result, length};
-ghost use Rattle.std.specs.Io.KnownBytes.{Keeps};
-ghost use Rattle.da65.specs.Words.{InfoFault, InputCount, MessagesCount, OfBytes, OfRead, OutCount, ReadsFor, Reassembles, RefusesOrGivesUp, Tells, Took, Writes, WritesFew, done, files_seen, image_message, outcome_by, outcome_of, prepared, prepared_by, skips, warnings};
-ghost use Rattle.map65.specs.Words.{AreBytes, TakesUpTo, has_failed, read_limit};
+ghost use Rattle.da65.specs.Words.{InfoFault, InputCount, KeepsAt, KeepsIfRefused, MessagesCount, OfInput, OfRead, OutCount, ReadsFor, Reassembles, RefusesOrGivesUp, Tells, Took, Writes, WritesFew, done, files_seen, image_message, outcome_by, outcome_of, prepared, prepared_by, skips, warnings};
+ghost use Rattle.map65.specs.Words.{AreBytes, TakesUpTo, read_limit};
 
 use crate::listing::line_groups::has_skipped;
 use crate::listing::lines::{Lines, write_lines};
@@ -81,16 +80,16 @@ fn list_input<A: Allocator + Copy, R: Source, W: Sink, M: Sink>(
     out: &mut W,
     msgs: &mut M,
 ) -> Result<Status, RunFault>
-    ensures answer { OfBytes (R.faults input.old) (R.left input.old) (λ bytes.
-        Writes result (outcome_by (Ok info.now) bytes (has_failed (R.faults input.old) (R.faults input.new)))
+    ensures answer { OfInput (R.faults input.old) (R.faults input.new) (R.left input.old)
+        (λ bytes failed. Writes result (outcome_by (Ok info.now) bytes failed)
         (W.taken out.old) (W.taken out.new) (M.taken msgs.old) (M.taken msgs.new)) }
-    ensures reassembles { OfBytes (R.faults input.old) (R.left input.old) (λ bytes.
-        Reassembles result (Ok info.now) bytes (has_failed (R.faults input.old) (R.faults input.new))
+    ensures reassembles { OfInput (R.faults input.old) (R.faults input.new) (R.left input.old)
+        (λ bytes failed. Reassembles result (Ok info.now) bytes failed
         (W.taken out.old) (W.taken out.new)) }
-    ensures memory { IsErrOf result RunFault.Memory → Keeps (W.taken out.old) (W.taken out.new) }
-    ensures memory_messages { IsErrOf result RunFault.Memory → Keeps (M.taken msgs.old) (M.taken msgs.new) }
-    ensures write { IsErrOf result RunFault.Write → Keeps (M.taken msgs.old) (M.taken msgs.new) }
-    ensures refused { IfOk result (λ status. status ≡ Status.Refused → Keeps (W.taken out.old) (W.taken out.new)) }
+    ensures memory { KeepsAt RunFault.Memory result (W.taken out.old) (W.taken out.new) }
+    ensures memory_messages { KeepsAt RunFault.Memory result (M.taken msgs.old) (M.taken msgs.new) }
+    ensures write { KeepsAt RunFault.Write result (M.taken msgs.old) (M.taken msgs.new) }
+    ensures refused { KeepsIfRefused result (W.taken out.old) (W.taken out.new) }
     ensures few { WritesFew (M.taken msgs.old) (M.taken msgs.new) }
     ensures reads { TakesUpTo (read_limit info.now.settings) (R.left input.old) (R.left input.new) }
     ensures out_count { OutCount result (W.faults out.old) (W.faults out.new) }
@@ -139,20 +138,21 @@ pub fn run<A: Allocator + Copy, N: Allocator, R: Source, W: Sink, M: Sink>(
     msgs: &mut M,
 ) -> Result<Status, RunFault>
     // The listing, the messages and the status are those of the options, the information file, the files and the input.
-    ensures answer { OfBytes (R.faults input.old) (R.left input.old) (λ bytes.
-        Writes result (outcome_of options.now info.now (files_seen files.now) bytes (has_failed (R.faults input.old) (R.faults input.new)))
+    ensures answer { OfInput (R.faults input.old) (R.faults input.new) (R.left input.old)
+        (λ bytes failed. Writes result
+        (outcome_of options.now info.now (files_seen files.now) bytes failed)
         (W.taken out.old) (W.taken out.new) (M.taken msgs.old) (M.taken msgs.new)) }
 
     // If the result is Done and no byte of the image is skipped, what was written on `out` assembles to the image.
-    ensures reassembles { OfBytes (R.faults input.old) (R.left input.old) (λ bytes.
-        Reassembles result (prepared options.now info.now (files_seen files.now)) bytes (has_failed (R.faults input.old) (R.faults input.new))
-        (W.taken out.old) (W.taken out.new)) }
+    ensures reassembles { OfInput (R.faults input.old) (R.faults input.new) (R.left input.old)
+        (λ bytes failed. Reassembles result (prepared options.now info.now (files_seen files.now))
+        bytes failed (W.taken out.old) (W.taken out.new)) }
 
     // These hold for every reader.
-    ensures memory { IsErrOf result RunFault.Memory → Keeps (W.taken out.old) (W.taken out.new) }
-    ensures memory_messages { IsErrOf result RunFault.Memory → Keeps (M.taken msgs.old) (M.taken msgs.new) }
-    ensures write { IsErrOf result RunFault.Write → Keeps (M.taken msgs.old) (M.taken msgs.new) }
-    ensures refused { IfOk result (λ status. status ≡ Status.Refused → Keeps (W.taken out.old) (W.taken out.new)) }
+    ensures memory { KeepsAt RunFault.Memory result (W.taken out.old) (W.taken out.new) }
+    ensures memory_messages { KeepsAt RunFault.Memory result (M.taken msgs.old) (M.taken msgs.new) }
+    ensures write { KeepsAt RunFault.Write result (M.taken msgs.old) (M.taken msgs.new) }
+    ensures refused { KeepsIfRefused result (W.taken out.old) (W.taken out.new) }
     ensures few { WritesFew (M.taken msgs.old) (M.taken msgs.new) }
     ensures reads { ReadsFor (prepared options.now info.now (files_seen files.now)) (R.left input.old) (R.left input.new) }
     ensures unread { IfErr (prepared options.now info.now (files_seen files.now)) (λ _. input.new ≡ input.old) }
@@ -176,16 +176,18 @@ pub fn run_read<A: Allocator + Copy, R: Source, W: Sink, M: Sink>(
     msgs: &mut M,
 ) -> Result<Status, RunFault>
     // As those of `run`, for whatever file it is that was read or refused.
-    ensures answer { OfRead read (λ defined. OfBytes (R.faults input.old) (R.left input.old) (λ bytes.
-        Writes result (outcome_by (prepared_by defined (files_seen files.now)) bytes (has_failed (R.faults input.old) (R.faults input.new)))
+    ensures answer { OfRead read (λ defined. OfInput (R.faults input.old) (R.faults input.new)
+        (R.left input.old) (λ bytes failed. Writes result
+        (outcome_by (prepared_by defined (files_seen files.now)) bytes failed)
         (W.taken out.old) (W.taken out.new) (M.taken msgs.old) (M.taken msgs.new))) }
-    ensures reassembles { OfRead read (λ defined. OfBytes (R.faults input.old) (R.left input.old) (λ bytes.
-        Reassembles result (prepared_by defined (files_seen files.now)) bytes (has_failed (R.faults input.old) (R.faults input.new))
+    ensures reassembles { OfRead read (λ defined. OfInput (R.faults input.old) (R.faults input.new)
+        (R.left input.old) (λ bytes failed.
+        Reassembles result (prepared_by defined (files_seen files.now)) bytes failed
         (W.taken out.old) (W.taken out.new))) }
-    ensures memory { IsErrOf result RunFault.Memory → Keeps (W.taken out.old) (W.taken out.new) }
-    ensures memory_messages { IsErrOf result RunFault.Memory → Keeps (M.taken msgs.old) (M.taken msgs.new) }
-    ensures write { IsErrOf result RunFault.Write → Keeps (M.taken msgs.old) (M.taken msgs.new) }
-    ensures refused { IfOk result (λ status. status ≡ Status.Refused → Keeps (W.taken out.old) (W.taken out.new)) }
+    ensures memory { KeepsAt RunFault.Memory result (W.taken out.old) (W.taken out.new) }
+    ensures memory_messages { KeepsAt RunFault.Memory result (M.taken msgs.old) (M.taken msgs.new) }
+    ensures write { KeepsAt RunFault.Write result (M.taken msgs.old) (M.taken msgs.new) }
+    ensures refused { KeepsIfRefused result (W.taken out.old) (W.taken out.new) }
     ensures few { WritesFew (M.taken msgs.old) (M.taken msgs.new) }
     ensures reads { OfRead read (λ defined. ReadsFor (prepared_by defined (files_seen files.now)) (R.left input.old) (R.left input.new)) }
     ensures unread { OfRead read (λ defined. IfErr (prepared_by defined (files_seen files.now)) (λ _. input.new ≡ input.old)) }

@@ -1,22 +1,10 @@
-use Rattle.std.proofs.Common.{◌≡◌, ◌∙◌, ◌+◌, ℕ, ap, arith, drop, length, length-drop, sym, take}
+use Rattle.std.proofs.Common.{◌≡◌, ◌∙◌, ◌+◌, ℕ, ap, arith, drop, sym, take}
 use Rattle.map65.specs.Words.{MapView}
 use Rattle.da65.specs.Words.{group_bytes, group_len}
-use Rattle.da65.proofs.Groups.GroupLemmas.{begins-true, group-fits, item-begins}
+use Rattle.da65.proofs.Groups.GroupLemmas.{begins-true, group-fits}
 use Rattle.da65.proofs.Groups.ShapeLemmas.{group-index}
 use Rattle.da65.proofs.Statements.PrintLaws.{statement_prints}
 use Rattle.da65.proofs.listing.group_lines.group_at.Goals as goal
-
-pub group_len-len-requires-clause-begins : goal.group_len-len-requires-clause-begins
-group_len-len-requires-clause-begins g c = let s = c.requires in rw (c.map-map.ensures.map, c.address-address.ensures) (item-begins c.args.listed.now _ s.place s.inside s.shown)
-
-pub split_at-requires-2 : goal.split_at-requires-2
-split_at-requires-2 g c =
-    let s = c.requires in
-    let len : c.group_len-len.result ≡ group_len c.args.listed.now (c.args.listed.now.image.start + c.args.index) = c.group_len-len.ensures.len ∙ ap (λ (m : MapView). group_len m c.address-address.result) c.map-map.ensures.map ∙ ap (group_len c.args.listed.now) c.address-address.ensures in
-    let fits = group-fits c.args.listed.now _ s.place s.inside s.shown in
-    let count = ap length c.bytes.ensures.bytes in
-    let rest = ap length c.split_at.ensures.back ∙ length-drop c.args.index c.bytes.result.now in
-    omega (arith, fits, count, rest, len)
 
 pub returns-clause-group : goal.returns-clause-group
 returns-clause-group g c =
