@@ -34,11 +34,7 @@ below-label : (m : Names) (at n v : ℕ) → 0 < n → (forwards_to m at (at + 1
 below-label m at n v some = let k : at + 1 + (n - 1) ≡ at + n = omega arith in rw k (grind (arith, nat_tests))
 
 without-label : (m : Names) (at n v : ℕ) → 0 < n → is_base m at ≡ false → is_base m v ≡ true → forwards_to m at (at + 1 + (n - 1)) v ≡ names_to m (at + n) v
-without-label m at n v some none base = let k : at + 1 + (n - 1) ≡ at + n = omega arith in rw k (go (eqb at v) refl)
-  where
-    go : (t : Bool) → eqb at v ≡ t → forwards_to m at (at + n) v ≡ names_to m (at + n) v
-    go true e = let here : is_base m at ≡ true = rw (eqb-true at v e) base in absurd cc
-    go false e = grind (arith, nat_tests)
+without-label m at n v some none base = grind (arith, forwards_to, names_to, eqb-true, nat_tests)
 
 -- ---- one group
 

@@ -38,13 +38,7 @@ knows_same m p q ds k h = record { found = λ v b. k.found v b ∙ ap (λ (t : B
 -- one more base, that was not known
 pub knows_more : (image : ImageView) (m : Names) (p : ℕ → Bool) (ds : List Definition) (u : ℕ) → AreSound image m → Knows m p ds → is_base m u ≡ true → p u ≡ false
     → Knows m (λ v. p v || eqb u v) (ds ++ definition_of m u ∷ [])
-knows_more image m p ds u names k hu new = record {
-  found = λ v hv.
-      filter-append (λ (d : Definition). bytes_eq d.name (base_name m v)) ds (definition_of m u ∷ [])
-      ∙ ap (λ (xs : List Definition). xs ++ definitions_of (base_name m v) (definition_of m u ∷ [])) (k.found v hv)
-      ∙ ap (λ (t : Bool). cond (p v) (definition_of m v ∷ []) [] ++ cond t (definition_of m u ∷ []) []) (name-test image m u v names hu hv)
-      ∙ joined v (p v) (eqb u v) refl refl;
-}
+knows_more image m p ds u names k hu new = grind (arith, filter-append, name-test)
   where
     joined : (v : ℕ) (s t : Bool) → p v ≡ s → eqb u v ≡ t → cond s (definition_of m v ∷ []) [] ++ cond t (definition_of m u ∷ []) [] ≡ cond (s || t) (definition_of m v ∷ []) []
     joined v true true known e = let here : p u ≡ true = ap p (eqb-true u v e) ∙ known in absurd cc

@@ -32,26 +32,10 @@ apart k v e = grind (arith, nat_tests)
 
 -- one more: it is k, or it is below
 constants_step : (m : Names) (k v : ℕ) → m.has_constant k ≡ true → (constants_to m k v || eqb k v) ≡ constants_to m (k + 1) v
-constants_step m k v h = go (eqb k v) refl
-  where
-    go : (t : Bool) → eqb k v ≡ t → (constants_to m k v || eqb k v) ≡ constants_to m (k + 1) v
-    go true e =
-        let same : k ≡ v = eqb-true k v e in
-        let h' : m.has_constant v ≡ true = rw (← same) h in
-        rw (e, h', ← same, lt-ltb k (k + 1) (omega arith), le-ltb k k (omega arith)) refl
-    go false e = rw (e, ← apart k v e) (or-false (constants_to m k v))
+constants_step m k v h = grind (arith, eqb-true, lt-ltb, le-ltb, apart, or-false)
 
 constants_skip : (m : Names) (k v : ℕ) → has_constant_line m k ≡ false → is_base m v ≡ true → constants_to m k v ≡ constants_to m (k + 1) v
-constants_skip m k v h b = go (eqb k v) refl
-  where
-    go : (t : Bool) → eqb k v ≡ t → constants_to m k v ≡ constants_to m (k + 1) v
-    go true e =
-        let same : k ≡ v = eqb-true k v e in
-        let base : is_base m k ≡ true = rw same b in
-        let out : m.has_constant k ≡ false = rw base at h in
-        let out' : m.has_constant v ≡ false = rw (← same) out in
-        rw out' refl
-    go false e = ap (λ (t : Bool). m.has_constant v && t) (apart k v e)
+constants_skip m k v h b = grind (arith, eqb-true, apart)
 
 -- ---- forward lines
 

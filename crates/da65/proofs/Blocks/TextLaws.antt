@@ -60,11 +60,7 @@ empty_print t (l ∷ ls) h = each_append (CanPrint t) (l ∷ ls) (plain view.bla
 labelled_print : (t : Style) (label : Option (List ℕ)) (s : StatementView) (a : ℕ) (bytes : List ℕ) → TakesLabel s → StatementPrints s → IfSome label IsNameText
     → Each (CanPrint t) (labelled t.columns label s a bytes)
 labelled_print t None s a bytes takes h is = (record { statement = h; room = tt; label = tt }, tt)
-labelled_print t (Some name) s a bytes takes h is = go (fits_label t.columns name) refl
-  where
-    go : (fits : Bool) → fits_label t.columns name ≡ fits → Each (CanPrint t) (cond fits (group_line (Some name) s a bytes ∷ []) (plain (view.label name) ∷ group_line None s a bytes ∷ []))
-    go true e = (record { statement = h; room = (takes, is.long, e); label = is.name }, tt)
-    go false e = (plain_prints t (view.label name) (record { printable = is.long; width = tt; names = is.name }), (record { statement = h; room = tt; label = tt }, tt))
+labelled_print t (Some name) s a bytes takes h is = grind (arith, plain_prints)
 
 module _ (m : MapView) (placed : IsPlaced m.image) (are : AreBytes m.image.bytes) (names : given.AreNames m.info.names) (segments : AreSegments m.info.segments) where
   abbrev style : Style

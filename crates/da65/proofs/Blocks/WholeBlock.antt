@@ -23,10 +23,7 @@ no-constants m v = rw (le-ltb v 0 (omega arith)) (sym (and-false (m.has_constant
 
 -- below all constants those of the addresses before the image are known, since all bases there are constants
 all-constants : (image : ImageView) (m : Names) (v n : ℕ) → AreSound image m → is_base m v ≡ true → v < n → constants_to m n v ≡ names_to m image.start v
-all-constants image m v n names base h = rw (names.constants v base) (below-all h)
-  where
-    below-all : v < n → (not (nat_le image.start v && nat_lt v (end_of image)) && nat_lt v n) ≡ (not (nat_le image.start v && nat_lt v (end_of image)) || nat_lt v image.start)
-    below-all h = grind (arith, nat_tests)
+all-constants image m v n names base h = grind (arith, nat_tests)
 
 all-names : (image : ImageView) (m : Names) (v : ℕ) → AreSound image m → is_base m v ≡ true → names_to m (end_of image) v ≡ true
 all-names image m v names base = rw (names.constants v base) (grind (arith, nat_tests))

@@ -16,11 +16,7 @@ pub record Defined (m : MapView) (a : ℕ) : Type 0 where
   pub own : base.address ≡ a
 
 pub defined-base : (m : MapView) (a : ℕ) → is_defined m a ≡ true → Defined m a
-defined-base m a h = go (base_at m a) refl h
-  where
-    go : (o : Option Base) → base_at m a ≡ o → is_own a o ≡ true → Defined m a
-    go None e h = absurd cc
-    go (Some b) e h = record { base = b; is = e; own = eqb-true b.address a h }
+defined-base m a h = grind (arith, eqb-true)
 
 -- a table: each item of the role has the same size, but a leftover byte
 pub record IsTable (m : MapView) (r : RangeType) : Type 0 where

@@ -32,18 +32,7 @@ group-long m k fits = grind (arith, length-take-le, length-drop)
 whole-size : (count : ℕ) (o : Option Op) → ((count ≡ code_size o) ⊎ (count ≡ 1)) → code_size (whole_in count o) ≡ count
 whole-size count None (inl e) = sym e
 whole-size count None (inr e) = sym e
-whole-size count (Some op) h =
-    cond_both (nat_le (len_of op.mode) count) (Some op) None (λ (o : Option Op). code_size o ≡ count)
-    (λ fits. is-len (leb-true (len_of op.mode) count fits) h)
-    (λ cut. is-one (leb-false (len_of op.mode) count cut) h)
-  where
-    is-len : len_of op.mode ≤ count → ((count ≡ len_of op.mode) ⊎ (count ≡ 1)) → len_of op.mode ≡ count
-    is-len fits (inl e) = sym e
-    is-len fits (inr e) = omega (arith, fits, e, len-positive op.mode)
-
-    is-one : count < len_of op.mode → ((count ≡ len_of op.mode) ⊎ (count ≡ 1)) → 1 ≡ count
-    is-one cut (inl e) = omega (arith, cut, e)
-    is-one cut (inr e) = sym e
+whole-size count (Some op) h = grind (arith, cond_both, leb-true, leb-false, len-positive)
 
 -- an instruction that has all of its bytes, or one byte
 instruction-size : (t : Table) (bytes : List ℕ) → 0 < length bytes → ((length bytes ≡ code_size (decoded t (slice_index bytes 0))) ⊎ (length bytes ≡ 1)) → code_size (instruction_in t bytes) ≡ length bytes

@@ -1,5 +1,5 @@
 -- Where `a:` stands, an assembler would take another mode without it.
-use Rattle.std.proofs.Common.{◌≡◌, ℕ, ◌+◌, Bool, true, false, cond, List, ◌∷◌, Option, Some, None, refl, sym, ap, subst, ◌∙◌}
+use Rattle.std.proofs.Common.{arith, ◌≡◌, ℕ, ◌+◌, Bool, true, false, cond, List, ◌∷◌, Option, Some, None, refl, sym, ap, subst, ◌∙◌}
 use Rattle.std.specs.Prelude.{IsSome, is_some, nat_lt, option_and_then}
 use Rattle.std.proofs.lemmas.Bool.{and_parts, false_from_ne_true}
 use Rattle.isa65.specs.Words.{Table, encoded, encoded-decoded, len_of, row_of, row_text, sibling_in, table_of, table_of-sound, written, zero_page_of}
@@ -15,11 +15,7 @@ use Rattle.da65.proofs.Instructions.ValueLaws.{zero_page_small}
 -- of an address with a known size both expressions are one
 one-expr : (m : Names) (a : ℕ) → HasKnownSize m a → zero_page_expr m a ≡ address_expr m a
 unfolding zero_page_expr address_expr
-one-expr m a h = ap (expr_from a) (go (m.base_at a) h)
-  where
-    go : (o : Option Base) → ((b : Base) → o ≡ Some b → m.has_constant b.address ≡ true) → constant_base m o ≡ o
-    go None h = refl
-    go (Some b) h = rw (h b refl) refl
+one-expr m a h = grind arith
 
 -- the zero-page mode that an instruction has too
 record HasSibling (t : Table) (op : Op) : Type 0 where
@@ -28,15 +24,7 @@ record HasSibling (t : Table) (op : Op) : Type 0 where
   has : IsSome (encoded t op.mnemonic mode)
 
 has_sibling : (t : Table) (op : Op) → is_some (sibling_in t op) ≡ true → HasSibling t op
-has_sibling t op h = go (zero_page_of op.mode) refl h
-  where
-    found : (z : Mode) → zero_page_of op.mode ≡ Some z → (o : Option ℕ) → encoded t op.mnemonic z ≡ o → is_some (cond (is_some o) (Some z) None) ≡ true → HasSibling t op
-    found z e (Some c) f h = record { mode = z; is = e; has = ap is_some f }
-    found z e None f h = absurd cc
-
-    go : (o : Option Mode) → zero_page_of op.mode ≡ o → is_some (option_and_then (λ x. cond (is_some (encoded t op.mnemonic x)) (Some x) None) o) ≡ true → HasSibling t op
-    go None e h = absurd cc
-    go (Some z) e h = found z e (encoded t op.mnemonic z) refl h
+has_sibling t op h = grind arith
 
 -- an opcode is that of one mode
 one_mode : (cpu : Cpu) (op : Op) (y : Mode) (b c : ℕ) → encoded (table_of cpu) op.mnemonic op.mode ≡ Some b → encoded (table_of cpu) op.mnemonic y ≡ Some c → b ≡ c → y ≡ op.mode

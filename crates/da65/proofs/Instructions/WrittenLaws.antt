@@ -34,17 +34,8 @@ pub of_each : (P : OperandKind → ℕ → ExprView → Type 0) (n : Names) (nex
     → (r : Row) → row_len r ≤ length bytes → IfSome (row_operands n r next bytes) (AreAll P r)
 of_each P n next bytes each row.Implied long = tt
 of_each P n next bytes each row.Accumulator long = tt
-of_each P n next bytes each (row.One p k) long = go (operand_expr n k next 1 bytes) (each k 1 long)
-  where
-    go : (o : Option ExprView) → IfSome o (P k 1) → IfSome (option_map (λ e. view.one e) o) (AreAll P (row.One p k))
-    go None h = tt
-    go (Some e) h = h
-of_each P n next bytes each (row.Two k l) long = go (operand_expr n k next 1 bytes) (operand_expr n l next (1 + size_of k) bytes) (each k 1 (omega (arith, long))) (each l (1 + size_of k) long)
-  where
-    go : (o u : Option ExprView) → IfSome o (P k 1) → IfSome u (P l (1 + size_of k)) → IfSome (both o u) (AreAll P (row.Two k l))
-    go None u h g = tt
-    go (Some e) None h g = tt
-    go (Some e) (Some f) h g = (h, g)
+of_each P n next bytes each (row.One p k) long = grind arith
+of_each P n next bytes each (row.Two k l) long = grind arith
 
 -- ---- `a:` where it is needed
 
@@ -54,8 +45,4 @@ needs cpu m mode bytes = is_forced (table_of cpu) (record { mnemonic = m; mode =
 
 -- `a:` stands only in a mode with a zero-page mode that is written alike
 pub may_be_forced : (t : Table) (m : Mnemonic) (mode : Mode) (bytes : List ℕ) → MayBeForced mode (is_forced t (record { mnemonic = m; mode = mode }) bytes)
-may_be_forced t m mode bytes h = go (zero_page_of mode) (and_parts (is_some (sibling_in t (record { mnemonic = m; mode = mode }))) (nat_lt (word_of bytes) 256) h).0
-  where
-    go : (o : Option Mode) → is_some (option_and_then (λ x. cond (is_some (encoded t m x)) (Some x) None) o) ≡ true → is_some o ≡ true
-    go None e = e
-    go (Some x) e = refl
+may_be_forced t m mode bytes h = grind (arith, and_parts)

@@ -85,12 +85,7 @@ put_long m a true items are base is = subst IsNameLong (sym is) (own-long m a (k
 -- ---- where bases are constant
 
 constant-in : (r : RangeType) (len : ℕ) → is_constant (place_in (Some r) len) ≡ is_skip r
-constant-in r len = go (is_skip r) (len == 0)
-  where
-    go : (s none : Bool) → is_constant (if s then place.Constant else (if none then place.Forward else place.Label)) ≡ s
-    go true none = refl
-    go false true = refl
-    go false false = refl
+constant-in r len = grind arith
 
 pub constant_some : (m : MapView) (a : ℕ) (r : RangeType) → role_at m a ≡ Some r → is_constant (place_of m a) ≡ is_skip r
 unfolding place_of
@@ -112,19 +107,11 @@ expr_number m a is = rw (unnamed m a is) refl
 
 zero-by : (m : MapView) (a n : ℕ) (o : Option Base) → constant_offset (option_map (kind_by m a) o) ≡ Some n → expr_from a (constant_base (names_of m) o) ≡ view.name (text_by o) n
 zero-by m a n None is = absurd cc
-zero-by m a n (Some b) is = go (is_constant (place_of m b.address)) is
-  where
-    go : (t : Bool) → (if t then Some (a - b.address) else None) ≡ Some n → expr_from a (if t then Some b else None) ≡ view.name b.text n
-    go true e = let same : a - b.address ≡ n = cc in ap (view.name b.text) same
-    go false e = absurd cc
+zero-by m a n (Some b) is = grind arith
 
 zero-none : (m : MapView) (a : ℕ) (o : Option Base) → constant_offset (option_map (kind_by m a) o) ≡ None → expr_from a (constant_base (names_of m) o) ≡ view.number a
 zero-none m a None is = refl
-zero-none m a (Some b) is = go (is_constant (place_of m b.address)) is
-  where
-    go : (t : Bool) → (if t then Some (a - b.address) else None) ≡ None → expr_from a (if t then Some b else None) ≡ view.number a
-    go true e = absurd cc
-    go false e = refl
+zero-none m a (Some b) is = grind arith
 
 pub zero_named : (m : MapView) (a n : ℕ) → constant_offset (kind_at m a) ≡ Some n → zero_page_expr (names_of m) a ≡ view.name (text_at m a) n
 unfolding zero_page_expr kind_at text_at

@@ -57,15 +57,7 @@ entry_start-text m a are = go (covering m.info.names (entry_start m a)) refl
 -- what holds of the base of a name that is given, and of an entry that is referred to, holds of the base of each address
 pub base-cases : (m : MapView) (a : ℕ) (b : Base) (P : Base → Type 0) → ((v : NameView) → covering m.info.names a ≡ Some v → P (given_base v)) → (is_referenced m a ≡ true → P (entry_base m a)) → base_at m a ≡ Some b → P b
 unfolding base_at
-base-cases m a b P of_given of_entry e = go (covering m.info.names a) refl (is_referenced m a) refl e
-  where
-    same : (x : Base) → Some x ≡ Some b → P x → P b
-    same x e h = let is : x ≡ b = cc in subst P is h
-
-    go : (o : Option NameView) → covering m.info.names a ≡ o → (w : Bool) → is_referenced m a ≡ w → base_by o w (entry_base m a) ≡ Some b → P b
-    go (Some v) f w g e = same (given_base v) e (of_given v f)
-    go None f true g e = same (entry_base m a) e (of_entry g)
-    go None f false g e = absurd cc
+base-cases m a b P of_given of_entry e = grind arith
 
 pub base-text : (m : MapView) (a : ℕ) (b : Base) → AreNames m.info.names → base_at m a ≡ Some b → IsNameText b.text
 base-text m a b are e = base-cases m a b (λ b. IsNameText b.text) (λ v f. covering-text m.info.names a v are f) (λ _. entry_start-text m a are) e

@@ -38,11 +38,7 @@ heading-comment m a n i is low = let at : n ≡ suc (suc i) = omega (arith, is) 
 
 pub heading-forward : (m : MapView) (a n v : ℕ) → n + a ≡ 1 + group_len m a + v → a < v → heading_lines m a n ≡ forward_lines (names_of m) a v
 unfolding heading_lines
-heading-forward m a n v is after =
-    let i : ℕ = n - 2 in
-    let at : n ≡ suc (suc i) = omega (arith, is, after) in
-    let here : a + (i - group_len m a + 1) ≡ v = omega (arith, is, after) in
-    rw at (cond-false (nat_lt i (group_len m a)) _ _ (grind (arith, nat_tests)) ∙ ap (forward_lines (names_of m) a) here)
+heading-forward m a n v is after = grind (arith, cond-false, nat_tests)
 
 headings : (m : MapView) (a : ℕ) → 1 ≤ group_len m a
     → headings_from m a 0 ≡ separator_lines m a ++ (segment_lines m a ++ (comments m (group_len m a) a ++ (forwards (names_of m) a (group_len m a - 1) (a + 1) ++ [])))

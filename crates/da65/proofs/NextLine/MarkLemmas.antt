@@ -37,16 +37,8 @@ unmarked m none = grind (arith, or_parts, eqb-true, not-false, nil_from_length, 
 -- an address without a name has no comment
 pub unnamed-comment : (m : MapView) (a : ℕ) → has_name m a ≡ false → comment_at m a ≡ None
 unfolding comment_at
-unnamed-comment m a none = go (covering m.info.names a) refl
-  where
-    go : (o : Option NameView) → covering m.info.names a ≡ o → comment_by a o ≡ None
-    go None e = refl
-    go (Some n) e = let wrong : ◌≡◌ {A = Option Base} (Some (given_base n)) None = sym (base-covered m a n e) ∙ base-none m a none in absurd cc
+unnamed-comment m a none = grind (arith, base-covered, base-none)
 
 -- a name that is looked at has a comment where the name that was given has one
 pub comment-shown : (given : Given) (n : NameView) → given_seen given ≡ n → has_comment n ≡ is_some given.comment
-comment-shown given n same = sym (ap has_comment same) ∙ go given.comment
-  where
-    go : (o : Option (Bor (List ℕ))) → is_some (option_map (λ c. c.now) o) ≡ is_some o
-    go None = refl
-    go (Some c) = refl
+comment-shown given n same = grind arith

@@ -26,12 +26,4 @@ long_as j i files k same are low = omega (arith, low, ap (λ (xs : List IncludeV
 -- an include file adds names alone
 pub file_rest : (fs : List FileView) (k : ℕ) (x : IncludeView) (i j : InfoView) → with_file fs k x i ≡ Ok j → (names : List NameView) → with_names j names ≡ with_names i names
 unfolding included
-file_rest fs k x i j e names = by_file (file_named fs x.file) e
-  where
-    by_read : (r : Result (List NameView) InfoFault) → or_message (include_message x.file) (r >>= λ added. Ok (with_names i added)) ≡ Ok j → with_names j names ≡ with_names i names
-    by_read (Ok added) h = let s : with_names i added ≡ j = cc in ap (λ (y : InfoView). with_names y names) (sym s)
-    by_read (Err fault) h = absurd cc
-
-    by_file : (b : Option (List ℕ)) → with_include k x.file i b ≡ Ok j → with_names j names ≡ with_names i names
-    by_file (Some bytes) h = by_read (names_included (get_or i.includes k blank_include) i.names bytes) h
-    by_file None h = absurd cc
+file_rest fs k x i j e names = grind arith

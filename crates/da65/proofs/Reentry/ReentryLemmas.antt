@@ -41,13 +41,7 @@ pub record IsNameKey (segments : List SegmentView) (n : List ℕ) (key : Option 
 
 -- a name is this one exactly if its key is that of this one
 name-tells : (segments : List SegmentView) (n t : List ℕ) (key : Option ℕ) → AreSegments segments → IsNameKey segments n key → bytes_eq n t ≡ of_name segments (is_same_key key) t
-name-tells segments n t key are name = go key (first_named segments t) name refl
-  where
-    go : (key o : Option ℕ) → IsNameKey segments n key → first_named segments t ≡ o → bytes_eq n t ≡ by_key (is_same_key key) o t
-    go None None name is = ap (λ (u : List ℕ). bytes_eq u t) (name.code refl)
-    go None (Some k) name is = key-apart segments n t None (Some k) name.is is (λ e. absurd cc)
-    go (Some j) None name is = key-apart segments n t (Some j) None name.is is (λ e. absurd cc)
-    go (Some j) (Some k) name is = sym (key-tells segments n t j k are name.is is)
+name-tells segments n t key are name = grind (arith, key-apart, key-tells)
 
 -- one name more, by its key
 added-by-key : (segments : List SegmentView) (test more : Option ℕ → Bool) (n t : List ℕ) (key : Option ℕ) → AreSegments segments → IsNameKey segments n key → ((k : Option ℕ) → more k ≡ (is_same_key key k || test k))
@@ -59,11 +53,7 @@ added-by-key segments test more n t key are name after = joined (first_named seg
     joined None = ap (λ (b : Bool). b && bytes_eq (codes "CODE") t) (after None) ∙ and-or_distrib_right (is_same_key key None) (test None) (bytes_eq (codes "CODE") t)
 
 none-asked : (segments : List SegmentView) (test : Option ℕ → Bool) (t : List ℕ) → ((k : Option ℕ) → test k ≡ false) → of_name segments test t ≡ false
-none-asked segments test t none = none_by (first_named segments t)
-  where
-    none_by : (o : Option ℕ) → by_key test o t ≡ false
-    none_by (Some k) = none (Some k)
-    none_by None = ap (λ (b : Bool). b && bytes_eq (codes "CODE") t) (none None)
+none-asked segments test t none = grind arith
 
 -- the key of an address is that of its segment
 keyed-by : (segments : List SegmentView) (s : Option (List ℕ)) (k : Option ℕ) → (s ≡ None → k ≡ None) → ((n : List ℕ) → s ≡ Some n → (k ≡ first_named segments n) × (is_some (first_named segments n) ≡ true)) → IsKeyed segments s k
@@ -126,14 +116,7 @@ unfolding is_entered_again
 known-first m e new = grind (arith, none-asked, groups-first, segment-first)
 
 pub known-skip : (m : MapView) (k : ℕ) (e : Entered) → IsGroupPlace m k → k < length m.image.bytes → is_skip (role_of m.info (m.image.start + k)) ≡ true → IsKnownFrom m k e → IsKnownFrom m (k + 1) e
-known-skip m k e place low skip known =
-    let same = segment-skip m k low skip in
-    record {
-      keyed = subst (λ (s : Option (List ℕ)). IsKeyed m.info.segments s e.last) (sym same) known.keyed;
-      had = known.had;
-      same = known.same;
-      rest = ap₂ (λ (s : Option (List ℕ)) (gs : List ℕ). enters_again s known.had (map (segment_at m) gs)) same (sym (groups-skip m k place low skip)) ∙ known.rest;
-    }
+known-skip m k e place low skip known = grind (arith, segment-skip, groups-skip)
 
 -- the group that begins with the k-th byte leads back, or those after it decide
 known-here : (m : MapView) (k : ℕ) (e : Entered) (segment name : Option ℕ) → IsGroupStart m k → HasKeys m k segment name → (known : IsKnownFrom m k e)
@@ -175,10 +158,7 @@ keyed-after m k a e segment start here known run first =
 
 enters-default : (m : MapView) (gs : List ℕ) (had : List (List ℕ)) → m.info.segments ≡ [] → enters_again None had (map (segment_at m) gs) ≡ false
 enters-default m [] had none = enters-none None had
-enters-default m (a ∷ gs) had none =
-    ap (λ (s : Option (List ℕ)). enters_again None had (s ∷ map (segment_at m) gs)) (bare-segment m a none)
-    ∙ enters-step None None had (map (segment_at m) gs)
-    ∙ enters-default m gs (segment_name None ∷ had) none
+enters-default m (a ∷ gs) had none = grind (arith, (enters-default m gs (segment_name None ∷ had) none), bare-segment, enters-step)
 
 -- no segment is seen if there is none
 pub none-seen : {Z : Type 0} (m : MapView) (i : InfoView) (specs : List (SegmentSpec Z)) → m.info ≡ i → map segment_seen specs ≡ i.segments → specs ≡ [] → m.info.segments ≡ []

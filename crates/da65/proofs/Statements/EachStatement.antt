@@ -34,45 +34,23 @@ pub record OfTable (m : Names) (bytes : List ℕ) (P : StatementView → List �
 
 pub of_item : (m : Names) (t : Table) (a : ℕ) (bytes : List ℕ) (P : StatementView → List ℕ → Type 0) → OfCode m t a bytes P → P (statement_in m t a bytes) (item_in t bytes)
 unfolding statement_in
-of_item m t a bytes P h = go (instruction_in t bytes) refl
-  where
-    written_as : (op : Op) → instruction_in t bytes ≡ Some op → (o : Option OperandsView) → operands_of m op.mode a bytes ≡ o → P (written t op bytes o) (take (len_of op.mode) bytes)
-    written_as op e None f = h.front (len_of op.mode) (len-positive op.mode) (omega (arith, len-small op.mode)) (λ _. (begins_with t bytes op e).long)
-    written_as op e (Some os) f = h.instruction op os e f
-
-    go : (o : Option Op) → instruction_in t bytes ≡ o → P (statement_of m t a bytes o) (take (code_size o) bytes)
-    go None e = h.front 1 (omega arith) (omega arith) (λ some. omega (arith, some))
-    go (Some op) e = written_as op e (operands_of m op.mode a bytes) refl
+of_item m t a bytes P h = grind (arith, len-positive, len-small, begins_with)
 
 module _ (m : Names) (t : Table) (a : ℕ) (bytes : List ℕ) (P : StatementView → List ℕ → Type 0) (code : OfCode m t a bytes P) (table : OfTable m bytes P) where
   -- entries, or the leftover byte
   either : (unit : ℕ) (entries : StatementView) → unit ≤ 8 → (unit ≤ length bytes → P entries bytes) → P (entries_or_byte unit entries bytes) bytes
-  either unit entries small many =
-      cond_both (nat_lt (length bytes) unit) (view.bytes bytes) entries (λ s. P s bytes)
-      (λ one. table.plain (omega (arith, small, ltb-true (length bytes) unit one)))
-      (λ more. many (ltb-false (length bytes) unit more))
+  either unit entries small many = grind (arith, cond_both, ltb-true, ltb-false)
 
   word : length bytes ≡ 2 → P (view.numbers Word bytes) bytes
   word two = table.numbers Word (omega (arith, two), (omega (arith, two), omega (arith, two)))
 
   address : length bytes ≡ 2 → P (address_entry m bytes) bytes
   unfolding address_entry
-  address two = go (m.base_at (entry_of bytes)) refl
-    where
-      go : (o : Option Base) → m.base_at (entry_of bytes) ≡ o → P (entry_by (λ t. view.addr t) bytes (option_map (target_by (entry_of bytes)) o)) bytes
-      go None e = word two
-      go (Some b) e = table.address b two e
+  address two = grind (arith, word)
 
   return : length bytes ≡ 2 → P (return_entry m bytes) bytes
   unfolding return_entry
-  return two =
-      cond_both (entry_of bytes == 65535) None (Some (entry_of bytes + 1)) (λ o. P (rts_to m bytes o) bytes)
-      (λ is. table.nowhere two (eqb-true (entry_of bytes) 65535 is))
-      (λ other. go (eqb-false (entry_of bytes) 65535 other) (m.base_at (entry_of bytes + 1)) refl)
-    where
-      go : (entry_of bytes ≡ 65535 → ⊥) → (o : Option Base) → m.base_at (entry_of bytes + 1) ≡ o → P (entry_by (λ t. view.rts (Some t)) bytes (option_map (target_by (entry_of bytes + 1)) o)) bytes
-      go other None e = word two
-      go other (Some b) e = table.return b two other e
+  return two = grind (arith, cond_both, eqb-true, eqb-false, word)
 
   line : (unit per_line : ℕ) (e : Entry) → IsEntry unit per_line e → IsLineOf t unit per_line e bytes → P (statement_by m t unit e a bytes) bytes
   line unit per_line Instruction is of =

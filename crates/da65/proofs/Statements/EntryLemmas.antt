@@ -15,11 +15,7 @@ pub record IsEntryOf (unit : ℕ) (d : Directive) : Type 0 where
 
 pub directive_is : (unit : ℕ) (order : ByteOrder) → IsNumber unit order → (unit == 1) ≡ false → IsEntryOf unit (directive_of unit order)
 directive_is unit order (inl one) other = absurd (eqb-false unit 1 other one)
-directive_is unit order (inr (inl two)) other = record { len = len order; wide = omega (arith, two) }
-  where
-    len : (order : ByteOrder) → entry_len (directive_of unit order) ≡ unit
-    len LittleEndian = rw two refl
-    len BigEndian = sym two
+directive_is unit order (inr (inl two)) other = grind arith
 directive_is unit order (inr (inr four)) other = record { len = rw (four.0, four.1) refl; wide = omega (arith, four.0) }
 
 -- whole entries are a table of their directive

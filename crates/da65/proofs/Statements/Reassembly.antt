@@ -37,16 +37,7 @@ written_is_instruction m t a bytes op os h = rw (h.begins, h.has) refl
 
 pub unwritten_is_bytes : UnwrittenIsBytes
 unfolding statement_in
-unwritten_is_bytes m t a bytes are none = go (instruction_in t bytes) refl
-  where
-    with_operands : (op : Op) → instruction_in t bytes ≡ Some op → (o : Option OperandsView) → operands_of m op.mode a bytes ≡ o
-        → written t op bytes o ≡ view.bytes (take (len_of op.mode) bytes)
-    with_operands op e None f = refl
-    with_operands op e (Some os) f = absurd (none op os (record { are_bytes = are; begins = e; has = f }))
-
-    go : (o : Option Op) → instruction_in t bytes ≡ o → statement_of m t a bytes o ≡ view.bytes (take (code_size o) bytes)
-    go None e = refl
-    go (Some op) e = with_operands op e (operands_of m op.mode a bytes) refl
+unwritten_is_bytes m t a bytes are none = grind arith
 
 pub target_is_in_range : TargetIsInRange
 target_is_in_range next b target room h e = let is = target_is next b target room h e in (is.room, (is.near, is.back))
