@@ -1,6 +1,7 @@
-"""Clauses, proofs and the crates above import the definitions of a crate from its `specs/Words`, and the files of its `specs/` its types from
-`specs/Types`, if the crate has these files. What these hand on is imported by somebody. A `ghost use` in a block of code names the module
-itself, since the types of the code stand below `Words`; so does who imports a type of another crate, which can't be handed on to it."""
+"""Clauses, proofs and the crates above import the definitions of a crate from its `specs/Words`, and the files of its `specs/` import its
+types from `specs/Types`, if the crate has these files. Somebody imports each name that they hand on. A `ghost use` within a block of code may
+name the module itself: that of a view must, since `Words` stands above the types of the code. A type of another crate is imported from where
+it is declared."""
 
 import re
 
