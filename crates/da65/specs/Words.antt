@@ -1,5 +1,5 @@
 -- The words of clauses and proofs, here and in the crates above, from one place.
-pub use Rattle.da65.specs.Types.{Address, BigEndian, ByteOrder, Character, Constant, Cpu, Directive, Ending, Entered, Header, InfoFault, Instruction, ListingPlace, LittleEndian, Messages, Mode, NameKind, Number, Op, OperandKind, Place, RangeSpec, RangeType, Return, Row, RunFault, Skipped, Status, Stop, Style, Write}
+pub use Rattle.da65.specs.Types.{Address, ByteOrder, Character, Constant, Cpu, Directive, Ending, Entered, Header, InfoFault, Instruction, ListingPlace, LittleEndian, Messages, Mode, NameKind, Number, Op, OperandKind, Place, RangeSpec, RangeType, Return, Row, RunFault, Skipped, Status, Stop, Style, Write}
 pub use Rattle.da65.specs.BaseNames.{AreSound, IsBaseOf, Names, base_name, is_base, is_constant, is_own, names_of}
 pub use Rattle.da65.specs.Choices.{app, this_program}
 pub use Rattle.da65.specs.Code.Bases.{constant_offset, is_own_name, target_at}
@@ -7,7 +7,7 @@ unfoldable pub use Rattle.da65.specs.Code.KeySet.{has_bit}
 pub use Rattle.da65.specs.Code.Layout.{IsLayout}
 pub use Rattle.da65.specs.Code.ListedGroups.{AreOperandsIn, HasNoneBefore, IsGroupIn, IsGroupLine, IsGroupNext, IsHeading, IsInstructionIn, IsNextFrom, IsSegmentLine, IsUnnamed, labelled_group, operands_at}
 pub use Rattle.da65.specs.Code.NamedCells.{is_unnamed, unnamed_len}
-pub use Rattle.da65.specs.Code.Preparing.{Adds, IsNameAt, NamesAll, Prepares, PreparesBy, PreparesWith, Stops, StopsFor, listed_by}
+pub use Rattle.da65.specs.Code.Preparing.{AddsNames, IsNameAt, NamesAll, Prepares, PreparesBy, PreparesWith, Stops, StopsFor, listed_by}
 pub use Rattle.da65.specs.Code.Refusals.{RefusesOrGivesUp, Tells}
 pub use Rattle.da65.specs.Code.SegmentReentry.{HasHadToo, IsAfter, IsKeyed, IsKeyedAt, IsKnownFrom, IsNew, by_key, has_had, is_back, is_same_key, of_name}
 pub use Rattle.da65.specs.Comments.{comment_by}
@@ -36,7 +36,7 @@ unfoldable pub use Rattle.da65.specs.SegmentReentry.{enters_again, is_entered_ag
 pub use Rattle.da65.specs.Segments.{is_same_segment, segment_statement}
 unfoldable pub use Rattle.da65.specs.Segments.{segment_before}
 pub use Rattle.da65.specs.Shapes.{AreEntries, IsGroupOf}
-pub use Rattle.da65.specs.Statements.{both, bytes_statement, constant_base, directive_of, entries_or_byte, entry_by, expr_from, is_forced, numbers, operand_expr, row_operands, rts_to, statement_at, statement_by, statement_of, target_by, written}
+pub use Rattle.da65.specs.Statements.{bytes_statement, constant_base, directive_of, entries_or_byte, expr_from, is_forced, numbers, operand_expr, row_operands, statement_at, statement_by, statement_of, target_by, written}
 unfoldable pub use Rattle.da65.specs.Statements.{address_entry, address_expr, operands_of, return_entry, statement_for, statement_in, zero_page_expr}
 pub use Rattle.da65.specs.Style.{columns_of}
 unfoldable pub use Rattle.da65.specs.Style.{style_of}

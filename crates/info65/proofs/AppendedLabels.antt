@@ -1,6 +1,6 @@
 -- Groups LABEL with default names after those of a file: both are accepted, and say what the file says, with the names of those groups besides.
 use Rattle.std.proofs.Common.{◌≡◌, ◌≢◌, ◌∙◌, ◌+◌, ◌/◌, ◌%◌, ◌<◌, ◌≤◌, ℕ, Bool, true, false, List, [], ◌∷◌, ◌++◌, append_assoc, ap, arith, get_or, length, map, refl, sym, subst}
-use Rattle.std.specs.Prelude.{All, None, Ok, IsOk, slice_index}
+use Rattle.std.specs.Prelude.{All, None, Ok, IsOk}
 use Rattle.std.specs.List.{Contains, flat_map}
 use Rattle.std.proofs.lemmas.Bool.{le-leb}
 use Rattle.std.proofs.lemmas.Bool.Decides.{nat_tests}
@@ -62,12 +62,7 @@ same-digit x y x_low y_low same = grind (arith, nat_tests)
 -- two addresses with one default name are one
 same-default : (a b : ℕ) → a ≤ 0xFFFF → b ≤ 0xFFFF → default_name a ≡ default_name b → a ≡ b
 unfolding default_name
-same-default a b a_low b_low same =
-    let one = same-digit (a / 4096 % 16) (b / 4096 % 16) (omega arith) (omega arith) (ap (λ (l : List ℕ). slice_index l 1) same) in
-    let two = same-digit (a / 256 % 16) (b / 256 % 16) (omega arith) (omega arith) (ap (λ (l : List ℕ). slice_index l 2) same) in
-    let three = same-digit (a / 16 % 16) (b / 16 % 16) (omega arith) (omega arith) (ap (λ (l : List ℕ). slice_index l 3) same) in
-    let four = same-digit (a % 16) (b % 16) (omega arith) (omega arith) (ap (λ (l : List ℕ). slice_index l 4) same) in
-    omega (arith, a_low, b_low, one, two, three, four)
+same-default a b a_low b_low same = grind (arith, same-digit)
 
 hex-word : (d : ℕ) → d < 16 → is_word_byte (hex_digit d) ≡ true
 hex-word d low = grind (arith, nat_tests)
@@ -97,10 +92,7 @@ default-name a low = record { sized = omega arith; room = omega (arith, low); fo
 -- a name of a file whose text is a default name stands at that address
 own-default : (m : NameView) (a : ℕ) → IsName m → a ≤ 0xFFFF → m.text ≡ default_name a → m.address ≡ a
 unfolding is_reserved
-own-default m a is low same =
-    let like : is_like_default m.text ≡ true = ap is_like_default same ∙ like_default a in
-    let own : m.text ≡ default_name m.address = grind (arith, bytes_eq-Decides m.text (default_name m.address), is.free) in
-    same-default m.address a (omega (arith, is.sized, is.room)) low (sym own ∙ same)
+own-default m a is low same = grind (arith, like_default, bytes_eq-Decides, same-default)
 
 -- ---- that it can stand after others
 

@@ -6,10 +6,8 @@ use Rattle.std.specs.Option.{option_or, unwrap_or}
 use Rattle.std.proofs.lemmas.Bool.Decides.{nat_tests}
 use Rattle.std.proofs.lemmas.List.{append-nil}
 use denote.Bor.{Bor}
-use denote.Enum.Bare.{same_true}
 use Rattle.text65.specs.Names.{has_name_form}
-use Rattle.info65.specs.contracts.syntax.attribute.Attribute as attribute_type
-use Rattle.info65.specs.Words.{Accepts, AreAllFormed, AreFormed, AreGroups, AreInLimits, AreOptions, AssignmentView, Attribute, Cpu, Form, GroupKind, GroupView, HasForm, InfoFault, IsAtMost, IsColumn, IsGroup, Item, KindView, OptionsView, RangeType, Spells, TokenView, ValueView, a_name, a_number, as_name, as_number, boolean_named, boolean_of, boolean_value, character, comment_value, cpu_value, end_items, form_of, given_items, global_given, global_part, group, group_items, groups_of, has_comment_form, in_form, is_file_name, is_of, label_value, name_value, number, read, settings_of, string, tokens_of, type_named, type_value, value_in, value_of, without_marks, word}
+use Rattle.info65.specs.Words.{Accepts, AreAllFormed, AreFormed, AreGroups, AreInLimits, AreOptions, AssignmentView, Attribute, Cpu, Form, GroupKind, GroupView, HasForm, InfoFault, IsAtMost, IsColumn, IsGroup, Item, KindView, OptionsView, RangeType, Spells, TokenView, ValueView, a_name, a_number, as_name, as_number, boolean_named, boolean_of, boolean_value, character, comment_value, cpu_value, end_items, form_of, given_items, global_given, global_part, group, group_items, groups_of, has_comment_form, in_form, is_file_name, label_value, name_value, number, read, settings_of, string, tokens_of, type_named, type_value, value_in, value_of, without_marks, word}
 use Rattle.isa65.specs.Words.{cpu_named}
 use Rattle.info65.specs.declared.syntax.attribute.Attribute.TheVariants as attribute
 use Rattle.info65.specs.declared.syntax.attribute.Form.TheVariants as form
@@ -124,10 +122,7 @@ read_keeps P more none groups r = groups_keep P more [] groups r.keeps r.formed 
 pub found_formed : (a : Attribute) (given : List AssignmentView) → AreFormed given → IfSome (value_in a given) (HasForm (form_of a))
 unfolding value_in
 found_formed a [] h = tt
-found_formed a (g ∷ gs) h =
-    by_test (is_of a g)
-    (λ e. let same : a ≡ g.attribute = same_true attribute_type.the_type tt a g.attribute e in rw e (rw (ap form_of same) h.0))
-    (λ e. rw e (found_formed a gs h.1))
+found_formed a (g ∷ gs) h = grind (arith, (found_formed a gs h.1))
 
 offset_in : (v : Option ValueView) → IfSome v (HasForm (form.Number 0 16_777_216)) → unwrap_or (as_number v) 0 ≤ 16_777_216
 offset_in (Some (a_number n)) h = h.1

@@ -9,7 +9,7 @@ use Rattle.std.proofs.lemmas.List.{append-nil, at_drop_all, at_drop_more}
 use Rattle.std.proofs.lemmas.List.Elements.{All-append, All-cons, All-nil}
 use denote.Enum.Bare.{same_true}
 use Rattle.info65.specs.contracts.syntax.attribute.Attribute as attribute_type
-use Rattle.info65.specs.Words.{AreAllFormed, AreFormed, AreGroups, AreIncludes, AreNew, AssignmentView, Attribute, Group, GroupKind, GroupView, HasForm, IncludeView, IncludesSaid, InfoFaultKind, IsGivenOr, SaysInclude, ValueView, a_boolean, a_character, a_name, as_boolean, as_character, as_name, closing_fault, form_of, group_seen, has_room, include_fault, include_from, include_in, include_part, includes_of, is_file_name, is_of, tokens_of, value_in}
+use Rattle.info65.specs.Words.{AreAllFormed, AreFormed, AreGroups, AreIncludes, AreNew, AssignmentView, Attribute, Group, GroupKind, GroupView, HasForm, IncludeView, IncludesSaid, InfoFaultKind, IsGivenOr, SaysInclude, ValueView, a_boolean, a_character, a_name, as_boolean, as_character, as_name, closing_fault, form_of, group_seen, has_room, include_from, include_in, include_part, includes_of, is_file_name, is_of, tokens_of, value_in}
 use Rattle.info65.specs.IncludeLaws.{AreSaid}
 use Rattle.info65.specs.declared.syntax.attribute.Attribute.TheVariants as attribute
 use Rattle.info65.specs.declared.syntax.attribute.Form.TheVariants as form
@@ -54,12 +54,7 @@ all_named (g ∷ gs) f = All-append (λ i. is_file_name i.file ≡ true) (includ
 
 -- a group says one include file at most
 pub part_length : (g : GroupView) → length (include_part g) ≤ 1
-part_length g = by_kind g.kind (include_in g.given) refl
-  where
-    by_kind : (k : GroupKind) (x : Result IncludeView InfoFaultKind) → include_in g.given ≡ x → length (include_part (record { kind = k; given = g.given })) ≤ 1
-    by_kind kind.Include (Ok i) e = rw e (omega arith)
-    by_kind kind.Include (Err w) e = rw e (omega arith)
-    by_kind _ x e = omega arith
+part_length g = grind arith
 
 pub formed_at : {Z : Type 0} (gs : List (Group Z)) (i : ℕ) (x : Group Z) → i < length gs → x ≡ get_or gs i x → AreAllFormed (map group_seen gs) → AreFormed (group_seen x).given
 formed_at [] i x here is f = absurd (omega (arith, here))
@@ -68,12 +63,7 @@ formed_at (y ∷ ys) (suc i) x here is f = formed_at ys i x (omega (arith, here)
 
 -- the include file of a group whose values are formed has a file name
 pub part_file : (g : GroupView) (i : IncludeView) → AreFormed g.given → (i ∷ []) ≡ include_part g → is_file_name i.file ≡ true
-part_file g i f is = by_kind g.kind (include_in g.given) refl is
-  where
-    by_kind : (k : GroupKind) (x : Result IncludeView InfoFaultKind) → include_in g.given ≡ x → (i ∷ []) ≡ include_part (record { kind = k; given = g.given }) → is_file_name i.file ≡ true
-    by_kind kind.Include (Ok j) e h = let l : (i ∷ []) ≡ (j ∷ []) = rw e at h in let same : i ≡ j = cc in rw same (named_in g.given j f e)
-    by_kind kind.Include (Err w) e h = let l : (i ∷ []) ≡ [] = rw e at h in absurd cc
-    by_kind _ x e h = absurd cc
+part_file g i f is = grind (arith, named_in)
 
 -- ---- at most 16
 
@@ -88,11 +78,7 @@ room_for before k given (x ∷ xs) a v h e =
 
 file_in : (given : List AssignmentView) (i : IncludeView) → include_in given ≡ Ok i → value_in attribute.File given ≡ Some (a_name i.file)
 unfolding include_in
-file_in given i is = text_is (value_in attribute.File given) i.file (by_file (as_name (value_in attribute.File given)) (as_character (value_in attribute.CommentStart given)) (as_boolean (value_in attribute.IgnoreUnknown given)) is)
-  where
-    by_file : (n : Option (List ℕ)) (b : Option ℕ) (o : Option Bool) → include_from n b o ≡ Ok i → n ≡ Some i.file
-    by_file (Some t) b o e = let same : t ≡ i.file = cc in ap (λ (x : List ℕ). Some x) same
-    by_file None b o e = absurd cc
+file_in given i is = grind (arith, text_is)
 
 includes_more : (before : List GroupView) (g : GroupView) → includes_of (before ++ g ∷ []) ≡ includes_of before ++ include_part g
 unfolding includes_of
@@ -136,11 +122,7 @@ record IsFrom (given : List AssignmentView) (i : IncludeView) : Type 0 where
 
 from : (given : List AssignmentView) (i : IncludeView) → include_in given ≡ Ok i → IsFrom given i
 unfolding include_in
-from given i is = by_file (as_name (value_in attribute.File given)) is
-  where
-    by_file : (n : Option (List ℕ)) → include_from n (as_character (value_in attribute.CommentStart given)) (as_boolean (value_in attribute.IgnoreUnknown given)) ≡ Ok i → IsFrom given i
-    by_file (Some t) e = record { start = cc; ignore = cc }
-    by_file None e = absurd cc
+from given i is = grind arith
 
 says : (given : List AssignmentView) (i : IncludeView) → AreFormed given → include_in given ≡ Ok i → SaysInclude given i
 unfolding form_of
@@ -148,11 +130,7 @@ says given i f is = grind (arith, from, file_in, character_or, found_formed, boo
 
 closes : (before : List GroupView) (given : List AssignmentView) → closing_fault before kind.Include given ≡ None → (i : IncludeView) × (include_in given ≡ Ok i)
 unfolding closing_fault
-closes before given h = by_part (include_in given) refl h
-  where
-    by_part : (x : Result IncludeView InfoFaultKind) → include_in given ≡ x → include_fault x ≡ None → (i : IncludeView) × (include_in given ≡ Ok i)
-    by_part (Ok i) e n = (i, e)
-    by_part (Err w) e n = absurd cc
+closes before given h = grind arith
 
 said_more : (before : List GroupView) (k : GroupKind) (given : List AssignmentView) (gs : List GroupView) → AreFormed given → closing_fault before k given ≡ None → AreSaid gs (includes_of gs) → AreSaid (record { kind = k; given = given } ∷ gs) (include_part (record { kind = k; given = given }) ++ includes_of gs)
 said_more before kind.Include given gs f h said = let c = closes before given h in rw c.1 (says given c.0 f c.1, said)

@@ -1,14 +1,15 @@
 -- The names of an include file.
 use Rattle.std.proofs.Common.{◌≡◌, ◌∙◌, ◌+◌, ◌<◌, ℕ, List, [], ◌∷◌, ◌++◌, false, ap, arith, get_or, inl, inr, length, option_map, refl, subst, sym, take}
-use Rattle.std.specs.Prelude.{Option, Some, None, Result, Ok, Err, nat_lt, option_to_list}
+use Rattle.std.specs.Prelude.{Option, None, Result, Ok, Err, nat_lt, option_to_list}
 use Rattle.std.specs.List.{list_any}
 use Rattle.std.proofs.lemmas.List.{get_or_default, get_or-take, length-take-le}
 use Rattle.std.proofs.lemmas.List.Folds.{find-append, list_any-append}
 use Rattle.text65.specs.Lines.{text_lines}
 use Rattle.info65.specs.Words.{AreGiven, AreNames, Fails, Given, IncludeView, InfoFault, InfoFaultKind, InfoView, NameView, Sees, blank_include, blank_name, by_address, given_seen, included, is_elsewhere, line_adds, line_in, name_adds, name_at, name_fault, name_result_seen, named_at, names_included, names_with, optional_adds, unless_ignored, with_added, with_names, ◌>>=◌}
-use Rattle.info65.proofs.Cases.{by_result, by_test}
+use Rattle.info65.proofs.Cases.{by_result}
 use Rattle.info65.proofs.IndexLemmas.{elsewhere_by, elsewhere_is, is_fine, names_same, taken_is}
 use Rattle.info65.proofs.NamesLemmas.{named_alike, sorted_names, text_alike}
+use Rattle.std.proofs.lemmas.Bool.Decides.{nat_tests}
 
 abbrev Added : Type 0
 Added = Result (Option NameView) InfoFaultKind
@@ -74,11 +75,7 @@ included_fails i j index bytes e is h = subst (λ (x : InfoView). Fails e (inclu
 -- an include file adds names alone
 included_rest : (i j : InfoView) (index : ℕ) (bytes : List ℕ) → included i index bytes ≡ Ok j → j ≡ with_names i j.names
 unfolding included
-included_rest i j index bytes h = by_names (names_included (get_or i.includes index blank_include) i.names bytes) h
-  where
-    by_names : (r : Result (List NameView) InfoFault) → (r >>= λ names. Ok (with_names i names)) ≡ Ok j → j ≡ with_names i j.names
-    by_names (Ok names) e = let s : with_names i names ≡ j = cc in sym s ∙ ap (λ (x : InfoView). with_names i x.names) s
-    by_names (Err f) e = absurd cc
+included_rest i j index bytes h = grind (arith, get_or)
 
 pub read_included : (i opened read new : InfoView) (names : List NameView) (index : ℕ) (bytes : List ℕ) → i ≡ opened → included opened index bytes ≡ Ok read → read.names ≡ names → new ≡ with_names i names → included i index bytes ≡ Ok new
 read_included i opened read new names index bytes is reads are put = grind (arith, included_rest)
@@ -96,12 +93,7 @@ adds_alike xs ys n a = grind (arith, taken_is)
 
 line_alike : (i : IncludeView) (line : ℕ) (xs ys : List NameView) (text : List ℕ) → Alike xs ys → line_adds i line xs text ≡ line_adds i line ys text
 unfolding line_adds
-line_alike i line xs ys text a = ap (unless_ignored i.ignore_unknown line) (said (line_in i.comment_start text))
-  where
-    said : (r : Added) → optional_adds xs r ≡ optional_adds ys r
-    said (Err f) = refl
-    said (Ok None) = refl
-    said (Ok (Some n)) = adds_alike xs ys n a
+line_alike i line xs ys text a = grind (arith, adds_alike)
 
 more_alike : (xs ys zs : List NameView) → Alike xs ys → Alike (xs ++ zs) (ys ++ zs)
 unfolding named_at
@@ -135,7 +127,4 @@ names_alike names more g = same_address (by_address names ++ more) (names ++ mor
 -- a file adds the same names to those that are sorted by address
 pub file_sorted : (i : IncludeView) (names : List NameView) (bytes : List ℕ) → AreGiven names → names_included i (by_address names) bytes ≡ names_included i names bytes
 unfolding names_included
-file_sorted i names bytes g =
-    by_test (nat_lt 1_048_576 (length bytes))
-    (λ large. rw large refl)
-    (λ small. rw small (lines_alike i 1 (by_address names) names (text_lines bytes) (alike names g)))
+file_sorted i names bytes g = grind (arith, lines_alike, alike, nat_tests)

@@ -120,15 +120,7 @@ no_fault names n h = record { free = grind arith; only = grind arith; untaken = 
 -- and the other way round
 pub is_fine : (names : List NameView) (n : NameView) → is_reserved n.address n.text ≡ false → All (λ m. (m.text ≢ n.text) × (m.address ≢ n.address)) names → name_fault names n ≡ None
 unfolding name_fault
-is_fine names n free apart =
-    rw (
-      free,
-      list_any_none (is_elsewhere n) names (λ k d l. text_miss n (get_or names k d) (apart k d l).0),
-      list_any_none (is_at n.address) names (λ k d l. ne_eqb (get_or names k d).address n.address (apart k d l).1),
-    ) refl
-  where
-    text_miss : (x m : NameView) → m.text ≢ x.text → is_elsewhere x m ≡ false
-    text_miss x m other = grind (arith, bytes_eq-Decides x.text m.text, other)
+is_fine names n free apart = grind (arith, list_any_none, get_or, ne_eqb, bytes_eq-Decides)
 
 -- its text is new
 pub new_text : (names : List NameView) (n : NameView) → IsNew names n → (k : ℕ) (d : NameView) → k < length names → (get_or names k d).text ≢ n.text
@@ -213,15 +205,7 @@ text_added names texts told n t i new (inr (inl (some, at, same, beside))) =
       is = ap (stands_by t (told.others t)) by ∙ cond-false (bytes_eq t m.0.text) (Some m.0.address) (told.others t) other ∙ beside
           ∙ ap (option_map (λ (m : NameView). m.address)) (sym (find_more (λ (m : NameView). bytes_eq t m.text) names n none at));
     }
-text_added names texts told n t i new (inr (inr (off, same, also))) =
-    let long = length-append names (n ∷ []) in
-    record {
-      low = omega (arith, same, i.low, long);
-      alone = λ empty. also ∙ i.alone (sym same ∙ empty);
-      is = ap₂ (λ (o : Option ℕ) (k : ℕ). stands_by t o (numbered (names ++ n ∷ []) k)) also same
-          ∙ ap (stands_by t (texts.others t)) (numbered_more names n (texts.slotted t) i.low)
-          ∙ i.is ∙ ap (option_map (λ (m : NameView). m.address)) (sym (find_same (λ (m : NameView). bytes_eq t m.text) names n off));
-    }
+text_added names texts told n t i new (inr (inr (off, same, also))) = grind (arith, length-append, numbered_more, option_map, find_same)
 
 -- and an address
 address_added : (names : List NameView) (numbers more : List NumbersView) (n : NameView) (a : ℕ) → IsFoundAt names numbers a → IsNew names n

@@ -36,3 +36,4 @@ mod TagLemmas
 mod TagRows
 mod TokenLemmas
 pub mod Public
+pub mod Rules

@@ -1,10 +1,10 @@
 -- The names of an accepted file: what holds of those that its groups say, and of all of them by address.
-use Rattle.std.proofs.Common.{◌≡◌, ◌≢◌, ◌∙◌, ◌≤◌, ◌<◌, ◌+◌, ◌*◌, ◌/◌, ℕ, zero, suc, Bool, List, [], ◌∷◌, ◌++◌, true, false, ⊎_elim, ap, ap₂, append_assoc, arith, get_or, length, map, option_map, refl, subst, sym}
+use Rattle.std.proofs.Common.{◌≡◌, ◌≢◌, ◌∙◌, ◌≤◌, ◌<◌, ◌+◌, ◌*◌, ◌/◌, ℕ, zero, suc, Bool, List, [], ◌∷◌, ◌++◌, true, ⊎_elim, ap, ap₂, append_assoc, arith, get_or, length, map, option_map, refl, subst, sym}
 use Rattle.std.specs.Prelude.{All, AllPairs, IfSome, Option, Some, None, Ok, option_to_list, is_some, ◌↔◌}
 use Rattle.std.specs.List.{Contains, find}
 use Rattle.std.specs.Option.{unwrap_or}
 use Rattle.std.proofs.lemmas.Bool.Decides.{eqb_tells, nat_tests}
-use Rattle.std.proofs.lemmas.List.{append-nil, get_or-map, get_or_default, length-map}
+use Rattle.std.proofs.lemmas.List.{append-nil, get_or_default}
 use Rattle.std.proofs.lemmas.List.Elements.{All-cons, All-push, Contains-append_right}
 use Rattle.std.proofs.lemmas.List.Folds.{list_any_at}
 use Rattle.std.proofs.lemmas.List.Kept.{AllPairs-cons}
@@ -12,11 +12,10 @@ use Rattle.std.proofs.lemmas.List.Quantifiers.{all_pairs_push}
 use Rattle.std.proofs.lemmas.Bool.{eq-eqb, eqb-true, false≢true}
 use Rattle.std.proofs.lemmas.Slice.Eq.{bytes_eq-Decides}
 use Rattle.std.specs.Str.{bytes_eq}
-use Rattle.info65.specs.Words.{AreFormed, AreGiven, AreNames, AssignmentView, Given, GroupKind, GroupView, HasForm, IsComment, IsFoundAt, IsName, NameView, NamesGiven, NumbersView, RangeSpec, ValueView, a_comment, a_name, as_comment, as_name, as_number, by_address, closing_fault, comment_in, form_of, given_seen, is_at, label_from, label_in, label_sized, name_part, named_at, names_from, names_said, numbered, optional_name_fault, range_name, text_at, tokens_of, unless_empty, value_in}
+use Rattle.info65.specs.Words.{AreFormed, AreGiven, AreNames, AssignmentView, Given, GroupKind, GroupView, HasForm, IsComment, IsFoundAt, IsName, NameView, NamesGiven, NumbersView, RangeSpec, ValueView, a_comment, a_name, as_comment, as_name, as_number, by_address, closing_fault, comment_in, form_of, given_seen, is_at, label_in, label_sized, name_part, named_at, names_from, names_said, numbered, optional_name_fault, range_name, text_at, tokens_of, unless_empty, value_in}
 use Rattle.info65.specs.Code.Numbers.{number_at}
 use Rattle.text65.specs.Names.{has_name_form}
 use Rattle.info65.specs.Labels.{named}
-use Rattle.info65.specs.Values.{as_address}
 use Rattle.info65.specs.declared.syntax.attribute.Attribute.TheVariants as attribute
 use Rattle.info65.specs.declared.syntax.attribute.Form.TheVariants as form
 use Rattle.info65.specs.declared.syntax.attribute.GroupKind.TheVariants as kind
@@ -183,14 +182,7 @@ sized_is a t size c n is = (grind arith, grind (arith, nat_tests))
 
 label_is : (given : List AssignmentView) (n : NameView) → label_in given ≡ Ok n → IsLabel given n
 unfolding label_in
-label_is given n is = by_parts (as_address (value_in attribute.Address given)) (as_name (value_in attribute.Name given)) refl is
-  where
-    by_parts : (a : Option ℕ) (t : Option (List ℕ)) → as_name (value_in attribute.Name given) ≡ t → label_from a t (as_number (value_in attribute.Size given)) (comment_in given) ≡ Ok n → IsLabel given n
-    by_parts (Some a) (Some t) e h =
-        let s = sized_is a t (unwrap_or (as_number (value_in attribute.Size given)) 1) (comment_in given) n h in
-        record { text = rw s.0 e; size = rw s.0 refl; room = rw s.0 s.1; comment = rw s.0 refl }
-    by_parts None t e h = absurd cc
-    by_parts (Some a) None e h = absurd cc
+label_is given n is = grind (arith, sized_is)
 
 record IsNamed (given : List AssignmentView) (r : RangeSpec) (n : NameView) : Type 0 where
   text : as_name (value_in attribute.Name given) ≡ Some n.text
@@ -200,11 +192,7 @@ record IsNamed (given : List AssignmentView) (r : RangeSpec) (n : NameView) : Ty
 
 named_is : (given : List AssignmentView) (r : RangeSpec) (n : NameView) → range_name given r ≡ Some n → IsNamed given r n
 unfolding range_name
-named_is given r n is = by_text (as_name (value_in attribute.Name given)) refl is
-  where
-    by_text : (t : Option (List ℕ)) → as_name (value_in attribute.Name given) ≡ t → option_map (named r.first 1 (comment_in given)) t ≡ Some n → IsNamed given r n
-    by_text (Some t) e h = let s : n ≡ named r.first 1 (comment_in given) t = cc in record { text = rw s e; size = rw s refl; address = rw s refl; comment = rw s refl }
-    by_text None e h = absurd cc
+named_is given r n is = grind (arith, option_map)
 
 given_optional : (names : List NameView) (given : List AssignmentView) (r : RangeSpec) → AreFormed given → r.first ≤ 0xFFFF → AreGiven names → (n : Option NameView) → range_name given r ≡ n → optional_name_fault names n ≡ None → AreGiven (names ++ option_to_list n)
 given_optional names given r f low g None is fine = rw (append-nil names) g
@@ -275,11 +263,7 @@ comes_after : (x : NameView) (xs : List NameView) (n : NameView) → Rising (x �
 comes_after x xs n r h = let e = ap (λ (v : NameView). v.address) h.2 in let lt = r 0 (suc h.0) n (omega arith) (omega (arith, h.1)) in omega (arith, e, lt)
 
 first_or : {P : Type 0} (x : NameView) (xs : List NameView) (n : NameView) → Contains (x ∷ xs) n → (x ≡ n → P) → (Contains xs n → P) → P
-first_or {P} x xs n h first rest = go h.0 h.1 h.2
-  where
-    go : (i : ℕ) → i < length (x ∷ xs) → get_or (x ∷ xs) i n ≡ n → P
-    go zero l e = first e
-    go (suc i) l e = rest (i, omega (arith, l), e)
+first_or {P} x xs n h first rest = grind (arith, get_or)
 
 -- those with the same names are one list
 rising_same : (xs ys : List NameView) → Rising xs → Rising ys → ((n : NameView) → Contains xs n → Contains ys n) → ((n : NameView) → Contains ys n → Contains xs n) → xs ≡ ys

@@ -121,40 +121,7 @@ record IsAdded (pool after : List ℕ) (es : List Entry) (e : Entry) : Type 0 wh
   block : ReachTo es (block_start (length es + 1)) (length es) e.most
 
 pool_more : (pool : List ℕ) (es : List Entry) (e : Entry) → IsPool pool es → IsAdded pool pool es e → IsPool pool (es ++ e ∷ [])
-pool_more pool es e p a =
-    let long : length (es ++ e ∷ []) ≡ length es + 1 = length-append es (e ∷ []) in
-    record {
-      texts = λ i l. last_or (λ x. IsWithin pool x.text) i (omega (arith, l, long)) (p.texts i) a.text;
-      comments = λ i l. last_or (λ x. IfSome x.comment (IsWithin pool)) i (omega (arith, l, long)) (p.comments i) a.comment;
-      blocks = record {
-        each = λ i l j from below.
-            ⊎_elim
-            (λ last.
-            let most = ap (λ (x : Entry). x.most) (get_or_at es e [] blank_entry i (sym last.1)) in
-            ⊎_elim
-            (λ same. let own = ap (λ (x : Entry). reach_of x) (get_or_at es e [] blank_entry j (sym (same.1 ∙ last.1))) in omega (arith, own, most, a.own))
-            (λ other.
-            let there : j < length es = omega (arith, below, other.1, last.1) in
-            let start = ap (λ (k : ℕ). block_start (k + 1)) last.1 in
-            let f = ap (λ (x : Entry). reach_of x) (get_or_append_left es (e ∷ []) blank_entry j there) in
-            omega (arith, f, most, a.block j (omega (arith, start, from)) there))
-            (eqb_tells j i))
-            (λ other.
-            let here : i < length es = omega (arith, l, long, other.1) in
-            let there : j < length es = omega (arith, below, here) in
-            let most = ap (λ (x : Entry). x.most) (get_or_append_left es (e ∷ []) blank_entry i here) in
-            let f = ap (λ (x : Entry). reach_of x) (get_or_append_left es (e ∷ []) blank_entry j there) in
-            omega (arith, f, most, p.blocks.each i here j from below))
-            (eqb_tells i (length es));
-      };
-    }
-  where
-    last_or : (P : Entry → Type 0) (i : ℕ) → i < length es + 1 → (i < length es → P (get_or es i blank_entry)) → P e → P (get_or (es ++ e ∷ []) i blank_entry)
-    last_or P i l old new =
-        ⊎_elim
-        (λ last. subst P (sym (get_or_at es e [] blank_entry i (sym last.1))) new)
-        (λ other. let here : i < length es = omega (arith, l, other.1) in subst P (sym (get_or_append_left es (e ∷ []) blank_entry i here)) (old here))
-        (eqb_tells i (length es))
+pool_more pool es e p a = grind (arith, length-append, ⊎_elim, get_or_at, get_or_append_left, eqb_tells, get_or)
 
 -- an entry whose bytes are put at the end of the pool
 pub record IsPut (pool after : List ℕ) (es : List Entry) (e : Entry) (n : NameView) : Type 0 where

@@ -1,6 +1,5 @@
 -- Keys of the names of segments.
-use Rattle.std.proofs.Common.{◌≡◌, ◌∙◌, ◌≤◌, ◌<◌, ◌+◌, ◌-◌, ℕ, zero, suc, Bool, List, [], ◌∷◌, ◌++◌, true, false, ap, ap₂, arith, cond, drop, inl, inr, get_or, length, map, refl, sym}
-use Rattle.std.specs.Option.{option_or}
+use Rattle.std.proofs.Common.{◌≡◌, ◌∙◌, ◌≤◌, ◌<◌, ◌+◌, ◌-◌, ℕ, zero, suc, Bool, List, [], ◌∷◌, ◌++◌, true, false, ap, arith, cond, drop, inl, inr, get_or, length, map, refl, sym}
 use Rattle.std.specs.Prelude.{Option, Some, None, IfSome, is_some, nat_lt, option_and_then, option_map}
 use denote.Bor.{Bor}
 use Rattle.std.specs.Str.{bytes_eq}
@@ -8,7 +7,7 @@ use Rattle.std.proofs.lemmas.Bool.Decides.{nat_tests}
 use Rattle.std.proofs.lemmas.List.{at_drop_more, drop_all, get_or-map, get_or_default, get_or_append_left, get_or_push, length-map}
 use Rattle.std.proofs.lemmas.Option.{slice_get-get_or, slice_get_past}
 use Rattle.std.proofs.lemmas.Slice.Eq.{bytes_eq-Decides}
-use Rattle.info65.specs.Words.{AddsText, AreFound, AreKeys, AreSegments, IsHolder, IsRest, IsSlotted, SegmentSpec, SegmentView, TextsView, blank_segment, contains, first_named, key_by, key_found, numbered, segment_at, segment_covering, segment_key, segment_seen}
+use Rattle.info65.specs.Words.{AddsText, AreFound, AreKeys, AreSegments, IsHolder, IsRest, IsSlotted, SegmentSpec, SegmentView, TextsView, blank_segment, contains, first_named, key_found, numbered, segment_at, segment_covering, segment_key, segment_seen}
 use Rattle.info65.proofs.Cases.{by_test}
 use Rattle.info65.proofs.SegmentCovering.{covers_one, one_contains}
 use Rattle.info65.proofs.IndexLemmas.{other_way, same_text}
@@ -65,10 +64,7 @@ slotted_more k texts are = record { low = λ t. omega (arith, are.low t); alone 
 
 -- no name yet
 pub none_found : (segments : List SegmentView) (texts : TextsView) → ((t : List ℕ) → texts.slotted t ≡ 0) → ((t : List ℕ) → texts.others t ≡ None) → AreFound segments 0 texts
-none_found segments texts empty lone = record {
-  slots = record { low = λ t. omega (arith, empty t); alone = λ t free. lone t };
-  rest = record { is = λ t. ap (λ (n : ℕ). option_or (key_by t (texts.others t) (numbered segments n)) (first_named segments t)) (empty t) };
-}
+none_found segments texts empty lone = grind arith
 
 -- the name of the k-th segment again
 pub found_again : (segments : List SegmentView) (k : ℕ) (name : List ℕ) (texts : TextsView) (key : ℕ) → k < length segments → name ≡ (segment_at segments k).name → AreFound segments k texts → key_found segments texts name ≡ Some key → AreFound segments (k + 1) texts
@@ -82,34 +78,9 @@ record IsAdded (segments : List SegmentView) (k : ℕ) (name : List ℕ) (texts 
 
 added : (segments : List SegmentView) (k : ℕ) (name : List ℕ) (texts told : TextsView) (t : List ℕ) → k < length segments → name ≡ (segment_at segments k).name → IsSlotted k texts → key_found segments texts name ≡ None
     → AddsText texts name (segment_at segments k).first (k + 1) told t → IsAdded segments k name texts told t
-added segments k name texts told t low named are none (inl (free, taken, same)) =
-    let here : numbered segments (told.slotted t) ≡ Some (segment_at segments k) = ap (numbered segments) taken ∙ number_at segments k low in
-    let bare : key_found segments texts t ≡ None = ap (λ (n : ℕ). key_by t (texts.others t) (numbered segments n)) free in
-    let off : told.others t ≡ None = same ∙ are.alone t free in
-    record {
-      low = omega (arith, taken);
-      alone = λ empty. off;
-      is = ap₂ (λ (o : Option ℕ) (s : Option SegmentView). key_by t o s) off here
-          ∙ by_test (bytes_eq name t)
-          (λ yes. rw (yes, is_name t (segment_at segments k).name (sym (same_text name t yes) ∙ named)) refl)
-          (λ no. rw (no, ← named, other_way name t no, bare) refl);
-    }
-added segments k name texts told t low named are none (inr (inl (some, at, same, beside))) =
-    let is : t ≡ name = same_text t name at in
-    let s : SegmentView = segment_at segments (texts.slotted t - 1) in
-    let has : numbered segments (texts.slotted t) ≡ Some s = some_number segments (texts.slotted t) some (omega (arith, are.low t, low)) in
-    let bare : key_by t (texts.others t) (Some s) ≡ None = ap (key_by t (texts.others t)) (sym has) ∙ ap (key_found segments texts) is ∙ none in
-    let other : bytes_eq t s.name ≡ false = by_test (bytes_eq t s.name) (λ hit. let wrong : ◌≡◌ {A = Option ℕ} (Some s.first) None = rw hit at bare in absurd cc) (λ miss. miss) in
-    record {
-      low = omega (arith, same, are.low t);
-      alone = λ empty. absurd (some (sym same ∙ empty));
-      is = ap₂ (λ (o : Option ℕ) (n : ℕ). key_by t o (numbered segments n)) beside same ∙ ap (key_by t (Some (segment_at segments k).first)) has ∙ rw (other, is_name name t (sym is)) refl;
-    }
-added segments k name texts told t low named are none (inr (inr (off, same, also))) = record {
-  low = omega (arith, same, are.low t);
-  alone = λ empty. also ∙ are.alone t (sym same ∙ empty);
-  is = ap₂ (λ (o : Option ℕ) (n : ℕ). key_by t o (numbered segments n)) also same ∙ rw (other_way t name off) refl;
-}
+added segments k name texts told t low named are none (inl (free, taken, same)) = grind (arith, number_at, is_name, same_text, other_way)
+added segments k name texts told t low named are none (inr (inl (some, at, same, beside))) = grind (arith, same_text, some_number, is_name)
+added segments k name texts told t low named are none (inr (inr (off, same, also))) = grind (arith, other_way)
 
 key_added : (segments : List SegmentView) (k : ℕ) (name : List ℕ) (texts told : TextsView) → k < length segments → name ≡ (segment_at segments k).name → IsSlotted k texts → key_found segments texts name ≡ None
     → ((t : List ℕ) → AddsText texts name (segment_at segments k).first (k + 1) told t) → (t : List ℕ) → key_found segments told t ≡ cond (bytes_eq name t) (Some (segment_at segments k).first) (key_found segments texts t)
@@ -117,10 +88,7 @@ key_added segments k name texts told low named are none adds t = (added segments
 
 slotted_added : (segments : List SegmentView) (k : ℕ) (name : List ℕ) (texts told : TextsView) → k < length segments → name ≡ (segment_at segments k).name → IsSlotted k texts → key_found segments texts name ≡ None
     → ((t : List ℕ) → AddsText texts name (segment_at segments k).first (k + 1) told t) → IsSlotted (k + 1) told
-slotted_added segments k name texts told low named are none adds = record {
-  low = λ t. (added segments k name texts told t low named are none (adds t)).low;
-  alone = λ t. (added segments k name texts told t low named are none (adds t)).alone;
-}
+slotted_added segments k name texts told low named are none adds = grind (arith, added)
 
 -- ---- names and their keys
 
@@ -153,11 +121,7 @@ one_key segments n t key are is_n is_t =
 -- a new name, which is added
 pub found_first : (segments : List SegmentView) (k : ℕ) (name : List ℕ) (texts told : TextsView) → k < length segments → name ≡ (segment_at segments k).name → AreFound segments k texts → key_found segments texts name ≡ None
     → ((t : List ℕ) → AddsText texts name (segment_at segments k).first (k + 1) told t) → AreFound segments (k + 1) told
-found_first segments k name texts told low named are none adds = record {
-  slots = slotted_added segments k name texts told low named are.slots none adds;
-  rest = rest_next segments k (key_found segments texts) (key_found segments told) name (segment_at segments k).first low are.rest named (key_first segments k (key_found segments texts) name low are.rest named none)
-      (key_added segments k name texts told low named are.slots none adds);
-}
+found_first segments k name texts told low named are none adds = grind (arith, slotted_added, rest_next, key_first, key_added)
 
 pub keys_more : (segments : List SegmentView) (keys more : List ℕ) (n key : ℕ) → length keys ≡ n → more ≡ keys ++ key ∷ [] → ((k : ℕ) → k < n → first_named segments (segment_at segments k).name ≡ Some (get_or keys k 0)) → first_named segments (segment_at segments n).name ≡ Some key
     → (k : ℕ) → k < n + 1 → first_named segments (segment_at segments k).name ≡ Some (get_or more k 0)
@@ -172,15 +136,10 @@ seen_item specs k s low is = seen_at specs k s low ∙ ap segment_seen (sym is)
 
 -- what the code finds by a number
 pub number_seen : {Z : Type 0} (specs : List (SegmentSpec Z)) (n : ℕ) (s : SegmentSpec Z) → (n ≡ 0 → ⊥) → n - 1 < length specs → s ≡ get_or specs (n - 1) s → Some (segment_seen s) ≡ numbered (map segment_seen specs) n
-number_seen {Z = Z} specs n s some low is =
-    let long = length-map specs (segment_seen {Z = Z}) in
-    sym (some_number (map segment_seen specs) n some (omega (arith, low, long)) ∙ ap (λ (x : SegmentView). Some x) (seen_item specs (n - 1) s low is))
+number_seen {Z = Z} specs n s some low is = grind (arith, length-map, some_number, seen_item)
 
 pub number_past : {Z : Type 0} (specs : List (SegmentSpec Z)) (n : ℕ) → (n ≡ 0 → ⊥) → length specs ≤ n - 1 → None ≡ numbered (map segment_seen specs) n
-number_past {Z = Z} specs n some past =
-    let long = length-map specs (segment_seen {Z = Z}) in
-    let next : n ≡ suc (n - 1) = omega (arith, some) in
-    sym (ap (numbered (map segment_seen specs)) next ∙ slice_get_past (map segment_seen specs) (n - 1) (omega (arith, past, long)))
+number_past {Z = Z} specs n some past = grind (arith, length-map, slice_get_past)
 
 pub number_found : {Z : Type 0} (specs : List (SegmentSpec Z)) (n : ℕ) (o : Option (Bor (SegmentSpec Z))) → (n ≡ 0 → ⊥) → IfSome o (λ x. x.now ≡ get_or specs (n - 1) x.now) → is_some o ≡ nat_lt (n - 1) (length specs)
     → option_map (λ s. segment_seen s.now) o ≡ numbered (map segment_seen specs) n
@@ -206,10 +165,7 @@ has_key : (segments : List SegmentView) (k : ℕ) → k < length segments → is
 unfolding first_named
 has_key [] k low = absurd (omega (arith, low))
 has_key (s ∷ ss) zero low = rw (is_name s.name s.name refl) refl
-has_key (s ∷ ss) (suc k) low =
-    by_test (bytes_eq s.name (segment_at ss k).name)
-    (λ yes. rw yes refl)
-    (λ no. rw no (has_key ss k (omega (arith, low))))
+has_key (s ∷ ss) (suc k) low = grind (arith, (has_key ss k (omega (arith, low))))
 
 -- the name of the segment of an address has a key
 pub covering_keyed : (segments : List SegmentView) (a : ℕ) (name : List ℕ) → AreSegments segments → segment_covering segments a ≡ Some name → is_some (first_named segments name) ≡ true

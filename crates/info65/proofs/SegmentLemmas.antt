@@ -80,11 +80,7 @@ from f l n s h = (grind arith, grind (arith, nat_tests))
 
 segment_is : (given : List AssignmentView) (s : SegmentView) → segment_in given ≡ Ok s → IsSaid given s
 unfolding segment_in
-segment_is given s h = by_parts (as_address (value_in attribute.Start given)) (as_address (value_in attribute.End given)) (as_name (value_in attribute.Name given)) refl refl refl h
-  where
-    by_parts : (f l : Option ℕ) (n : Option (List ℕ)) → as_address (value_in attribute.Start given) ≡ f → as_address (value_in attribute.End given) ≡ l → as_name (value_in attribute.Name given) ≡ n → segment_from f l n ≡ Ok s → IsSaid given s
-    by_parts (Some f) (Some l) (Some n) ef el en i = let h = from f l n s i in record { first = rw h.0 ef; last = rw h.0 el; name = rw h.0 en; ordered = rw h.0 h.1 }
-    by_parts _ _ _ ef el en i = absurd cc
+segment_is given s h = grind (arith, from)
 
 address_low : (v : Option ValueView) → IfSome v (HasForm form.Address) → (n : ℕ) → as_address v ≡ Some n → n ≤ 0xFFFF
 address_low (Some (an_address m)) h n e = let same : m ≡ n = cc in subst (λ (k : ℕ). k ≤ 0xFFFF) same h

@@ -12,7 +12,7 @@ use Rattle.std.proofs.lemmas.List.{append-nil, drop_more, length-drop, length-re
 use Rattle.std.proofs.lemmas.List.Folds.{list_all-append, list_all_at}
 use Rattle.std.proofs.lemmas.List.Sums.{passes_at_first, prefix_len-le-length, split_at_first}
 use Rattle.text65.specs.Names.{is_blank, is_word_byte}
-use Rattle.info65.specs.Words.{AreDigitsOf, EndsLine, InfoFaultKind, IsAssignment, IsBlankLine, IsSpelling, IsText, LinesSpelled, NameView, WritesAddress, address_written, after_sign, are_digits, assignment_in, before_sign, is_identifier, line_in, number_in, or_bad, plain_name, starts_word, trimmed, trimmed_end, without_comment}
+use Rattle.info65.specs.Words.{AreDigitsOf, InfoFaultKind, IsAssignment, IsBlankLine, IsSpelling, IsText, LinesSpelled, NameView, WritesAddress, address_written, after_sign, are_digits, assignment_in, before_sign, is_identifier, line_in, number_in, or_bad, plain_name, starts_word, trimmed, trimmed_end, without_comment}
 use Rattle.info65.specs.Includes.{as_address}
 use Rattle.info65.proofs.Cases.{by_test}
 
@@ -184,43 +184,11 @@ before_part c t more (suc k) h = before_is c t (take k more) h
 
 without_is : (c : ℕ) (line t : List ℕ) → IsText c line t → list_all (other 13) t ≡ true → without_comment c line ≡ t
 unfolding without_comment
-without_is c line t w plain = by_end w.rest w.is w.ends
-  where
-    by_end : (rest : List ℕ) → line ≡ t ++ rest → EndsLine c rest → before_first (λ b. b == c) (strip_last 13 line) ≡ t
-    by_end rest is (inl none) =
-        let whole : line ≡ t = is ∙ ap (λ l. t ++ l) none ∙ append-nil t in
-        ap (before_first (λ b. b == c)) (ap (strip_last 13) whole ∙ strip_none 13 t plain) ∙ before_none c t w.free
-    by_end rest is (inr (inl cr)) =
-        let whole : line ≡ t ++ 13 ∷ [] = is ∙ ap (λ l. t ++ l) cr in
-        ap (before_first (λ b. b == c)) (ap (strip_last 13) whole ∙ strip_end 13 t) ∙ before_none c t w.free
-    by_end rest is (inr (inr comment)) =
-        let more : List ℕ = comment.0 in
-        let whole : line ≡ t ++ c ∷ more = is ∙ ap (λ l. t ++ l) comment.1 in
-        ⊎_elim
-        (λ same. ap (before_first (λ b. b == c)) (ap (strip_last 13) whole ∙ same) ∙ before_is c t more w.free)
-        (λ part. ap (before_first (λ b. b == c)) (ap (strip_last 13) whole ∙ part) ∙ before_part c t more (length more) w.free)
-        (strip_comment 13 c t more)
+without_is c line t w plain = grind (arith, append-nil, strip_none, before_none, strip_end, ⊎_elim, before_is, before_part, strip_comment, nat_tests)
 
 text_is : (c : ℕ) (line : List ℕ) → IsText c line (without_comment c line)
 unfolding without_comment
-text_is c line = by_cases (strip_cases 13 line) (cut c s)
-  where
-    s : List ℕ
-    s = strip_last 13 line
-
-    t : List ℕ
-    t = before_first (λ b. b == c) s
-
-    by_cases : (s ≡ line) ⊎ (line ≡ s ++ 13 ∷ []) → ((t ≡ s) × (after_first (λ b. b == c) s ≡ [])) ⊎ (s ≡ t ++ c ∷ after_first (λ b. b == c) s) → IsText c line t
-    by_cases (inl e) (inl none) = record { rest = []; is = sym e ∙ sym none.0 ∙ sym (append-nil t); ends = inl refl; free = before_free c s }
-    by_cases (inl e) (inr h) = record { rest = c ∷ after_first (λ b. b == c) s; is = sym e ∙ h; ends = inr (inr (after_first (λ b. b == c) s, refl)); free = before_free c s }
-    by_cases (inr e) (inl none) = record { rest = 13 ∷ []; is = e ∙ ap (λ l. l ++ 13 ∷ []) (sym none.0); ends = inr (inl refl); free = before_free c s }
-    by_cases (inr e) (inr h) = record {
-      rest = c ∷ (after_first (λ b. b == c) s ++ 13 ∷ []);
-      is = e ∙ ap (λ l. l ++ 13 ∷ []) h ∙ append_assoc t (c ∷ after_first (λ b. b == c) s) (13 ∷ []);
-      ends = inr (inr (after_first (λ b. b == c) s ++ 13 ∷ [], refl));
-      free = before_free c s;
-    }
+text_is c line = grind (arith, strip_cases, cut, append-nil, ends, before_free, append_assoc, nat_tests)
 
 -- ---- the bytes of the parts
 
@@ -282,12 +250,7 @@ number_written radix ds a w = grind arith
 writes : (v : List ℕ) (a : ℕ) → address_written v ≡ Some a → WritesAddress v a
 unfolding address_written
 writes [] a is = absurd cc
-writes (b ∷ bs) a is =
-    by_test (b == 36)
-    (λ hex. inr (inl (bs, ap (λ c. c ∷ bs) (eqb-true b 36 hex), number_writes 16 bs a (rw hex at is))))
-    (λ other_one. by_test (b == 37)
-    (λ binary. inr (inr (bs, ap (λ c. c ∷ bs) (eqb-true b 37 binary), number_writes 2 bs a (rw (other_one, binary) at is))))
-    (λ decimal. inl (number_writes 10 (b ∷ bs) a (rw (other_one, decimal) at is))))
+writes (b ∷ bs) a is = grind (arith, eqb-true, number_writes, nat_tests)
 
 digit_high : (b : ℕ) → is_digit b 10 ≡ true → 48 ≤ b
 digit_high b h = grind (arith, nat_tests, h)

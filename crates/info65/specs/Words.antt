@@ -1,7 +1,7 @@
 -- The words of clauses and proofs, here and in the crates above, from one place.
 pub use Rattle.info65.specs.Types.{Address, Attribute, BadByte, BadInclude, BadName, BadNumber, BigEndian, Character, Class, Cpu, Expected, Form, Given, GivenTwice, Group, GroupKind, InfoFault, InfoFaultKind, Instruction, LittleEndian, Missing, NameTwice, Next, Number, OpenString, OutOfRange, RangeSpec, RangeType, RangesOverlap, ReservedName, Return, SegmentSpec, SegmentsOverlap, Skipped, Span, Start, TokenKind, TooLarge, UnknownAttribute, UnknownGroup, Value}
 unfoldable pub use Rattle.info65.specs.Attributes.{attribute_named, boolean_named, form_of, group_named, type_named}
-pub use Rattle.info65.specs.Closing.{include_fault, label_fault, optional_name_fault, range_fault, segment_fault}
+pub use Rattle.info65.specs.Closing.{label_fault, optional_name_fault, range_fault, segment_fault}
 unfoldable pub use Rattle.info65.specs.Closing.{closing_fault}
 pub use Rattle.info65.specs.Code.Classes.{bit_of}
 unfoldable pub use Rattle.info65.specs.Code.Classes.{classes_of}
@@ -17,8 +17,8 @@ pub use Rattle.info65.specs.Code.Numbers.{IsSet, NumbersView, SamePages}
 pub use Rattle.info65.specs.Code.Pool.{AreAbove, AreBlocks, IsPool, IsWithin, ReachTo, blank_entry, bytes_of, entry_covers, entry_seen, optional, reach_of, span_of}
 unfoldable pub use Rattle.info65.specs.Code.Pool.{block_start}
 pub use Rattle.info65.specs.Code.Reading.{Advances, Leads, Moves, ReadsGroup, TakesToken, is_semicolon, place_after}
-pub use Rattle.info65.specs.Code.Results.{Appends, Fails, Gives, MayName, Sees}
-pub use Rattle.info65.specs.Code.SegmentTable.{AreFound, AreKeys, AreStarts, IsHolder, IsKeyAt, IsOrder, IsPlace, IsRest, IsSlotted, IsSplit, IsStart, blank_start, key_by, key_found, start_at}
+pub use Rattle.info65.specs.Code.Results.{Adds, Fails, Gives, MayName, Sees}
+pub use Rattle.info65.specs.Code.SegmentTable.{AreFound, AreKeys, AreStarts, IsHolder, IsKeyAt, IsOrder, IsPlace, IsRest, IsSlotted, IsSplit, IsStart, blank_start, key_found, start_at}
 pub use Rattle.info65.specs.Code.Segments.{parts_seen, segment_seen, segments_seen}
 pub use Rattle.info65.specs.Code.Steps.{Steps, kind_seen, lexeme_seen, seen}
 pub use Rattle.info65.specs.Code.Texts.{AddsText, StandsAlike, TextsView, texts_seen}
@@ -33,10 +33,10 @@ pub use Rattle.info65.specs.Groups.{AreAllFormed, AreFormed, AssignmentView, Gro
 unfoldable pub use Rattle.info65.specs.Groups.{global_given, has, has_instead, is_given, value_in}
 pub use Rattle.info65.specs.IncludeGroups.{AreIncludes, include_from, include_part}
 unfoldable pub use Rattle.info65.specs.IncludeGroups.{has_room, include_in, includes_of}
-pub use Rattle.info65.specs.IncludeLaws.{AreDigitsOf, EndsLine, IncludesSaid, IsAssignment, IsBlankLine, IsGivenOr, IsSpelling, IsText, LinesSpelled, SaysInclude, WritesAddress}
+pub use Rattle.info65.specs.IncludeLaws.{AreDigitsOf, IncludesSaid, IsAssignment, IsBlankLine, IsGivenOr, IsSpelling, IsText, LinesSpelled, SaysInclude, WritesAddress}
 pub use Rattle.info65.specs.Includes.{after_sign, before_sign, blank_include, optional_adds, or_bad, plain_name, trimmed_end, unless_ignored, with_names}
 unfoldable pub use Rattle.info65.specs.Includes.{address_written, assignment_in, included, is_identifier, line_adds, line_in, name_adds, names_included, names_with, trimmed, without_comment}
-pub use Rattle.info65.specs.Labels.{is_at, is_elsewhere, label_from, label_sized, name_part}
+pub use Rattle.info65.specs.Labels.{is_at, is_elsewhere, label_sized, name_part}
 unfoldable pub use Rattle.info65.specs.Labels.{by_address, label_in, name_fault, named_at, names_from, names_said, range_name}
 pub use Rattle.info65.specs.Laws.{AcceptsFiles, AreOnce, GivenOnce, GlobalOnce, IsFaultless, IsOfEnd, IsOfToken, IsOnce, OverlapsShare, RangesApart, RefusesFirst, SaysRange}
 pub use Rattle.info65.specs.Layouts.{IsEntry, IsNumber, layout_of, row}

@@ -11,6 +11,7 @@ use Rattle.map65.proofs.Public.{address-at, address-count, has-role, in-run, ins
 use Rattle.map65.specs.Words.{AreOnePiece, AreOneRun, CanBegin, EndsBefore, IsFirst, IsPlaced, MapView, addresses, byte_at, end_of, full_len_at, is_border, is_in_run, is_inside, is_joined, is_own, is_skip, is_wide, item_len, opcodes, role_at, role_in, role_of}
 use Rattle.reach65.proofs.PieceLemmas.{pieces_cover}
 use Rattle.reach65.specs.Taken.{has_byte}
+use Rattle.std.proofs.lemmas.Bool.Decides.{nat_tests}
 
 -- ---- the roles of ranges after others
 
@@ -53,10 +54,7 @@ record IsInstruction (m : MapView) (a : ℕ) (op : Op) : Type 0 where
 
 whole-is : (m : MapView) (a : ℕ) (o : Option Op) (op : Op) → if_whole m a o ≡ Some op → (o ≡ Some op) × (a + len_of op.mode ≤ end_of m.image)
 whole-is m a None op is = cc
-whole-is m a (Some p) op is =
-    cond_both (nat_le (a + len_of p.mode) (end_of m.image)) (Some p) None (λ v. v ≡ Some op → (Some p ≡ Some op) × (a + len_of op.mode ≤ end_of m.image))
-    (λ fits same. let e : p ≡ op = cc in (same, subst (λ (q : Op). a + len_of q.mode ≤ end_of m.image) e (leb-true (a + len_of p.mode) (end_of m.image) fits)))
-    (λ _ none. cc) is
+whole-is m a (Some p) op is = grind (arith, cond_both, nat_le, leb-true, nat_tests)
 
 op-is : (m : MapView) (r : Option RangeType) (a : ℕ) (op : Op) → op_in m r a ≡ Some op → (r ≡ Some role.Code) × (decoded (opcodes m) (byte_at m.image a) ≡ Some op)
 op-is m (Some role.Code) a op is = (refl, is)

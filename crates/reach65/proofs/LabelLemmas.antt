@@ -1,5 +1,5 @@
 -- The addresses that get labels.
-use Rattle.std.proofs.Common.{zero, suc, ◌≡◌, ◌∙◌, ◌+◌, ◌-◌, ◌≤◌, ℕ, Bool, true, false, List, [], ◌∷◌, ◌++◌, append_assoc, ap, arith, refl, subst, sym}
+use Rattle.std.proofs.Common.{zero, suc, ◌≡◌, ◌∙◌, ◌+◌, ◌≤◌, ℕ, Bool, true, false, List, [], ◌∷◌, ◌++◌, append_assoc, ap, arith, refl, subst, sym}
 use Rattle.std.specs.Prelude.{Option, Some, None, is_none}
 use Rattle.std.specs.List.{AllByRecursion, Contains}
 use Rattle.std.proofs.lemmas.Bool.{and_from, and_parts, cases_Bool, false≢true, le-leb, lt-ltb}
@@ -44,10 +44,7 @@ labels_none p a = λ i. []
 labels-from : (p : ℕ → Bool) (a n : ℕ) → labels_from p a (n + 1) ≡ labels_from p a n ++ label_at p (a + n)
 unfolding labels_from
 labels-from p a zero = let none : a + 0 ≡ a = omega arith in rw none (append-nil (label_at p a))
-labels-from p a (suc n) =
-    let one : suc n + 1 ≡ suc (n + 1) = omega arith in
-    let at : a + suc n ≡ a + 1 + n = omega arith in
-    rw (one, at) (ap (λ l. label_at p a ++ l) (labels-from p (a + 1) n) ∙ sym (append_assoc (label_at p a) (labels_from p (a + 1) n) (label_at p (a + 1 + n))))
+labels-from p a (suc n) = grind (arith, (labels-from p (a + 1) n), append_assoc)
 
 pub labels_more : (p : ℕ → Bool) (n : ℕ) → labels_from p 0 (n + 1) ≡ labels_from p 0 n ++ label_at p n
 labels_more p n = let none : 0 + n ≡ n = omega arith in rw none at (labels-from p 0 n)

@@ -1,5 +1,5 @@
 -- The addresses of an image, one after the other.
-use Rattle.std.proofs.Common.{arith, ◌≡◌, ◌+◌, ◌||◌, ℕ, zero, suc, Bool, [], ◌∷◌, ◌++◌, ap}
+use Rattle.std.proofs.Common.{arith, ◌≡◌, ◌+◌, ◌||◌, ℕ, zero, suc, Bool, [], ◌∷◌, ◌++◌}
 use Rattle.std.specs.List.{list_any}
 use Rattle.std.proofs.lemmas.List.Folds.{list_any-append}
 use Rattle.map65.specs.Words.{addresses}
@@ -11,10 +11,7 @@ addresses_none a = λ i. []
 pub addresses_more : (k a : ℕ) → addresses (k + 1) a ≡ addresses k a ++ (a + k) ∷ []
 unfolding addresses
 addresses_more zero a = let none : a + 0 ≡ a = omega arith in rw none (λ i. a ∷ [])
-addresses_more (suc k) a =
-    let one : suc k + 1 ≡ suc (k + 1) = omega arith in
-    let at : a + suc k ≡ a + 1 + k = omega arith in
-    rw (one, at) (ap (λ l. a ∷ l) (addresses_more k (a + 1)))
+addresses_more (suc k) a = grind (arith, (addresses_more k (a + 1)))
 
 -- whether one of them passes a test
 pub any_more : (p : ℕ → Bool) (k a : ℕ) (first old new : Bool) → new ≡ (old || p (a + k)) → old ≡ (first || list_any p (addresses k a))

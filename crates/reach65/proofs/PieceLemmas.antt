@@ -1,5 +1,5 @@
 -- One piece after the other.
-use Rattle.std.proofs.Common.{All, zero, suc, ◌≡◌, ◌+◌, ◌-◌, ◌<◌, ◌≤◌, ◌∙◌, not, nat_le, ℕ, true, false, List, [], ◌∷◌, ◌++◌, append_assoc, arith, inl, inr, refl, subst, sym}
+use Rattle.std.proofs.Common.{All, zero, suc, ◌≡◌, ◌+◌, ◌-◌, ◌<◌, ◌≤◌, ◌∙◌, nat_le, ℕ, true, false, List, [], ◌∷◌, ◌++◌, append_assoc, arith, inl, inr, refl, subst, sym}
 use Rattle.std.proofs.lemmas.Bool.Decides.{nat_tests}
 use Rattle.std.proofs.lemmas.Bool.{and_left, and_parts, and_right, cases_eq, cases_lt, cond_both, le-leb, lt-leb, le-ltb, not_from_false, or_left}
 use Rattle.std.proofs.lemmas.List.{append-nil}
@@ -84,10 +84,7 @@ run_past g a past = run_none g a (past-plain g a past)
 are-run : (g : Ground) (from m n a : ℕ) → ((k : ℕ) → k < n → is_same g from (a + k) ≡ true) → is_same g from (a + n) ≡ false → are_same g from a m ≡ nat_le m n
 unfolding are_same
 are-run g from zero n a same stops = sym (le-leb 0 n (omega arith))
-are-run g from (suc m) zero a same stops =
-    let none : a + 0 ≡ a = omega arith in
-    let here : is_same g from a ≡ false = subst (λ x. is_same g from x ≡ false) none stops in
-    rw here (sym (lt-leb (suc m) 0 (omega arith)))
+are-run g from (suc m) zero a same stops = grind (arith, lt-leb, nat_tests)
 are-run g from (suc m) (suc n) a same stops =
     let none : a + 0 ≡ a = omega arith in
     let here : is_same g from a ≡ true = subst (λ x. is_same g from x ≡ true) none (same 0 (omega arith)) in

@@ -10,7 +10,7 @@ use Rattle.text65.specs.Digits.{digits4, hex_digit}
 use Rattle.info65.specs.Words.{Item, OptionsView, Spells, Stream, TokenView, a_name, a_type, an_address, attribute_name, attribute_named, closing_brace, default_name, form_of, group_name, group_named, in_class, lexeme_at, number, number_in, opening_brace, semicolon, string, string_at, tokens_after, tokens_of, type_named, value, value_of, word, word_at}
 use Rattle.info65.specs.Grammar.{mark}
 use Rattle.info65.specs.Lexemes.{number_at}
-use Rattle.reach65.specs.Words.{Alphabet, AreLines, Attribute, RangeSpec, RangeType, alphabet_of, comment_line, dots_above, in_ascii, is_line, label_line, label_lines, range_bytes, range_line, range_lines, shown_as, shown_byte, shown_bytes, shown_char, title, type_text}
+use Rattle.reach65.specs.Words.{Alphabet, AreLines, Attribute, RangeSpec, RangeType, alphabet_of, comment_line, dots_above, is_line, label_line, label_lines, range_bytes, range_line, range_lines, shown_as, shown_bytes, shown_char, title, type_text}
 use Rattle.info65.specs.declared.syntax.attribute.Attribute.TheVariants as attribute
 use Rattle.info65.specs.declared.syntax.attribute.Form.TheVariants as form
 use Rattle.info65.specs.declared.syntax.attribute.GroupKind.TheVariants as group
@@ -155,10 +155,7 @@ comment-passed line (b ∷ bs) rest is =
 
 shown-line : (t : Alphabet) (bs : List ℕ) → is_line (map (shown_char t) bs) ≡ true
 shown-line t [] = refl
-shown-line t (b ∷ bs) = rw (shown (in_ascii t b), shown-line t bs) refl
-  where
-    shown : (b : ℕ) → not (shown_byte b == 10) ≡ true
-    shown b = grind (arith, nat_tests)
+shown-line t (b ∷ bs) = grind (arith, (shown-line t bs), nat_tests)
 
 dots-line : (n : ℕ) → is_line (dots_above n) ≡ true
 dots-line n = grind arith
@@ -310,9 +307,7 @@ ranges-open o image line (r ∷ rs) rest are =
 pub comments-open : (o : OptionsView) (line : ℕ) (comments : List (List ℕ)) (rest : List ℕ) → AreLines comments → Later o [] (tokens_of line (flat_map comment_line comments ++ rest)) rest
 unfolding tokens_after
 comments-open o line [] rest are = record { line = line; opens = opens-none o (tokens_of line rest) }
-comments-open o line (c ∷ cs) rest are =
-    let more = comments-open o (line + 1) cs rest are.1 in
-    rw (append_assoc c (10 ∷ []) (flat_map comment_line cs), append_assoc c (10 ∷ flat_map comment_line cs) rest, comment-passed line c (flat_map comment_line cs ++ rest) are.0) more
+comments-open o line (c ∷ cs) rest are = grind (arith, (comments-open o (line + 1) cs rest are.1), append_assoc, comment-passed)
 
 pub labels-open : (o : OptionsView) (line : ℕ) (labels : List ℕ) (rest : List ℕ) → AllByRecursion (λ a. a ≤ 0xFFFF) labels → Later o (label_items labels) (tokens_of line (label_lines labels ++ rest)) rest
 unfolding label_lines

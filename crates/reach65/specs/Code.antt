@@ -1,6 +1,6 @@
 -- what the code computes beside the definitions
 pub mod Searching
-pub mod Appending
+pub mod Returned
 pub mod Apart
 pub mod Growing
 pub mod Surveying

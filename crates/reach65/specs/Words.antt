@@ -1,7 +1,7 @@
 -- The words of clauses and proofs, here and in the crates above, from one place.
 pub use Rattle.reach65.specs.Types.{Abs, Alphabet, Imm, M6502, Mode, Op, Pair, RangeSpec, RangeType, Tag, Tail, Tails, Zp}
 pub use Rattle.reach65.specs.Code.Apart.{is_after, is_before, len_at, op_len}
-pub use Rattle.reach65.specs.Code.Appending.{Puts, Returns, ReturnsMarks}
+pub use Rattle.reach65.specs.Code.Returned.{Returns, ReturnsMarks}
 pub use Rattle.reach65.specs.Code.Cutting.{AreLens, AreTails, IsRun, IsTail, NoneIn, is_of, tail_len, tails_len}
 unfoldable pub use Rattle.reach65.specs.Code.Cutting.{no_lens}
 pub use Rattle.reach65.specs.Code.Growing.{HasPair, IsGrown, extent_of}

@@ -2,8 +2,9 @@
 
 ghost use Rattle.std.specs.Prelude.{◌≡◌, ◌+◌, ◌<◌, ◌≤◌, ℕ, length};
 ghost use Rattle.std.specs.Option.{option_to_list};
+ghost use Rattle.info65.specs.Words.{Adds};
 ghost use Rattle.map65.specs.Words.{MapView, end_of};
-ghost use Rattle.reach65.specs.Words.{Puts, Returns, code_start, code_starts, entries_of, entries_with, has_vectors, plain_entries_of, pointer_at, pointer_for, pointers, vectors, word_at};
+ghost use Rattle.reach65.specs.Words.{Returns, code_start, code_starts, entries_of, entries_with, has_vectors, plain_entries_of, pointer_at, pointer_for, pointers, vectors, word_at};
 
 use crate::flow::{byte_at, bytes_from};
 use info65::{Entry, RangeSpec, RangeType};
@@ -12,7 +13,7 @@ use std::alloc::{AllocError, Allocator};
 
 /// Adds an address, if there is one.
 fn put_some<A: Allocator>(found: &mut Vec<u16, A>, address: Option<u16>) -> Result<(), AllocError>
-    ensures { Puts result found.old found.new (option_to_list address) }
+    ensures { Adds result found.old found.new (option_to_list address) }
 {
     if let Some(address) = address {
         found.push(address)?;
@@ -86,7 +87,7 @@ fn put_code_starts<A: Allocator>(
     found: &mut Vec<u16, A>,
     ranges: &[RangeSpec],
 ) -> Result<(), AllocError>
-    ensures { Puts result found.old found.new (code_starts ranges.now) }
+    ensures { Adds result found.old found.new (code_starts ranges.now) }
 {
     'starts: for &range in ranges {
         put_some(found, code_start(range))?;
@@ -119,7 +120,7 @@ fn put_vectors<A: Allocator, B: Allocator>(
     found: &mut Vec<u16, A>,
     image: &Image<B>,
 ) -> Result<(), AllocError>
-    ensures { Puts result found.old found.new (vectors image.now) }
+    ensures { Adds result found.old found.new (vectors image.now) }
 {
     if has_vectors(image) {
         found.push(word_at(image, 0xFFFA))?;

@@ -2,7 +2,8 @@
 
 ghost use Rattle.std.specs.Prelude.{[], ◌≡◌, ◌==◌, ◌<◌, IfOk, length};
 ghost use Rattle.std.specs.List.{list_any};
-ghost use Rattle.reach65.specs.Words.{AreNewLabels, Marks, Puts, Returns, is_formed, is_unnamed, is_wanted, label_at, labels_from, labels_of};
+ghost use Rattle.info65.specs.Words.{Adds};
+ghost use Rattle.reach65.specs.Words.{AreNewLabels, Marks, Returns, is_formed, is_unnamed, is_wanted, label_at, labels_from, labels_of};
 
 use crate::marks::{blank_marks, mark_some};
 use crate::pairs::Pair;
@@ -64,7 +65,7 @@ fn put_unnamed<A: Allocator, B: Allocator>(
 ) -> Result<(), AllocError>
     requires count { length marks.now ≡ 65536 }
     requires low { at < 65536 }
-    ensures { Puts result found.old found.new (label_at (is_unnamed info.now.names marks.now) at) }
+    ensures { Adds result found.old found.new (label_at (is_unnamed info.now.names marks.now) at) }
 {
     if is_unnamed(info, marks, at) {
         found.push(at as u16)?;

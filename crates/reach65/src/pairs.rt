@@ -2,8 +2,9 @@
 
 ghost use Rattle.std.specs.Prelude.{◌≡◌, ◌+◌, ◌<◌, ◌≤◌, ◌==◌, IfSome, IsTrue, length};
 ghost use Rattle.isa65.specs.Words.{len_of};
+ghost use Rattle.info65.specs.Words.{Adds};
 ghost use Rattle.map65.specs.Words.{end_of, is_inside};
-ghost use Rattle.reach65.specs.Words.{Puts, Returns, by_again, by_loads, by_places, by_stores, is_near, load_at, loaded, operand_address, pairs_at, pairs_of, rank_of, reached_op, store_at, stored};
+ghost use Rattle.reach65.specs.Words.{Returns, by_again, by_loads, by_places, by_stores, is_near, load_at, loaded, operand_address, pairs_at, pairs_of, rank_of, reached_op, store_at, stored};
 ghost use Rattle.reach65.specs.Pairs.{joined};
 
 use crate::flow::{Flow, byte_at, bytes_from, start_and_len};
@@ -155,7 +156,7 @@ fn put_joined<A: Allocator, B: Allocator>(
 ) -> Result<(), AllocError>
     requires low { IsTrue (is_inside image.now low) }
     requires high { IsTrue (is_inside image.now high) }
-    ensures { Puts result found.old found.new (joined image.now rank low high) }
+    ensures { Adds result found.old found.new (joined image.now rank low high) }
 {
     let address = usize::from(byte_at(image, low)) + 256 * usize::from(byte_at(image, high));
     if is_near(image, address) {
@@ -194,7 +195,7 @@ fn put_by_loads<A: Allocator, B: Allocator>(
     requires low { image.now.start ≤ address }
     requires room { address < 65536 }
     requires whole { IfSome second (λ _. address + 4 ≤ end_of image.now) }
-    ensures { Puts result found.old found.new (by_loads image.now address first second) }
+    ensures { Adds result found.old found.new (by_loads image.now address first second) }
 {
     let Some(second) = second else {
         return Ok(());
@@ -230,7 +231,7 @@ fn put_by_places<A: Allocator, B: Allocator>(
 ) -> Result<(), AllocError>
     requires one { IsTrue (is_inside image.now one) }
     requires other { IsTrue (is_inside image.now other) }
-    ensures { Puts result found.old found.new (by_places image.now one other to then_to) }
+    ensures { Adds result found.old found.new (by_places image.now one other to then_to) }
 {
     if usize::from(then_to) == usize::from(to) + 1 {
         put_joined(found, image, 0, one, other)
@@ -254,7 +255,7 @@ fn put_by_again<A: Allocator, B: Allocator>(
     requires after { address < first.next }
     requires room { first.next ≤ 65536 }
     requires whole { IfSome load (λ _. first.next + 2 ≤ end_of image.now) }
-    ensures { Puts result found.old found.new (by_again image.now address first load store) }
+    ensures { Adds result found.old found.new (by_again image.now address first load store) }
 {
     let Some(register) = load else {
         return Ok(());
@@ -289,7 +290,7 @@ fn put_by_stores<A: Allocator, B: Allocator>(
     requires low { flow.now.map.image.start ≤ address }
     requires after { IfSome store (λ s. address < s.next) }
     requires room { IfSome store (λ s. s.next ≤ 65536) }
-    ensures { Puts result found.old found.new (by_stores flow.now.map reached.now address register store) }
+    ensures { Adds result found.old found.new (by_stores flow.now.map reached.now address register store) }
 {
     let Some(first) = store else {
         return Ok(());
@@ -312,7 +313,7 @@ pub fn put_pairs_at<A: Allocator, B: Allocator>(
 ) -> Result<(), AllocError>
     requires count { length reached.now ≡ 65536 }
     requires room { address < 65536 }
-    ensures { Puts result found.old found.new (pairs_at flow.now.map reached.now address) }
+    ensures { Adds result found.old found.new (pairs_at flow.now.map reached.now address) }
 {
     let Some(register) = load_at(flow, reached, address) else {
         return Ok(());

@@ -350,11 +350,7 @@ bytes-state all s (Some source) h =
 coded-held : (all : List Definition) (n : ℕ) (s : State) (ls : List (Option SourceLine)) → held_coded (map held_definition all) n (held_state s) ls ≡ coded all n s ls
 unfolding held_coded coded
 coded-held all n s [] = refl
-coded-held all n s (l ∷ ls) =
-    let same = fault-all all (held_state s) l ∙ fault-state all s l in
-    by_option (fault_of all s l)
-    (λ k e. rw (same, e) refl)
-    (λ e. rw (same, e, bytes-all all (held_state s) l, bytes-state all s l (sym e), after-held s l, coded-held all (n + 1) (after s l) ls) refl)
+coded-held all n s (l ∷ ls) = grind (arith, (coded-held all (n + 1) (after s l) ls), fault-all, fault-state, by_option, bytes-all, bytes-state, after-held)
 
 pub meaning_held : (l : Language) (layout : Layout) (start : ℕ) (text : List ℕ) → start < 65536
     → held_coded (held_final (initial layout start) (readings l text)).above 1 (initial layout start) (readings l text) ≡ meaning_in l layout start text

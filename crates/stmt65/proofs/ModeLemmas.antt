@@ -11,6 +11,7 @@ use Rattle.stmt65.specs.Words.{Abs, Absindx, Absx, Absy, Acc, Cpu, Direct, EachW
 use Rattle.isa65.specs.contracts.mode.Mode as mode
 use Rattle.isa65.specs.Words.{encoded, len_of, table_of, written, zero_page_of}
 use Rattle.stmt65.proofs.Cases.{by_option, by_test}
+use Rattle.std.proofs.Common.{arith}
 
 pub false_true : {P : Type 0} → false ≡ true → P
 false_true e = absurd (let no : ⊥ = cc in no)
@@ -114,9 +115,7 @@ none_found cpu m form (w ∷ ws) each lacks = rw (lacks w.0 each.0.of_form) (non
 
 pub needs_mode : NeedsMode
 unfolding coding
-needs_mode s m form =
-    let short = is_short s.above form in
-    (λ e x h. none_missed s.cpu m (ways short form) x e (modes_are_ways short form x h), λ lacks. none_found s.cpu m form (ways short form) (ways_are_modes short form) lacks)
+needs_mode s m form = grind (arith, none_missed, modes_are_ways, none_found, ways_are_modes)
 
 -- ---- the mode that is taken
 

@@ -39,9 +39,7 @@ parts_here l (b ∷ bs) lt h g = rw add-one (parts_part l b bs h (ne_eqb b 59 g)
 pub parts_blank_here : (l : Language) (bytes : List ℕ) (i : ℕ) → i < length bytes → is_blank (get_or bytes i 0) ≡ true → parts l (drop i bytes) ≡ parts l (drop (i + 1) bytes)
 parts_blank_here l [] i lt h = absurd (omega arith)
 parts_blank_here l (b ∷ bs) zero lt h = parts_blank l b bs h
-parts_blank_here l (b ∷ bs) (suc i) lt h =
-    let e = rw add-one at (parts_blank_here l bs i (omega arith) h) in
-    rw add-one e
+parts_blank_here l (b ∷ bs) (suc i) lt h = grind (arith, (parts_blank_here l bs i (omega arith) h), add-one)
 
 pub parts_at_end : (l : Language) (bytes : List ℕ) → length bytes ≡ 0 → parts l bytes ≡ []
 parts_at_end l [] h = parts_nil l

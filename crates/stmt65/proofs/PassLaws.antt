@@ -25,9 +25,7 @@ layout-after s (Some source) = refl
 final_above : (s : State) (rs : List (Option SourceLine)) → (more : List Definition) × ((held_final s rs).above ≡ s.above ++ more)
 unfolding held_final
 final_above s [] = ([], sym (append-nil s.above))
-final_above s (r ∷ rs) =
-    let ih = final_above (held_after s r) rs in
-    (defined_in s r ++ ih.0, ih.1 ∙ ap (λ (ds : List Definition). ds ++ ih.0) (held_above s r) ∙ append_assoc s.above (defined_in s r) ih.0)
+final_above s (r ∷ rs) = grind (arith, (final_above (held_after s r) rs), held_above, append_assoc)
 
 -- ---- a line whose names all stand above it means the same by all names
 
@@ -118,19 +116,14 @@ late_more : {A : Type 0} (all : List Definition) (layout : Layout) (ls : List (L
     → coded_late all layout ls (settled ++ bytes) rest ≡ coded_late all layout ls settled (with_front bytes rest)
 unfolding coded_late fronts
 late_more all layout [] settled bytes rest h = sym (front-front settled bytes rest)
-late_more all layout (l ∷ ls) settled bytes rest h =
-    let fits : l.front ≤ length settled = omega arith in
-    let ih = late_more all layout ls (drop l.front settled) bytes rest (omega (arith, length-drop l.front settled)) in
-    rw (take-append-le l.front settled bytes fits, drop-append-le l.front settled bytes fits, ih) refl
+late_more all layout (l ∷ ls) settled bytes rest h = grind (arith, (late_more all layout ls (drop l.front settled) bytes rest (omega (arith, length-drop l.front settled))), length-drop, take-append-le, drop-append-le)
 
 -- one more of them
 late_push : {A : Type 0} (all : List Definition) (layout : Layout) (ls : List (Late A)) (l : Late A) (settled : List ℕ) (rest : Result (List ℕ) AsmFault) → fronts ls + l.front ≡ length settled
     → coded_late all layout (ls ++ l ∷ []) settled rest ≡ coded_late all layout ls settled (unless l.number (fault_of all (late_state all layout l) (Some (source_of l.source))) (with_front (bytes_of all (late_state all layout l) (Some (source_of l.source))) rest))
 unfolding coded_late fronts
 late_push all layout [] l settled rest h = grind (arith, take_all, drop_all, front-nil)
-late_push all layout (k ∷ ls) l settled rest h =
-    let fits : k.front ≤ length settled = omega arith in
-    rw (late_push all layout ls l (drop k.front settled) rest (omega (arith, length-drop k.front settled))) refl
+late_push all layout (k ∷ ls) l settled rest h = grind (arith, (late_push all layout ls l (drop k.front settled) rest (omega (arith, length-drop k.front settled))), length-drop)
 
 -- where a fault is below them, no bytes matter
 late_fault : {A : Type 0} (all : List Definition) (layout : Layout) (ls : List (Late A)) (fault : AsmFault) → (e : AsmFault) × ((settled : List ℕ) → coded_late all layout ls settled (Err fault) ≡ Err e)
@@ -255,9 +248,7 @@ late_at : {A : Type 0} (all : List Definition) (layout : Layout) (ls : List (Lat
     → with_front out (coded_late all layout (drop i ls) settled rest) ≡ total
     → with_front (out ++ take l.front settled) (unless l.number (fault_of all (late_state all layout l) (Some (source_of l.source))) (with_front (bytes_of all (late_state all layout l) (Some (source_of l.source))) (coded_late all layout (drop (i + 1) ls) (drop l.front settled) rest))) ≡ total
 unfolding coded_late
-late_at {A = A} all layout ls i l settled out rest total inside is h =
-    let cut : drop i ls ≡ l ∷ drop (i + 1) ls = drop_more ls i l inside ∙ ap (λ (k : Late A). k ∷ drop (i + 1) ls) (sym is) in
-    sym (front-front out (take l.front settled) _) ∙ (rw cut at h)
+late_at {A = A} all layout ls i l settled out rest total inside is h = grind (arith, drop_more, front-front)
 
 pub late_faulty : {A : Type 0} (all : List Definition) (layout : Layout) (ls : List (Late A)) (i : ℕ) (l : Late A) (settled out old new : List ℕ) (rest total : Result (List ℕ) AsmFault) (kind : AsmFaultKind) → i < length ls → l ≡ get_or ls i l
     → with_front out (coded_late all layout (drop i ls) settled rest) ≡ total → Codes (Some kind) all (late_state all layout l) (source_of l.source) old new → total ≡ Err (record { line = l.number; kind = kind })

@@ -171,9 +171,7 @@ unfolding joined
 joined_again Is read again [] most ps h le = absurd h
 joined_again Is read again (x ∷ []) most ps h le = rw (sym (append-nil ps)) (rw (again x ps [] h stops_nil) refl)
 joined_again Is read again (x ∷ y ∷ ys) zero ps h le = absurd (omega (arith, ap length h.2, length-append h.0 (Mark 44 ∷ h.1)))
-joined_again Is read again (x ∷ y ∷ ys) (suc most) ps h le =
-    let r = joined_again Is read again (y ∷ ys) most h.1 h.4 (omega (arith, ap length h.2, length-append h.0 (Mark 44 ∷ h.1))) in
-    rw h.2 (rw (again x h.0 (Mark 44 ∷ h.1) h.3 (stops_mark 44 h.1 refl refl)) (rw r refl))
+joined_again Is read again (x ∷ y ∷ ys) (suc most) ps h le = grind (arith, (joined_again Is read again (y ∷ ys) most h.1 h.4 (omega (arith, ap length h.2, length-append h.0 (Mark 44 ∷ h.1)))), length-append, stops_mark)
 
 -- ---- operations and lines
 

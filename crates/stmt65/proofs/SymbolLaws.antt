@@ -1,7 +1,7 @@
 -- The table of names keeps its index.
 use Rattle.std.proofs.Common.{◌≡◌, ℕ, zero, suc, Bool, true, false, cond, ◌+◌, ◌<◌, ◌≤◌, List, [], ◌∷◌, ◌++◌, length, map, take, Option, Some, None, refl, sym, ap, ◌∙◌, arith, length-append, Bor}
 use Rattle.std.specs.Prelude.{is_some}
-use Rattle.std.specs.Option.{option_map, option_or}
+use Rattle.std.specs.Option.{option_or}
 use Rattle.std.specs.List.{slice_get}
 use Rattle.std.specs.Str.{bytes_eq}
 use Rattle.std.specs.BTreeMap.{BTreeMap, get}
@@ -67,9 +67,7 @@ pub ruleset finds = (find_within, find_past, find_none)
 pub next_taken : (ds : List Definition) (n : ℕ) (d : Definition) → slice_get ds n ≡ Some d → take (n + 1) ds ≡ take n ds ++ d ∷ []
 next_taken [] n d e = absurd cc
 next_taken (x ∷ ds) zero d e = cc
-next_taken (x ∷ ds) (suc n) d e =
-    let more : suc n + 1 ≡ suc (n + 1) = omega arith in
-    rw more (ap (λ (l : List Definition). x ∷ l) (next_taken ds n d e))
+next_taken (x ∷ ds) (suc n) d e = grind (arith, (next_taken ds n d e))
 
 abbrev or_here : Option ℕ → Bool → ℕ → Option ℕ
 or_here None named n = cond named (Some n) None
@@ -78,14 +76,7 @@ or_here (Some i) named n = Some i
 first_at-push : (q : List ℕ) (ds : List Definition) (d : Definition) → first_at q (ds ++ d ∷ []) ≡ or_here (first_at q ds) (bytes_eq d.name q) (length ds)
 unfolding first_at
 first_at-push q [] d = refl
-first_at-push q (x ∷ ds) d = go (bytes_eq x.name q) (first_at q ds) (bytes_eq d.name q) (first_at-push q ds d)
-  where
-    go : (b : Bool) (o : Option ℕ) (c : Bool) → first_at q (ds ++ d ∷ []) ≡ or_here o c (length ds)
-        → cond b (Some 0) (option_map suc (first_at q (ds ++ d ∷ []))) ≡ or_here (cond b (Some 0) (option_map suc o)) c (suc (length ds))
-    go true o c e = refl
-    go false None true e = rw e refl
-    go false None false e = rw e refl
-    go false (Some i) c e = rw e refl
+first_at-push q (x ∷ ds) d = grind (arith, (first_at-push q ds d))
 
 slice_get-front : (ds : List CodeDefinition) (d : CodeDefinition) (i : ℕ) → i < length ds → slice_get (ds ++ d ∷ []) i ≡ slice_get ds i
 slice_get-front [] d i h = absurd (omega arith)

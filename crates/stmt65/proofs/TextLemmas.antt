@@ -85,10 +85,7 @@ means_from all n s (l ∷ ls) = go (fault_of all s l) refl (coded all (n + 1) (a
 bytes-coded : (all : List Definition) (n : ℕ) (s : State) (ls : List (Option SourceLine)) → All (IsFaultless all) (lines_below s ls) → coded all n s ls ≡ Ok (flat_map (line_bytes all) (lines_below s ls))
 unfolding coded lines_below
 bytes-coded all n s [] h = refl
-bytes-coded all n s (l ∷ ls) h =
-    let here = All-head (IsFaultless all) (record { state = s; says = l }) (lines_below (after s l) ls) h in
-    let ih = bytes-coded all (n + 1) (after s l) ls (All-tail (IsFaultless all) (record { state = s; says = l }) (lines_below (after s l) ls) h) in
-    rw (here, ih) refl
+bytes-coded all n s (l ∷ ls) h = grind (arith, (bytes-coded all (n + 1) (after s l) ls (All-tail (IsFaultless all) (record { state = s; says = l }) (lines_below (after s l) ls) h)), All-head, All-tail)
 
 pub means_bytes : MeansBytes
 unfolding meaning_of

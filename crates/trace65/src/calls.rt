@@ -74,7 +74,7 @@ fn are_many(failing: usize, calls: usize) -> bool
     0 < failing && calls <= 2 * failing
 }
 
-/// Appends the comment of a routine.
+/// Adds the comment of a routine.
 fn put_call(out: &mut Vec<u8>, failing: usize, calls: usize, routine: u16) -> Result<(), AllocError>
     ensures { PutsLine result out.old out.new (call_comment failing calls routine) }
 {
@@ -84,7 +84,7 @@ fn put_call(out: &mut Vec<u8>, failing: usize, calls: usize, routine: u16) -> Re
     out.extend_from_slice(b" does not decode: INLINE?\n")
 }
 
-/// Appends it, if it is likely and the file does not say it.
+/// Adds it, if it is likely and the file does not say it.
 #[tactic(auto, unfolding(crate::specs::Likely::comments_of_calls))]
 fn put_if_many(
     out: &mut Vec<u8>,
@@ -186,7 +186,7 @@ impl Calls {
         Ok(calls)
     }
 
-    /// Appends the comment of an address.
+    /// Adds the comment of an address.
     fn put(&self, out: &mut Vec<u8>, tags: &[Tag], address: u16) -> Result<(), AllocError>
         requires { get_or self.now.failing address 0 < 65537 }
         ensures { PutsLines result out.old out.new (comments_at tags.now self.now address) }
@@ -202,7 +202,7 @@ impl Calls {
     }
 }
 
-/// Appends a comment for each routine of the image after whose calls nothing decodes most often, unless a group INLINE of the file has it.
+/// Adds a comment for each routine of the image after whose calls nothing decodes most often, unless a group INLINE of the file has it.
 #[tactic(auto, unfolding(crate::specs::Likely::call_comments), using(crate::proofs::LikelyLemmas::comments_more, crate::proofs::LikelyLemmas::few_counted))]
 pub fn put_calls(
     out: &mut Vec<u8>,

@@ -38,7 +38,7 @@ fn has_two_bytes(word: u16) -> bool
     word / 256 != word % 256
 }
 
-/// Appends the comment of the word at an address.
+/// Adds the comment of the word at an address.
 fn put_word(out: &mut Vec<u8>, map: &Map<'_>, address: u16, word: u16) -> Result<(), AllocError>
     ensures { PutsLine result out.old out.new (word_comment map.now address word) }
 {
@@ -48,7 +48,7 @@ fn put_word(out: &mut Vec<u8>, map: &Map<'_>, address: u16, word: u16) -> Result
     out.extend_from_slice(b": AddrTable?\n")
 }
 
-/// Appends the comment of the word at an address, if there is one and it is likely an address.
+/// Adds the comment of the word at an address, if there is one and it is likely an address.
 fn put_likely(
     out: &mut Vec<u8>,
     map: &Map<'_>,
@@ -67,7 +67,7 @@ fn put_likely(
     Ok(())
 }
 
-/// Appends a comment for each word that is likely an address: nothing speaks for its bytes, and these marks of words that are addresses,
+/// Adds a comment for each word that is likely an address: nothing speaks for its bytes, and these marks of words that are addresses,
 /// or less one, are not set there.
 #[tactic(auto, unfolding(crate::specs::Likely::word_comments), using(crate::proofs::LikelyLemmas::comments_more, reach65::specs::Pieces::ground_with))]
 pub fn put_words(

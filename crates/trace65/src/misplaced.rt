@@ -48,7 +48,7 @@ fn holder_of(flow: &Flow<'_, '_>, reached: &[bool], address: u16) -> Option<u16>
     None
 }
 
-/// Appends the comment of an entry outside the image.
+/// Adds the comment of an entry outside the image.
 #[tactic(auto, unfolding(crate::specs::Misplaced::outside_comment))]
 fn put_outside(out: &mut Vec<u8>, entry: u16) -> Result<(), AllocError>
     ensures { PutsLine result out.old out.new (outside_comment entry) }
@@ -57,7 +57,7 @@ fn put_outside(out: &mut Vec<u8>, entry: u16) -> Result<(), AllocError>
     out.extend_from_slice(b" is outside the image\n")
 }
 
-/// Appends the comment of an entry inside the instruction that begins at an address.
+/// Adds the comment of an entry inside the instruction that begins at an address.
 #[tactic(auto, unfolding(crate::specs::Misplaced::inside_comment))]
 fn put_inside(out: &mut Vec<u8>, entry: u16, first: u16) -> Result<(), AllocError>
     ensures { PutsLine result out.old out.new (inside_comment entry first) }
@@ -67,7 +67,7 @@ fn put_inside(out: &mut Vec<u8>, entry: u16, first: u16) -> Result<(), AllocErro
     out.extend_from_slice(b"\n")
 }
 
-/// Appends the comment of an entry, unless it counts.
+/// Adds the comment of an entry, unless it counts.
 #[tactic(auto, unfolding(crate::specs::Misplaced::entry_comments))]
 fn put_entry(
     out: &mut Vec<u8>,
@@ -87,7 +87,7 @@ fn put_entry(
     }
 }
 
-/// Appends the comments of entries.
+/// Adds the comments of entries.
 fn put_entries(
     out: &mut Vec<u8>,
     flow: &Flow<'_, '_>,
@@ -112,7 +112,7 @@ fn is_outside(image: &Image, range: RangeSpec) -> bool
     range.last < image.start() || end <= usize::from(range.first)
 }
 
-/// Appends the comment of a range outside the image.
+/// Adds the comment of a range outside the image.
 #[tactic(auto, unfolding(crate::specs::Misplaced::range_comment))]
 fn put_range_outside(out: &mut Vec<u8>, range: RangeSpec) -> Result<(), AllocError>
     ensures { PutsLine result out.old out.new (range_comment range) }
@@ -122,7 +122,7 @@ fn put_range_outside(out: &mut Vec<u8>, range: RangeSpec) -> Result<(), AllocErr
     out.extend_from_slice(b" is outside the image\n")
 }
 
-/// Appends the comment of a range, if it lies outside the image.
+/// Adds the comment of a range, if it lies outside the image.
 #[tactic(auto, unfolding(crate::specs::Misplaced::range_comments))]
 fn put_range(out: &mut Vec<u8>, image: &Image, range: RangeSpec) -> Result<(), AllocError>
     ensures { PutsLines result out.old out.new (range_comments image.now range) }
@@ -133,7 +133,7 @@ fn put_range(out: &mut Vec<u8>, image: &Image, range: RangeSpec) -> Result<(), A
     Ok(())
 }
 
-/// Appends the comments of ranges.
+/// Adds the comments of ranges.
 fn put_ranges(out: &mut Vec<u8>, image: &Image, ranges: &[RangeSpec]) -> Result<(), AllocError>
     ensures { PutsLines result out.old out.new (for_ranges image.now ranges.now) }
 {
@@ -143,7 +143,7 @@ fn put_ranges(out: &mut Vec<u8>, image: &Image, ranges: &[RangeSpec]) -> Result<
     Ok(())
 }
 
-/// Appends a comment for each of these entries and each range of the information file that counts for nothing.
+/// Adds a comment for each of these entries and each range of the information file that counts for nothing.
 pub fn put_misplaced(
     out: &mut Vec<u8>,
     flow: &Flow<'_, '_>,

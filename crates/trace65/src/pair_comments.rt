@@ -2,8 +2,7 @@
 
 ghost use Rattle.std.specs.Prelude.{◌≡◌, option_map};
 ghost use Rattle.std.specs.List.{fold};
-ghost use Rattle.info65.specs.Words.{given_seen};
-ghost use Rattle.reach65.specs.Words.{Puts};
+ghost use Rattle.info65.specs.Words.{Adds, given_seen};
 ghost use Rattle.trace65.specs.Words.{PutsLine, PutsLines, after_comments, greater, last_wanted, name_text, new_after, offset_text, pair_comment, pair_comments};
 
 use crate::said::has_after;
@@ -13,10 +12,10 @@ use map65::{Image, Map};
 use reach65::Pair;
 use std::alloc::AllocError;
 
-/// Appends how far an address lies after that of its name.
+/// Adds how far an address lies after that of its name.
 #[tactic(auto, unfolding(crate::specs::PairComments::offset_text))]
 fn put_offset(out: &mut Vec<u8>, offset: u16) -> Result<(), AllocError>
-    ensures { Puts result out.old out.new (offset_text offset) }
+    ensures { Adds result out.old out.new (offset_text offset) }
 {
     if offset == 0 {
         return Ok(());
@@ -24,10 +23,10 @@ fn put_offset(out: &mut Vec<u8>, offset: u16) -> Result<(), AllocError>
     put_decimal(out, b"+", usize::from(offset))
 }
 
-/// Appends the name of an address, if it has one.
+/// Adds the name of an address, if it has one.
 #[tactic(auto, unfolding(crate::specs::PairComments::name_text))]
 pub fn put_name(out: &mut Vec<u8>, name: Option<Given<'_>>, address: u16) -> Result<(), AllocError>
-    ensures { Puts result out.old out.new (name_text (option_map given_seen name.entry) address) }
+    ensures { Adds result out.old out.new (name_text (option_map given_seen name.entry) address) }
 {
     let Some(name) = name else {
         return Ok(());
@@ -37,7 +36,7 @@ pub fn put_name(out: &mut Vec<u8>, name: Option<Given<'_>>, address: u16) -> Res
     put_offset(out, address.saturating_sub(name.address))
 }
 
-/// Appends the comment of a pair.
+/// Adds the comment of a pair.
 #[tactic(auto, unfolding(crate::specs::PairComments::pair_comment))]
 fn put_pair(out: &mut Vec<u8>, map: &Map<'_>, pair: Pair) -> Result<(), AllocError>
     ensures { PutsLine result out.old out.new (pair_comment map.now pair) }
@@ -49,7 +48,7 @@ fn put_pair(out: &mut Vec<u8>, map: &Map<'_>, pair: Pair) -> Result<(), AllocErr
     out.extend_from_slice(b"\n")
 }
 
-/// Appends a comment for each pair.
+/// Adds a comment for each pair.
 pub fn put_pairs(out: &mut Vec<u8>, map: &Map<'_>, pairs: &[Pair]) -> Result<(), AllocError>
     ensures { PutsLines result out.old out.new (pair_comments map.now pairs.now) }
 {
@@ -92,7 +91,7 @@ fn last_wanted(pairs: &[Pair], variables: &[u16]) -> u16
     last_formed(last_of(0, variables), pairs)
 }
 
-/// Appends the line of what lies after the image, up to an address, if that lies there.
+/// Adds the line of what lies after the image, up to an address, if that lies there.
 #[tactic(auto, unfolding(crate::specs::PairComments::after_comments))]
 fn put_after_to(out: &mut Vec<u8>, image: &Image, last: u16) -> Result<(), AllocError>
     ensures { PutsLines result out.old out.new (after_comments image.now last) }
@@ -106,7 +105,7 @@ fn put_after_to(out: &mut Vec<u8>, image: &Image, last: u16) -> Result<(), Alloc
     out.extend_from_slice(b"; };\n")
 }
 
-/// Appends the line of what lies after the image, up to the greatest address of the pairs and the variables, if one lies there, and unless the
+/// Adds the line of what lies after the image, up to the greatest address of the pairs and the variables, if one lies there, and unless the
 /// file says it.
 #[tactic(auto, unfolding(crate::specs::PairComments::new_after))]
 pub fn put_after(

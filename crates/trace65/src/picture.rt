@@ -2,7 +2,7 @@
 
 ghost use Rattle.std.specs.Prelude.{◌≡◌, ◌+◌, ◌/◌, ◌≤◌, length};
 ghost use Rattle.std.specs.List.{list_all, list_any};
-ghost use Rattle.reach65.specs.Words.{Puts};
+ghost use Rattle.info65.specs.Words.{Adds};
 ghost use Rattle.trace65.specs.Words.{PutsLine, PutsLines, cell_character, cells, counts_comment, image_marks, picture_comments, row_comment, set_count};
 
 use crate::part::part;
@@ -52,10 +52,10 @@ fn cell_character(code: &[bool], taken: &[bool]) -> u8
     }
 }
 
-/// Appends the characters of a line.
+/// Adds the characters of a line.
 fn put_cells(out: &mut Vec<u8>, code: &[bool], taken: &[bool]) -> Result<(), AllocError>
     requires { length code.now ≤ 65536 }
-    ensures { Puts result out.old out.new (cells code.now taken.now) }
+    ensures { Adds result out.old out.new (cells code.now taken.now) }
 {
     'cells: for k in 0..(code.len() + (CELL - 1)) / CELL {
         let at = CELL * k;
@@ -64,7 +64,7 @@ fn put_cells(out: &mut Vec<u8>, code: &[bool], taken: &[bool]) -> Result<(), All
     Ok(())
 }
 
-/// Appends the line of these bytes, the first of them at the address.
+/// Adds the line of these bytes, the first of them at the address.
 #[tactic(auto, unfolding(crate::specs::Picture::row_comment))]
 fn put_row(out: &mut Vec<u8>, address: u16, code: &[bool], taken: &[bool]) -> Result<(), AllocError>
     requires { length code.now ≤ 65536 }
@@ -76,7 +76,7 @@ fn put_row(out: &mut Vec<u8>, address: u16, code: &[bool], taken: &[bool]) -> Re
     out.extend_from_slice(b"\n")
 }
 
-/// Appends a picture of the bytes that have these marks, the first of them at the start.
+/// Adds a picture of the bytes that have these marks, the first of them at the start.
 #[tactic(auto, unfolding(crate::specs::Picture::picture_comments))]
 pub fn put_picture(
     out: &mut Vec<u8>,
@@ -109,7 +109,7 @@ fn set_count(marks: &[bool]) -> usize
     count
 }
 
-/// Appends the counts of the bytes that have these marks.
+/// Adds the counts of the bytes that have these marks.
 #[tactic(auto, unfolding(crate::specs::Picture::counts_comment))]
 pub fn put_counts(out: &mut Vec<u8>, code: &[bool], taken: &[bool]) -> Result<(), AllocError>
     ensures { PutsLine result out.old out.new (counts_comment code.now taken.now) }

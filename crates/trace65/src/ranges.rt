@@ -1,7 +1,8 @@
 //! The lines of the ranges that are proposed.
 
 ghost use Rattle.std.specs.Prelude.{◌≡◌, ◌<◌, ◌++◌, codes, length, map};
-ghost use Rattle.reach65.specs.Words.{LieIn, LiesIn, Puts, alphabet_of, dots_above, range_bytes, range_line, range_lines, shown_as, shown_byte, shown_bytes, shown_char, title, type_text};
+ghost use Rattle.info65.specs.Words.{Adds};
+ghost use Rattle.reach65.specs.Words.{LieIn, LiesIn, alphabet_of, dots_above, range_bytes, range_line, range_lines, shown_as, shown_byte, shown_bytes, shown_char, title, type_text};
 
 use crate::part::{at_most, part};
 use files65::put_address;
@@ -24,9 +25,9 @@ fn shown_byte(byte: u8) -> u8
     }
 }
 
-/// Appends bytes as characters of an alphabet.
+/// Adds bytes as characters of an alphabet.
 fn put_characters(out: &mut Vec<u8>, alphabet: Alphabet, bytes: &[u8]) -> Result<(), AllocError>
-    ensures { Puts result out.old out.new (map (shown_char alphabet) bytes.now) }
+    ensures { Adds result out.old out.new (map (shown_char alphabet) bytes.now) }
 {
     'characters: for &byte in bytes {
         out.push(shown_byte(alphabet.in_ascii(byte)))?;
@@ -34,9 +35,9 @@ fn put_characters(out: &mut Vec<u8>, alphabet: Alphabet, bytes: &[u8]) -> Result
     Ok(())
 }
 
-/// Appends two dots after what is not shown whole.
+/// Adds two dots after what is not shown whole.
 fn put_dots(out: &mut Vec<u8>, len: usize) -> Result<(), AllocError>
-    ensures { Puts result out.old out.new (dots_above len) }
+    ensures { Adds result out.old out.new (dots_above len) }
 {
     if SHOWN < len {
         out.extend_from_slice(b" ..")?;
@@ -55,10 +56,10 @@ fn title(alphabet: Alphabet) -> &'static str
     }
 }
 
-/// Appends the first bytes of a range as characters of an alphabet.
+/// Adds the first bytes of a range as characters of an alphabet.
 #[tactic(auto, unfolding(reach65::specs::RangeLines::shown_bytes))]
 fn put_shown(out: &mut Vec<u8>, alphabet: Alphabet, bytes: &[u8]) -> Result<(), AllocError>
-    ensures { Puts result out.old out.new (shown_bytes alphabet bytes.now) }
+    ensures { Adds result out.old out.new (shown_bytes alphabet bytes.now) }
 {
     out.extend_from_slice(title(alphabet).as_bytes())?;
     put_characters(out, alphabet, at_most(bytes, SHOWN))?;
@@ -83,10 +84,10 @@ fn alphabet_of(role: RangeType, bytes: &[u8]) -> Alphabet
     }
 }
 
-/// Appends the first bytes of a range of this type as characters.
+/// Adds the first bytes of a range of this type as characters.
 fn put_shown_as(out: &mut Vec<u8>, role: RangeType, bytes: &[u8]) -> Result<(), AllocError>
     requires { length bytes.now < 65537 }
-    ensures { Puts result out.old out.new (shown_as role bytes.now) }
+    ensures { Adds result out.old out.new (shown_as role bytes.now) }
 {
     put_shown(out, alphabet_of(role, bytes), bytes)
 }
@@ -114,20 +115,20 @@ fn type_text(role: RangeType) -> &'static str
     }
 }
 
-/// Appends the type of a range, up to the comment.
+/// Adds the type of a range, up to the comment.
 fn put_type(out: &mut Vec<u8>, role: RangeType) -> Result<(), AllocError>
-    ensures { Puts result out.old out.new (codes "; TYPE " ++ type_text role ++ codes "; }; # ") }
+    ensures { Adds result out.old out.new (codes "; TYPE " ++ type_text role ++ codes "; }; # ") }
 {
     out.extend_from_slice(b"; TYPE ")?;
     out.extend_from_slice(type_text(role).as_bytes())?;
     out.extend_from_slice(b"; }; # ")
 }
 
-/// Appends the line of a range.
+/// Adds the line of a range.
 #[tactic(auto, unfolding(reach65::specs::RangeLines::range_line))]
 fn put_range(out: &mut Vec<u8>, image: &Image, range: RangeSpec) -> Result<(), AllocError>
     requires { LiesIn image.now range }
-    ensures { Puts result out.old out.new (range_line image.now range) }
+    ensures { Adds result out.old out.new (range_line image.now range) }
 {
     put_address(out, b"RANGE { START $", range.first as usize)?;
     put_address(out, b"; END $", range.last as usize)?;
@@ -136,11 +137,11 @@ fn put_range(out: &mut Vec<u8>, image: &Image, range: RangeSpec) -> Result<(), A
     out.extend_from_slice(b"\n")
 }
 
-/// Appends the lines of the ranges.
+/// Adds the lines of the ranges.
 #[tactic(auto, unfolding(reach65::specs::RangeLines::range_lines))]
 pub fn put_ranges(out: &mut Vec<u8>, image: &Image, ranges: &[RangeSpec]) -> Result<(), AllocError>
     requires { LieIn image.now ranges.now }
-    ensures { Puts result out.old out.new (range_lines image.now ranges.now) }
+    ensures { Adds result out.old out.new (range_lines image.now ranges.now) }
 {
     'lines: for &range in ranges {
         put_range(out, image, range)?;

@@ -1,7 +1,8 @@
 //! What is found of an image, as text of an information file.
 
 ghost use Rattle.std.specs.Prelude.{◌≡◌, ◌+◌, ◌++◌, ◌≤◌, IfOk, length};
-ghost use Rattle.reach65.specs.Words.{LieIn, Puts, Returns, comment_line};
+ghost use Rattle.info65.specs.Words.{Adds};
+ghost use Rattle.reach65.specs.Words.{LieIn, Returns, comment_line};
 ghost use Rattle.trace65.specs.Words.{AreFindings, ArePairs, AreTraced, AreWordMarks, IsWritten, PutsLines, comments_before, file_before, found_comments, headed, image_marks, legend, legend_more, likely_comments, misplaced_comments, move_comments, picture_and_counts, report_text};
 
 use crate::calls::put_calls;
@@ -139,15 +140,15 @@ fn search_image(
     })
 }
 
-/// Appends what the picture's characters stand for.
+/// Adds what the picture's characters stand for.
 fn put_legend(out: &mut Vec<u8>) -> Result<(), AllocError>
-    ensures { Puts result out.old out.new (comment_line legend ++ comment_line legend_more) }
+    ensures { Adds result out.old out.new (comment_line legend ++ comment_line legend_more) }
 {
     out.extend_from_slice(b"# a character for 64 bytes: # code that is reached, + partly,\n")?;
     out.extend_from_slice(b"# r in a range of the information file, . neither\n")
 }
 
-/// Appends the picture and the counts of the bytes that have these marks.
+/// Adds the picture and the counts of the bytes that have these marks.
 fn put_picture_and_counts(
     out: &mut Vec<u8>,
     start: u16,
@@ -155,7 +156,7 @@ fn put_picture_and_counts(
     taken: &[bool],
 ) -> Result<(), AllocError>
     requires { start + length code.now ≤ 65536 }
-    ensures { Puts result out.old out.new (headed (picture_and_counts start code.now taken.now)) }
+    ensures { Adds result out.old out.new (headed (picture_and_counts start code.now taken.now)) }
 {
     put_legend(out)?;
     put_picture(out, start, code, taken)?;
@@ -178,7 +179,7 @@ fn taken_marks<'a>(image: &Image, survey: &'a Survey) -> &'a [bool]
     image_marks(image, &survey.taken)
 }
 
-/// Appends what is given where it counts for nothing.
+/// Adds what is given where it counts for nothing.
 fn put_misplaced_in(
     out: &mut Vec<u8>,
     map: &Map<'_>,
@@ -190,9 +191,9 @@ fn put_misplaced_in(
     put_misplaced(out, &Flow::new(map, &[]), &survey.reached, entries)
 }
 
-/// Appends the picture, the counts, and what is given where it counts for nothing.
+/// Adds the picture, the counts, and what is given where it counts for nothing.
 fn put_head(out: &mut Vec<u8>, map: &Map<'_>, found: &Findings) -> Result<(), AllocError>
-    ensures { Puts result out.old out.new (headed (comments_before map.now found.now)) }
+    ensures { Adds result out.old out.new (headed (comments_before map.now found.now)) }
 {
     let image = map.image();
     let code = code_marks(image, &found.survey);
@@ -201,7 +202,7 @@ fn put_head(out: &mut Vec<u8>, map: &Map<'_>, found: &Findings) -> Result<(), Al
     put_misplaced_in(out, map, &found.survey, &found.entries)
 }
 
-/// Appends the lines `#: ..`.
+/// Adds the lines `#: ..`.
 fn put_moves(
     out: &mut Vec<u8>,
     map: &Map<'_>,
@@ -214,7 +215,7 @@ fn put_moves(
     put_after(out, map.image(), tags, &found.pairs, &found.variables)
 }
 
-/// Appends what is only likely.
+/// Adds what is only likely.
 fn put_likely(
     out: &mut Vec<u8>,
     alloc: Global,
@@ -232,7 +233,7 @@ fn put_likely(
     put_calls(out, alloc, &Flow::new(map, tags), &found.survey.reached)
 }
 
-/// Appends the comments after the labels.
+/// Adds the comments after the labels.
 fn put_comments(
     out: &mut Vec<u8>,
     alloc: Global,
@@ -248,7 +249,7 @@ fn put_comments(
     put_likely(out, alloc, map, tags, found)
 }
 
-/// Appends the whole text.
+/// Adds the whole text.
 #[tactic(auto, unfolding(crate::specs::Report::report_text))]
 fn put_report(
     out: &mut Vec<u8>,
@@ -260,7 +261,7 @@ fn put_report(
     requires inside { LieIn map.now.image found.now.ranges }
     requires words { length found.now.words ≡ 65536 }
     requires returns { length found.now.returns ≡ 65536 }
-    ensures { Puts result out.old out.new (report_text map.now tags.now found.now) }
+    ensures { Adds result out.old out.new (report_text map.now tags.now found.now) }
 {
     put_head(out, map, found)?;
     put_ranges(out, map.image(), &found.ranges)?;

@@ -1,7 +1,8 @@
 //! What the lines `#: ..` of an information file say.
 
 ghost use Rattle.std.specs.Prelude.{◌≡◌, ◌++◌};
-ghost use Rattle.reach65.specs.Words.{Puts, Returns};
+ghost use Rattle.info65.specs.Words.{Adds};
+ghost use Rattle.reach65.specs.Words.{Returns};
 ghost use Rattle.trace65.specs.Words.{entries_said, entry_said, has_after, is_after};
 
 use info65::{Tag, TagKind};
@@ -9,7 +10,7 @@ use std::alloc::{AllocError, Global};
 
 /// Adds the address of a group ENTRY.
 fn put_entry(entries: &mut Vec<u16>, tag: Tag) -> Result<(), AllocError>
-    ensures { Puts result entries.old entries.new (entry_said tag) }
+    ensures { Adds result entries.old entries.new (entry_said tag) }
 {
     if let (TagKind::Entry, Some(address)) = (tag.kind, tag.address) {
         entries.push(address)?;

@@ -6,6 +6,7 @@ use Rattle.std.proofs.lemmas.Bool.{cond_both}
 use Rattle.stmt65.specs.Views as view
 use Rattle.map65.specs.Words.{MapView, addresses, segment_at}
 use Rattle.da65.specs.Words.{ListingLine, comment_at, comment_line, comment_lines, ending_lines, group_len, has_empty_line, has_separator, opening_lines, plain, segment_lines, segment_statement, separator, separator_lines, statement_at, style_of}
+use Rattle.std.proofs.Common.{arith}
 
 pub each_append : (P : ListingLine → Type 0) (xs ys : List ListingLine) → Each P xs → Each P ys → Each P (xs ++ ys)
 each_append P [] ys h g = g
@@ -18,9 +19,7 @@ each_flat P f h (x ∷ xs) = each_append P (f x) (flat_map f xs) (h x) (each_fla
 -- of the addresses that pass a test
 pub each_filtered : (P : ListingLine → Type 0) (f : ℕ → List ListingLine) (p : ℕ → Bool) → ((a : ℕ) → p a ≡ true → Each P (f a)) → (xs : List ℕ) → Each P (flat_map f (filter p xs))
 each_filtered P f p h [] = tt
-each_filtered P f p h (x ∷ xs) =
-    let others = each_filtered P f p h xs in
-    cond_both (p x) (x ∷ filter p xs) (filter p xs) (λ places. Each P (flat_map f places)) (λ is. each_append P (f x) (flat_map f (filter p xs)) (h x is) others) (λ _. others)
+each_filtered P f p h (x ∷ xs) = grind (arith, (each_filtered P f p h xs), cond_both, each_append)
 
 -- an empty line, the separator, a line that enters a segment, and the comment of a name
 pub record HoldsBeside (m : MapView) (P : ListingLine → Type 0) : Type 0 where

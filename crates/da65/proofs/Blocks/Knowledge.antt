@@ -8,6 +8,7 @@ use Rattle.std.proofs.lemmas.List.Elements.{filter-append}
 use Rattle.stmt65.specs.Words.{Definition, find_name}
 use Rattle.map65.specs.Words.{ImageView}
 use Rattle.da65.specs.Words.{AreSound, Knows, Names, base_name, definition_of, definitions_of, is_base}
+use Rattle.std.proofs.lemmas.Bool.Decides.{nat_tests}
 
 -- ---- the first definition
 
@@ -18,10 +19,7 @@ first_of (d ∷ ds) = Some d
 first-is : (w : List ℕ) (ds : List Definition) → find_name w ds ≡ first_of (definitions_of w ds)
 unfolding find_name
 first-is w [] = refl
-first-is w (d ∷ ds) = elim (bytes_eq d.name w) as (λ t. cond t (Some d) (find_name w ds) ≡ first_of (cond t (d ∷ definitions_of w ds) (definitions_of w ds))) [
-  | true ↦ refl
-  | false ↦ first-is w ds
-]
+first-is w (d ∷ ds) = grind (arith, (first-is w ds))
 
 -- ---- one name
 
@@ -38,13 +36,7 @@ knows_same m p q ds k h = record { found = λ v b. k.found v b ∙ ap (λ (t : B
 -- one more base, that was not known
 pub knows_more : (image : ImageView) (m : Names) (p : ℕ → Bool) (ds : List Definition) (u : ℕ) → AreSound image m → Knows m p ds → is_base m u ≡ true → p u ≡ false
     → Knows m (λ v. p v || eqb u v) (ds ++ definition_of m u ∷ [])
-knows_more image m p ds u names k hu new = grind (arith, filter-append, name-test)
-  where
-    joined : (v : ℕ) (s t : Bool) → p v ≡ s → eqb u v ≡ t → cond s (definition_of m v ∷ []) [] ++ cond t (definition_of m u ∷ []) [] ≡ cond (s || t) (definition_of m v ∷ []) []
-    joined v true true known e = let here : p u ≡ true = ap p (eqb-true u v e) ∙ known in absurd cc
-    joined v true false known e = refl
-    joined v false true known e = ap (λ (w : ℕ). definition_of m w ∷ []) (eqb-true u v e)
-    joined v false false known e = refl
+knows_more image m p ds u names k hu new = grind (arith, filter-append, name-test, eqb-true, nat_tests)
 
 -- what is found of a base, if it passes the test or not
 pub knows_found : (m : Names) (p : ℕ → Bool) (ds : List Definition) (v : ℕ) (t : Bool) → Knows m p ds → is_base m v ≡ true → p v ≡ t → find_name (base_name m v) ds ≡ first_of (cond t (definition_of m v ∷ []) [])

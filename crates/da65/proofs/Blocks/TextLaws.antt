@@ -1,5 +1,5 @@
 -- The text of a listing is read line by line.
-use Rattle.std.proofs.Common.{◌≡◌, ℕ, Bool, true, false, cond, eqb, ◌+◌, ◌-◌, ◌<◌, List, ◌∷◌, ◌++◌, length, map, Option, Some, None, refl, ap, ◌∙◌, arith, append_assoc, []}
+use Rattle.std.proofs.Common.{◌≡◌, ℕ, true, eqb, ◌+◌, ◌-◌, ◌<◌, List, ◌∷◌, ◌++◌, length, map, Option, Some, None, refl, ap, ◌∙◌, arith, append_assoc, []}
 use Rattle.std.specs.Prelude.{IfSome, codes, not, replicate}
 use Rattle.std.specs.List.{flat_map, list_all}
 use Rattle.std.proofs.lemmas.Bool.{and_parts, cond_both, not-true}
@@ -7,9 +7,9 @@ use Rattle.std.proofs.lemmas.List.Elements.{All-drop, All-take}
 use Rattle.info65.specs.Names as given
 use Rattle.info65.specs.Words.{AreSegments}
 use Rattle.stmt65.specs.Views as view
-use Rattle.stmt65.specs.Words.{IsPrintable, PrintsAs, SourceLine, StatementView, TakesLabel, fits_label, free, meaning_in, meaning_of, parts, reading_of, readings, source_line, with_label}
+use Rattle.stmt65.specs.Words.{IsPrintable, PrintsAs, SourceLine, StatementView, TakesLabel, free, meaning_in, meaning_of, parts, reading_of, readings, source_line, with_label}
 use Rattle.text65.specs.Lines.{onto_first, text_lines}
-use Rattle.da65.specs.Words.{Listing, ListingLine, Style, TextGivesImage, assignment_line, base_name, begins, comment_lines, constant_lines, constants, ending_lines, forward_lines, forwards, group_addresses, group_bytes, group_len, group_line, group_lines, has_constant_line, is_base, label_at, labelled, line_text, lines_of, listing, listing_below, names_of, opening_lines, plain, reading_of_line, segment_statement, separator, statement_at, statement_lines, style_of, text_of, with_empty_line}
+use Rattle.da65.specs.Words.{Listing, ListingLine, Style, TextGivesImage, assignment_line, base_name, begins, comment_lines, constant_lines, constants, ending_lines, forward_lines, forwards, group_addresses, group_bytes, group_len, group_lines, has_constant_line, is_base, label_at, labelled, line_text, lines_of, listing, listing_below, names_of, opening_lines, plain, reading_of_line, segment_statement, separator, statement_at, statement_lines, style_of, text_of, with_empty_line}
 use Rattle.map65.specs.Words.{AreBytes, IsPlaced, MapView, addresses, bytes_from, opcodes, role_of, segment_at}
 use Rattle.da65.proofs.Blocks.EachLine.{Each, HoldsBeside, each_append, each_comment, each_ending, each_filtered, each_flat, each_opening}
 use Rattle.da65.proofs.NextLine.CommentLemmas.{comment-printable, segment-printable}

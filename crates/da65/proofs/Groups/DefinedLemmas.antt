@@ -1,7 +1,7 @@
 -- Which addresses of a group are defined by name.
-use Rattle.std.proofs.Common.{◌≡◌, ◌∙◌, inl, inr, ℕ, ◌+◌, ◌-◌, ◌<◌, true, false, length, Option, Some, None, refl, sym, ap, subst, arith}
+use Rattle.std.proofs.Common.{◌≡◌, ◌∙◌, inl, inr, ℕ, ◌+◌, ◌-◌, ◌<◌, true, false, length, Some, sym, ap, subst, arith}
 use Rattle.std.proofs.lemmas.Bool.{eqb-true, false_from_ne_true, true≢false}
-use Rattle.da65.specs.Words.{IsGroupPlace, Place, RangeType, group_len, is_defined, is_own}
+use Rattle.da65.specs.Words.{IsGroupPlace, Place, RangeType, group_len, is_defined}
 use Rattle.info65.specs.declared.information.range.RangeType.TheVariants as role
 use Rattle.map65.specs.Words.{Base, IsInCode, IsOutside, LiesBy, MapView, base_at, is_inside, is_skip, item_len, place_of, role_of, size_for, unit_of}
 use Rattle.map65.specs.declared.name.Place.TheVariants as defined

@@ -1,10 +1,10 @@
 -- The bytes of a group, by its role.
-use Rattle.std.proofs.Common.{◌≡◌, ◌∙◌, ◌⊎◌, inl, inr, ℕ, zero, suc, ◌+◌, ◌-◌, ◌*◌, ◌%◌, ◌<◌, ◌≤◌, nat_le, Bool, true, false, List, ◌∷◌, length, take, drop, Option, Some, None, refl, ap, sym, subst, arith, length-drop, []}
+use Rattle.std.proofs.Common.{◌≡◌, ◌∙◌, ◌⊎◌, inl, inr, ℕ, zero, suc, ◌+◌, ◌-◌, ◌*◌, ◌%◌, ◌<◌, ◌≤◌, Bool, true, false, List, ◌∷◌, length, take, drop, Option, Some, None, refl, ap, sym, subst, arith, length-drop, []}
 use Rattle.std.specs.Prelude.{slice_index}
 use Rattle.std.proofs.lemmas.Bool.{cond-true, cond-false, cond_both, eqb-true, leb-true, leb-false, eq-eqb, true≢false}
 use Rattle.std.proofs.Math.Nat.{mul-le-mul_right, mul-mod_left}
 use Rattle.std.proofs.lemmas.List.{get_or-drop, get_or-take, length-take-le}
-use Rattle.isa65.specs.Words.{Table, decoded, len_of}
+use Rattle.isa65.specs.Words.{Table, decoded}
 use Rattle.isa65.proofs.ModeLaws.{len-positive}
 use Rattle.da65.specs.Words.{AreEntries, GroupsAreGroups, IsGroup, IsGroupOf, IsGroupPlace, Op, RangeType, goes_on, group_bytes, group_len, instruction_in, is_whole, limit_at, limit_of, more_at, whole_in}
 use Rattle.info65.proofs.Public.{layout_line}

@@ -1,12 +1,12 @@
 -- Where `a:` stands, an assembler would take another mode without it.
-use Rattle.std.proofs.Common.{arith, ◌≡◌, ℕ, ◌+◌, Bool, true, false, cond, List, ◌∷◌, Option, Some, None, refl, sym, ap, subst, ◌∙◌}
-use Rattle.std.specs.Prelude.{IsSome, is_some, nat_lt, option_and_then}
+use Rattle.std.proofs.Common.{arith, ◌≡◌, ℕ, ◌+◌, Bool, true, false, List, ◌∷◌, Some, sym, ap, subst, ◌∙◌}
+use Rattle.std.specs.Prelude.{IsSome, is_some, nat_lt}
 use Rattle.std.proofs.lemmas.Bool.{and_parts, false_from_ne_true}
 use Rattle.isa65.specs.Words.{Table, encoded, encoded-decoded, len_of, row_of, row_text, sibling_in, table_of, table_of-sound, written, zero_page_of}
-use Rattle.da65.specs.Words.{AreSound, CodesInMode, Cpu, ForcedWhereNeeded, HasKnownSize, IsWritten, KnowsConstants, Mode, Names, Op, Row, address_expr, constant_base, expr_from, fragments_in, is_forced, operands_of, zero_page_expr}
+use Rattle.da65.specs.Words.{AreSound, CodesInMode, Cpu, ForcedWhereNeeded, HasKnownSize, IsWritten, KnowsConstants, Mode, Names, Op, Row, address_expr, fragments_in, is_forced, operands_of, zero_page_expr}
 use Rattle.stmt65.specs.Words.{Fixed, IsModeOf, OperandsView, State, address_size, has_zero_page_size, row_form, source_form, source_value}
 use Rattle.stmt65.proofs.Public.{takes_modes}
-use Rattle.map65.specs.Words.{Base, ImageView, word_of}
+use Rattle.map65.specs.Words.{ImageView, word_of}
 use Rattle.da65.proofs.Instructions.ModeLaws.{of_form, pair, row_prefix, word_size}
 use Rattle.da65.proofs.Statements.GroupStands.{mode_is_chosen_back}
 use Rattle.da65.proofs.Statements.StandsLaws.{begins_with}

@@ -62,11 +62,7 @@ pub record IsConstantOf (m : Names) (a : ℕ) (b : Base) : Type 0 where
 
 pub is-constant : (image : ImageView) (m : Names) (a : ℕ) → AreSound image m → (o : Option Base) → m.base_at a ≡ o → IfSome (constant_base m o) (λ b. IsConstantOf m a b)
 is-constant image m a names None e = tt
-is-constant image m a names (Some b) e = go (m.has_constant b.address) refl
-  where
-    go : (t : Bool) → m.has_constant b.address ≡ t → IfSome (cond t (Some b) None) (λ c. IsConstantOf m a c)
-    go true f = record { is = names.bases a b e; constant = f }
-    go false f = tt
+is-constant image m a names (Some b) e = grind arith
 
 forget : (m : Names) (a : ℕ) (o : Option Base) → IfSome o (λ b. IsConstantOf m a b) → IfSome o (λ b. IsBaseOf m a b)
 forget m a None h = tt

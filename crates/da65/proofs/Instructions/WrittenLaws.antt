@@ -1,15 +1,14 @@
 -- The operands of an instruction: what is known of each, and of `a:` before them.
-use Rattle.std.proofs.Common.{◌≡◌, ℕ, ◌+◌, Bool, true, cond, ◌<◌, ◌≤◌, List, ◌∷◌, length, Option, Some, None, refl, arith}
-use Rattle.std.specs.Prelude.{IfSome, is_some, nat_lt, option_and_then}
-use Rattle.std.specs.Option.{option_map}
+use Rattle.std.proofs.Common.{ℕ, ◌+◌, Bool, ◌<◌, ◌≤◌, List, ◌∷◌, length, arith}
+use Rattle.std.specs.Prelude.{IfSome}
 use Rattle.std.proofs.lemmas.Bool.{and_parts}
 use Rattle.std.proofs.lemmas.List.Elements.{All-head, All-tail}
-use Rattle.isa65.specs.Words.{Table, encoded, row_len, sibling_in, size_of, table_of, zero_page_of}
-use Rattle.da65.specs.Words.{Cpu, Mnemonic, Mode, Names, OperandKind, Row, both, is_forced, operand_expr, row_operands}
+use Rattle.isa65.specs.Words.{Table, row_len, size_of, table_of}
+use Rattle.da65.specs.Words.{Cpu, Mnemonic, Mode, Names, OperandKind, Row, is_forced, operand_expr, row_operands}
 use Rattle.isa65.specs.declared.row.Row.TheVariants as row
 use Rattle.stmt65.specs.Words.{ExprView, MayBeForced, OperandsView}
 use Rattle.stmt65.specs.Views as view
-use Rattle.map65.specs.Words.{AreBytes, word_of}
+use Rattle.map65.specs.Words.{AreBytes}
 
 -- ---- bytes
 

@@ -1,14 +1,12 @@
 -- What a map tells of an address's name.
 use Rattle.std.proofs.Common.{◌≡◌, ◌∙◌, ℕ, ◌-◌, ◌≤◌, ◌==◌, Bool, true, false, List, Option, Some, None, refl, ap, sym, subst, arith, ⊎_elim}
 use Rattle.std.specs.Bool.{OnTrue}
-use Rattle.std.specs.Prelude.{if◌then◌else◌}
 use Rattle.std.specs.Option.{option_map}
 use Rattle.std.proofs.lemmas.Bool.{cases_eq, eq-eqb, ne_eqb}
 use Rattle.info65.specs.Words.{AreNames}
 use Rattle.da65.specs.Words.{NameKind, RangeType, address_expr, base_name, constant_base, constant_offset, expr_from, is_base, is_constant, is_own, is_own_name, names_of, target_by, zero_page_expr}
 use Rattle.map65.proofs.Public.{base-none, base_law}
 use Rattle.map65.specs.Words.{Base, MapView, base_at, has_name, is_skip, kind_at, kind_by, place_in, place_of, role_at, text_at, text_by}
-use Rattle.map65.specs.declared.name.Place.TheVariants as place
 use Rattle.stmt65.specs.Words.{IsNameLong, TargetView}
 use Rattle.stmt65.specs.Views as view
 use Rattle.da65.proofs.Names.NameTexts.{base-text}
@@ -23,19 +21,11 @@ record Named (m : MapView) (a : ℕ) (k : NameKind) : Type 0 where
 
 named : (m : MapView) (a : ℕ) (k : NameKind) → kind_at m a ≡ Some k → Named m a k
 unfolding kind_at
-named m a k is = go (base_at m a) refl is
-  where
-    go : (o : Option Base) → base_at m a ≡ o → option_map (kind_by m a) o ≡ Some k → Named m a k
-    go None e is = absurd cc
-    go (Some b) e is = record { base = b; is = e; kind = cc }
+named m a k is = grind arith
 
 unnamed : (m : MapView) (a : ℕ) → kind_at m a ≡ None → base_at m a ≡ None
 unfolding kind_at
-unnamed m a is = go (base_at m a) is
-  where
-    go : (o : Option Base) → option_map (kind_by m a) o ≡ None → o ≡ None
-    go None is = refl
-    go (Some b) is = absurd cc
+unnamed m a is = grind arith
 
 text_long : (m : MapView) (a : ℕ) (k : NameKind) → AreNames m.info.names → kind_at m a ≡ Some k → IsNameLong (text_at m a)
 unfolding text_at

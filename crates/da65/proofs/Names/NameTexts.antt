@@ -1,5 +1,5 @@
 -- The texts of a map's names are names, and none of them is reserved.
-use Rattle.std.proofs.Common.{◌≡◌, ℕ, ◌<◌, Bool, true, false, not, List, ◌∷◌, Option, Some, None, refl, sym, ap, subst, arith, []}
+use Rattle.std.proofs.Common.{◌≡◌, ℕ, ◌<◌, true, false, not, List, ◌∷◌, Option, Some, None, refl, sym, ap, subst, arith, []}
 use Rattle.std.proofs.lemmas.Bool.{and_from, or_parts}
 use Rattle.std.proofs.lemmas.Bool.Decides.{nat_tests}
 use Rattle.text65.specs.Digits.{hex_digit}
@@ -8,7 +8,7 @@ use Rattle.text65.proofs.Public.{long_word}
 use Rattle.info65.specs.Words.{AreNames, IsName, NameView, blank_name, covering, default_name, is_reserved, name_at}
 use Rattle.stmt65.specs.Words.{IsNameLong, is_name}
 use Rattle.info65.proofs.Public.{last_name}
-use Rattle.map65.specs.Words.{Base, MapView, base_at, base_by, entry_base, entry_start, given_base, is_referenced}
+use Rattle.map65.specs.Words.{Base, MapView, base_at, entry_base, entry_start, given_base, is_referenced}
 use Rattle.map65.proofs.Public.{entry_start-default, entry_start-given}
 
 -- a text that can be printed, and that reads as a name

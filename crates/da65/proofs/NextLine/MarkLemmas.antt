@@ -1,15 +1,14 @@
 -- A listing at comment level 0, without segments and comments, has no lines at the heads of its groups.
 use Rattle.std.proofs.Common.{arith, ◌≡◌, ◌∙◌, ℕ, Bool, true, false, List, Option, Some, None, refl, sym, ap}
-use Rattle.std.specs.Prelude.{if◌then◌else◌, ◌==◌, is_some, option_map}
+use Rattle.std.specs.Prelude.{if◌then◌else◌, ◌==◌, is_some}
 use Rattle.std.specs.List.{list_any}
 use Rattle.std.proofs.lemmas.Bool.{eqb-true, not-false, or_parts, true≢false}
 use Rattle.std.proofs.lemmas.List.{nil_from_length}
 use Rattle.std.proofs.lemmas.List.Folds.{list_any_at}
-use denote.Bor.{Bor}
 use Rattle.info65.specs.Words.{NameView, blank_name, covering, given_seen}
 use Rattle.da65.specs.Words.{Given, IsUnmarked, comment_at, comment_by, has_comment, has_marks, style_of}
 use Rattle.info65.proofs.Public.{last_name}
-use Rattle.map65.specs.Words.{Base, MapView, given_base, has_name}
+use Rattle.map65.specs.Words.{MapView, has_name}
 use Rattle.map65.proofs.Public.{base-covered, base-none}
 use Rattle.da65.proofs.NextLine.SegmentLemmas.{bare-segment}
 

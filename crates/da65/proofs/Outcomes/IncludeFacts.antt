@@ -1,9 +1,9 @@
 -- What is known of an include file: how long its name is, and that adding its names keeps the include files.
 use Rattle.std.proofs.Common.{◌≡◌, ◌<◌, ◌≤◌, ℕ, List, true, ap, get_or, length, arith, subst, sym, []}
 use Rattle.std.proofs.lemmas.Bool.Decides.{nat_tests}
-use Rattle.std.specs.Prelude.{Ok, Err, None, Option, Result, Some}
-use Rattle.info65.specs.Words.{AreIncludes, IncludeView, InfoView, NameView, blank_include, included, is_file_name, names_included, with_names, ◌>>=◌}
-use Rattle.da65.specs.Words.{FileView, InfoFault, file_named, include_message, or_message, with_file, with_include}
+use Rattle.std.specs.Prelude.{Ok, Result}
+use Rattle.info65.specs.Words.{AreIncludes, IncludeView, InfoView, NameView, included, is_file_name, with_names}
+use Rattle.da65.specs.Words.{FileView, with_file}
 
 short_of : (name : List ℕ) → is_file_name name ≡ true → length name ≤ 255
 unfolding is_file_name

@@ -1,5 +1,5 @@
 -- Which groups are left to decide whether a segment is entered again.
-use Rattle.std.proofs.Common.{arith, ◌≡◌, ◌∙◌, ◌+◌, ◌<◌, ◌&&◌, ◌||◌, ℕ, Bool, List, ◌∷◌, true, false, ap, ap₂, length, map, refl, subst, sym, ⊎_elim, []}
+use Rattle.std.proofs.Common.{arith, ◌≡◌, ◌∙◌, ◌+◌, ◌<◌, ◌&&◌, ◌||◌, ℕ, Bool, List, ◌∷◌, true, false, ap, length, map, refl, subst, sym, ⊎_elim, []}
 use Rattle.std.specs.Prelude.{◌==◌, Option, None, Some, codes, is_some}
 use Rattle.std.specs.Option.{option_or}
 use Rattle.std.specs.Str.{bytes_eq}
@@ -146,13 +146,7 @@ known-end m k e end known = grind (arith, enters-none, groups-end)
 -- the key of the segment of a group's first byte, by that of the group before where both lie in one run
 pub keyed-after : (m : MapView) (k a : ℕ) (e : Entered) (segment : Option ℕ) → IsGroupStart m k → IsByte m k a → IsKnownFrom m k e
     → (is_in_run m a ≡ true → segment ≡ e.last) → (is_in_run m a ≡ false → IsKeyed m.info.segments (segment_at m a) segment) → IsKeyed m.info.segments (segment_at m a) segment
-keyed-after m k a e segment start here known run first =
-    ⊎_elim
-    (λ yes.
-    let same : segment_before m k ≡ segment_at m a = segment-run m k start (ap (is_in_run m) (sym here.address) ∙ yes) ∙ ap (segment_at m) (sym here.address) in
-    rw (run yes, ← same) known.keyed)
-    first
-    (cases_Bool (is_in_run m a))
+keyed-after m k a e segment start here known run first = grind (arith, ⊎_elim, segment-run, cases_Bool)
 
 -- ---- no segments
 

@@ -1,19 +1,17 @@
 -- What holds of each statement that an item of code or a group can have, form by form.
-use Rattle.std.proofs.Common.{◌≡◌, ◌∙◌, ℕ, ◌+◌, ◌<◌, ◌≤◌, ◌==◌, List, length, take, Option, Some, None, refl, ap, subst, arith}
-use Rattle.std.specs.Prelude.{nat_lt}
-use Rattle.std.specs.Option.{option_map}
+use Rattle.std.proofs.Common.{◌≡◌, ◌∙◌, ℕ, ◌+◌, ◌<◌, ◌≤◌, ◌==◌, List, length, take, Some, None, ap, subst, arith}
 use Rattle.std.proofs.lemmas.Bool.{cond_both, eqb-false, eqb-true, ltb-false, ltb-true}
 use Rattle.std.proofs.lemmas.List.{take_all}
 use Rattle.isa65.specs.Words.{Table, len_of}
 use Rattle.isa65.proofs.ModeLaws.{len-positive, len-small}
-use Rattle.da65.specs.Words.{Address, Character, Directive, Instruction, IsGroupOf, Names, Number, Op, RangeType, Return, Skipped, address_entry, bytes_statement, directive_of, entries_or_byte, entry_by, instruction_in, is_forced, item_in, limit_of, operands_of, return_entry, rts_to, statement_by, statement_for, statement_in, statement_of, target_by, written}
+use Rattle.da65.specs.Words.{Address, Character, Directive, Instruction, IsGroupOf, Names, Number, Op, RangeType, Return, Skipped, address_entry, bytes_statement, directive_of, entries_or_byte, instruction_in, is_forced, item_in, limit_of, operands_of, return_entry, statement_by, statement_for, statement_in, target_by}
 use Rattle.info65.proofs.Public.{layout_entry}
 use Rattle.info65.specs.Words.{IsEntry, layout_of}
 use Rattle.info65.specs.declared.information.range.Entry.{Entry}
 use Rattle.stmt65.specs.declared.directive.Directive.TheVariants.{Word}
 use Rattle.stmt65.specs.Words.{IsTable, OperandsView, StatementView}
 use Rattle.stmt65.specs.Views as view
-use Rattle.map65.specs.Words.{Base, code_size, entry_of, unit_of}
+use Rattle.map65.specs.Words.{Base, entry_of, unit_of}
 use Rattle.da65.specs.Shapes.{IsLineOf}
 use Rattle.da65.proofs.Statements.EntryLemmas.{address_bytes, are_table, directive_is, few_entries, number_small}
 use Rattle.da65.proofs.Statements.StandsLaws.{begins_with}

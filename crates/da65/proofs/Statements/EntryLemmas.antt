@@ -1,7 +1,7 @@
 -- Entries of tables, by the bytes of a line.
 use Rattle.std.proofs.Common.{◌≡◌, ◌≢◌, ◌∙◌, inl, inr, ℕ, ◌==◌, ◌*◌, ◌%◌, ◌<◌, ◌≤◌, false, List, length, refl, sym, ap, arith}
 use Rattle.std.proofs.lemmas.Bool.{cond-true, eqb-false, lt-ltb}
-use Rattle.da65.specs.Words.{AddrTable, Address, AreEntries, BigEndian, ByteOrder, Directive, Instruction, IsGroupOf, LittleEndian, Names, RangeType, Return, RtsTable, Skip, Skipped, TextTable, directive_of, statement_for}
+use Rattle.da65.specs.Words.{AddrTable, Address, AreEntries, ByteOrder, Directive, Instruction, IsGroupOf, Names, RangeType, Return, RtsTable, Skip, Skipped, TextTable, directive_of, statement_for}
 use Rattle.isa65.specs.Words.{Table}
 use Rattle.info65.specs.Words.{IsNumber, layout_of}
 use Rattle.info65.specs.declared.information.range.RangeType.TheVariants.{Code}

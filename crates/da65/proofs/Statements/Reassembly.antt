@@ -1,5 +1,5 @@
 -- What an item of code is written as, and the laws of reassembly.
-use Rattle.std.proofs.Common.{◌≡◌, ◌∙◌, ℕ, false, List, length, Option, Some, None, ap, refl, sym, take, arith}
+use Rattle.std.proofs.Common.{◌≡◌, ◌∙◌, ℕ, false, List, length, Option, Some, None, ap, refl, sym, arith}
 use Rattle.std.specs.Prelude.{is_some}
 use Rattle.std.proofs.lemmas.List.{take_all}
 use Rattle.isa65.specs.Words.{Table, len_of}

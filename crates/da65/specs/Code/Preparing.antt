@@ -31,9 +31,9 @@ abbrev pub listed_by : List FileView → InfoView → Result InfoView (List ℕ)
 listed_by files i = with_input i >>= with_all_includes files
 
 -- the same of a call that makes the information what is expected
-abbrev pub Adds : {U : Type 0} → Result U Stop → InfoView → Result InfoView (List ℕ) → Type 0
-Adds (Ok x) now expected = expected ≡ Ok now
-Adds (Err stop) now expected = Stops stop expected
+abbrev pub AddsNames : {U : Type 0} → Result U Stop → InfoView → Result InfoView (List ℕ) → Type 0
+AddsNames (Ok x) now expected = expected ≡ Ok now
+AddsNames (Err stop) now expected = Stops stop expected
 
 -- this is the name of the include file at an index
 abbrev pub IsNameAt : InfoView → ℕ → List ℕ → Type 0

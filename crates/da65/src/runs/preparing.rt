@@ -1,7 +1,7 @@
 //! What a run lists its input by: what the information file says, with the names of its include files.
 
 ghost use Rattle.std.specs.Prelude.{◌≡◌, ◌≢◌, ◌<◌, ◌≤◌, Some, length};
-ghost use Rattle.da65.specs.Words.{Adds, IsNameAt, NamesAll, Prepares, PreparesBy, PreparesWith, StopsFor, files_seen, listed_by, with_include};
+ghost use Rattle.da65.specs.Words.{AddsNames, IsNameAt, NamesAll, Prepares, PreparesBy, PreparesWith, StopsFor, files_seen, listed_by, with_include};
 
 use crate::runs::files::{File, file_named};
 use crate::runs::messages::{
@@ -112,7 +112,7 @@ fn add_includes<A: Allocator + Copy>(
     info: &mut Info<A>,
     files: &[File<'_>],
 ) -> Result<(), Stop>
-    ensures { Adds result info.new (listed_by (files_seen files.now) info.old) }
+    ensures { AddsNames result info.new (listed_by (files_seen files.now) info.old) }
 {
     if info.settings().input.is_none() {
         return Err(Stop::Refused(no_input_message()));

@@ -24,6 +24,6 @@ Sees seen (Err e) defined = defined ≡ Err e
 abbrev pub MayName : {E : Type 0} → Result (Option Given) E → Result (Option NameView) E → Type 0
 MayName result defined = Sees (option_map given_seen) result defined
 
--- a call that succeeds puts this after what was there
-abbrev pub Appends : {R E X A : Type 0} → Result R E → Vec X A → Vec X A → List X → Type 0
-Appends result old new xs = OnOk result (new.items ≡ old.items ++ xs)
+-- a call that succeeds adds these items
+abbrev pub Adds : {R E X A : Type 0} → Result R E → Vec X A → Vec X A → List X → Type 0
+Adds result old new xs = OnOk result (new.items ≡ old.items ++ xs)

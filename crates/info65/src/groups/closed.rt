@@ -114,7 +114,7 @@ impl<'a, A: Allocator + Copy> Closed<'a, A> {
     }
 
     /// The first fault of a group after these, where it closes.
-    #[tactic(auto, unfolding(crate::specs::Closing::closing_fault))]
+    #[tactic(auto, using(std::proofs::lemmas::Grind::common_steps), unfolding(crate::specs::Closing::closing_fault))]
     pub fn closing_fault(&self, kind: GroupKind, given: &[Assignment<'a>]) -> Option<InfoFaultKind>
         ensures { result ≡ closing_fault self.now kind (assigned_seen given.now) }
     {

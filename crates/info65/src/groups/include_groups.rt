@@ -1,7 +1,7 @@
 //! The include files that groups ASMINC say.
 
 ghost use Rattle.std.specs.Prelude.{◌≡◌, ◌<◌, ◌+◌, ◌^◌, ◌++◌, IfErr, Ok, length, option_map, option_to_list};
-ghost use Rattle.info65.specs.Words.{Appends, AreAllFormed, AreFormed, Gives, Sees, assigned_seen, group_seen, groups_seen, has_room, include_in, include_part, includes_of, named_seen, out_of_memory};
+ghost use Rattle.info65.specs.Words.{Adds, AreAllFormed, AreFormed, Gives, Sees, assigned_seen, group_seen, groups_seen, has_room, include_in, include_part, includes_of, named_seen, out_of_memory};
 
 use crate::fault::{InfoFault, InfoFaultKind};
 use crate::groups::group_values::value_in;
@@ -89,7 +89,7 @@ fn push_include<A: Allocator + Copy, B: Allocator>(
     group: &Group<B>,
 ) -> Result<(), InfoFault>
     requires { AreFormed (group_seen group.now).given }
-    ensures done { Appends result includes.old includes.new (include_part (group_seen group.now)) }
+    ensures done { Adds result includes.old includes.new (include_part (group_seen group.now)) }
     ensures err { IfErr result (λ e. e ≡ out_of_memory) }
 {
     match include_part(group) {

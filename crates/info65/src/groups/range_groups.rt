@@ -1,7 +1,7 @@
 //! The ranges that groups RANGE say.
 
 ghost use Rattle.std.specs.Prelude.{◌≡◌, ◌≤◌, ◌++◌, IfErr, IfSome, OnOk, option_to_list};
-ghost use Rattle.info65.specs.Words.{Appends, IsRangeFault, RangeSpec, RangesToo, assigned_seen, group_seen, last_from, out_of_memory, range_between, range_fault, range_in, range_of_parts, range_part};
+ghost use Rattle.info65.specs.Words.{Adds, IsRangeFault, RangeSpec, RangesToo, assigned_seen, group_seen, last_from, out_of_memory, range_between, range_fault, range_in, range_of_parts, range_part};
 
 use crate::fault::{InfoFault, InfoFaultKind};
 use crate::groups::comments::lacks_name;
@@ -108,7 +108,7 @@ pub fn add_range<A: Allocator>(
     range: Option<RangeSpec>,
 ) -> Result<(), InfoFault>
     requires { IfSome range (λ r. r.first ≤ r.last) }
-    ensures done { Appends result ranges.old ranges.new (option_to_list range) }
+    ensures done { Adds result ranges.old ranges.new (option_to_list range) }
     ensures marked { OnOk result (RangesToo range table.old.items table.new.items) }
     ensures err { IfErr result (λ e. e ≡ out_of_memory) }
 {

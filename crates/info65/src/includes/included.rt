@@ -21,6 +21,7 @@ const MOST_BYTES: usize = 1_048_576;
 const BYTES_OF_A_NAME: usize = 16;
 
 // The index of the names of an information, where those of that many bytes are to come.
+#[tactic(auto, using(crate::proofs::Rules::index_of_rules))]
 fn index_of<'a, A: Allocator + Copy>(
     alloc: A,
     info: &'a Info<A>,
@@ -74,7 +75,7 @@ fn unless_ignored<'a>(
 }
 
 // What a line of this number adds to the names of the index, or its fault.
-#[tactic(auto, unfolding(crate::specs::Includes::line_adds))]
+#[tactic(auto, using(crate::proofs::Rules::line_adds_rules), unfolding(crate::specs::Includes::line_adds))]
 fn line_adds<'a, A: Allocator + Copy>(
     index: &Index<'a, A>,
     include: &IncludeSpec<A>,

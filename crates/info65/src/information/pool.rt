@@ -2,7 +2,7 @@
 
 ghost use Rattle.std.specs.Prelude.{◌≡◌, ◌+◌, ◌-◌, ◌<◌, ◌≤◌, ◌++◌, IfErr, IfOk, OnErr, length, map, option_copied, option_map};
 ghost use Rattle.std.specs.List.Sorted.{IsNonDecreasingBy};
-ghost use Rattle.info65.specs.Words.{Appends, AreAbove, AreBlocks, AreNames, IsPool, IsWithin, ReachTo, block_start, bytes_of, covering, entry_covers, entry_seen, given_seen, name_at, optional, out_of_memory, reach_of, span_of};
+ghost use Rattle.info65.specs.Words.{Adds, AreAbove, AreBlocks, AreNames, IsPool, IsWithin, ReachTo, block_start, bytes_of, covering, entry_covers, entry_seen, given_seen, name_at, optional, out_of_memory, reach_of, span_of};
 
 use crate::fault::InfoFault;
 use crate::information::name::Given;
@@ -109,9 +109,9 @@ impl<A: Allocator> NamePool<A> {
     }
 }
 
-// Appends bytes, and returns where they are.
+// Adds bytes, and returns where they are.
 fn put<A: Allocator>(bytes: &mut Vec<u8, A>, text: &[u8]) -> Result<Span, InfoFault>
-    ensures bytes { Appends result bytes.old bytes.new text.now }
+    ensures bytes { Adds result bytes.old bytes.new text.now }
     ensures span { IfOk result (λ s. s ≡ span_of bytes.old.items text.now) }
     ensures same { OnErr result (bytes.new.items ≡ bytes.old.items) }
     ensures err { IfErr result (λ e. e ≡ out_of_memory) }
@@ -122,12 +122,12 @@ fn put<A: Allocator>(bytes: &mut Vec<u8, A>, text: &[u8]) -> Result<Span, InfoFa
     Ok(Span { first, size })
 }
 
-// Appends bytes if there are some.
+// Adds bytes if there are some.
 fn put_optional<A: Allocator>(
     bytes: &mut Vec<u8, A>,
     text: Option<&[u8]>,
 ) -> Result<Option<Span>, InfoFault>
-    ensures bytes { Appends result bytes.old bytes.new (optional (option_copied text.entry)) }
+    ensures bytes { Adds result bytes.old bytes.new (optional (option_copied text.entry)) }
     ensures span { IfOk result (λ s. s ≡ option_map (span_of bytes.old.items) (option_copied text.entry)) }
     ensures same { OnErr result (bytes.new.items ≡ bytes.old.items) }
     ensures err { IfErr result (λ e. e ≡ out_of_memory) }

@@ -73,6 +73,7 @@ impl<'a, A: Allocator + Copy> Index<'a, A> {
     }
 
     // The address has a name.
+    #[tactic(auto, using(crate::proofs::IndexLemmas::taken_found, std::proofs::lemmas::Grind::common_steps))]
     fn is_taken(&self, address: u16) -> bool
         ensures { result ≡ list_any (is_at address) self.now }
     {
@@ -98,6 +99,7 @@ impl<'a, A: Allocator + Copy> Index<'a, A> {
 
     // The text of the name stands at another address.
     #[inline(always)]
+    #[tactic(auto, using(crate::proofs::Rules::index_is_elsewhere_rules))]
     fn is_elsewhere(&self, name: Given<'a>) -> bool
         ensures { result ≡ list_any (is_elsewhere (given_seen name.entry)) self.now }
     {
@@ -194,6 +196,7 @@ impl<'a, A: Allocator + Copy> Index<'a, A> {
     }
 
     /// The names, by address.
+    #[tactic(auto, using(std::proofs::lemmas::Grind::common_steps))]
     pub fn names(self, alloc: A) -> Result<NamePool<A>, InfoFault>
         ensures { Gives (λ p. p) result (Ok (by_address self.entry)) }
     {

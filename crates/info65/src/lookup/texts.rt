@@ -60,6 +60,7 @@ impl<'a, A: Allocator + Copy> Texts<'a, A> {
 
     /// Adds the text of a name with this address and number. After a failure each text stands as before.
     #[inline(always)]
+    #[tactic(auto, using(crate::proofs::Rules::texts_add_rules))]
     pub fn add(&mut self, text: &'a [u8], address: u16, number: u32) -> Result<(), InfoFault>
         ensures done { OnOk result ((t : List ℕ) → AddsText (texts_seen self.old) text.entry.now address number (texts_seen self.new) t) }
         ensures same { OnErr result (StandsAlike (texts_seen self.old) (texts_seen self.new)) }

@@ -2,7 +2,7 @@
 
 ghost use Rattle.std.specs.Prelude.{[], ◌≡◌, ◌++◌, ◌≤◌, length};
 ghost use Rattle.std.specs.Option.{option_to_list};
-ghost use Rattle.info65.specs.Words.{Appends, Gives, Turns, tags_in, tags_of};
+ghost use Rattle.info65.specs.Words.{Adds, Gives, Turns, tags_in, tags_of};
 
 use crate::fault::InfoFault;
 use crate::syntax::lexer::Lexer;
@@ -13,7 +13,7 @@ use std::alloc::{AllocError, Allocator};
 
 /// Adds a group, if there is one.
 fn put<A: Allocator>(found: &mut Vec<Tag, A>, tag: Option<Tag>) -> Result<(), AllocError>
-    ensures { Appends result found.old found.new (option_to_list tag) }
+    ensures { Adds result found.old found.new (option_to_list tag) }
 {
     if let Some(tag) = tag {
         found.push(tag)?;

@@ -1,4 +1,4 @@
-use Rattle.std.proofs.Common.{◌≡◌, ◌∙◌, ◌-◌, ◌+◌, arith, false, subst, sym, []}
+use Rattle.std.proofs.Common.{◌≡◌, ◌∙◌, ◌+◌, arith, false, subst, sym, []}
 use Rattle.std.proofs.lemmas.Bool.{cond-false}
 use Rattle.map65.specs.Words.{MapView, has_name}
 use Rattle.da65.specs.Words.{constant_lines}

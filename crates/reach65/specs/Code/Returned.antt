@@ -1,11 +1,7 @@
--- What calls append to a list, and what they return.
-use Rattle.std.specs.Prelude.{◌≡◌, ◌++◌, ℕ, Bool, List, IfOk, OnOk, Result}
+-- What calls return.
+use Rattle.std.specs.Prelude.{◌≡◌, ℕ, Bool, List, IfOk, Result}
 use Rattle.std.specs.declared.vec.Vec.{Vec}
 use Rattle.reach65.specs.Taken.{AreMarkedBy}
-
--- the list has these items after its own, if the call succeeds
-abbrev pub Puts : {T A E : Type 0} → Result (Unit {0}) E → Vec T A → Vec T A → List T → Type 0
-Puts result old new items = OnOk result (new.items ≡ old.items ++ items)
 
 -- it returns a list of these items, if it succeeds
 abbrev pub Returns : {T A E : Type 0} → Result (Vec T A) E → List T → Type 0
