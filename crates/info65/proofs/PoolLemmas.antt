@@ -1,10 +1,10 @@
 -- Looking for a name among entries by address.
-use Rattle.std.proofs.Common.{◌≡◌, ◌∙◌, ℕ, zero, suc, ◌+◌, ◌-◌, ◌<◌, ◌≤◌, ◌&&◌, Bool, true, false, List, [], length, get_or, map, refl, if◌then◌else◌, ap, sym, append_assoc, ap₂, arith, ⊎_elim, add-one, length-append, length-drop, option_map, subst, take, ◌∷◌, ◌++◌}
+use Rattle.std.proofs.Common.{◌≡◌, ◌∙◌, ℕ, zero, suc, ◌+◌, ◌-◌, ◌<◌, ◌≤◌, ◌&&◌, Bool, true, false, List, [], length, get_or, map, refl, if◌then◌else◌, ap, sym, append_assoc, ap₂, arith, add-one, length-append, length-drop, option_map, take, ◌∷◌, ◌++◌}
 use Rattle.std.specs.Prelude.{IfSome, Option, None, Some, nat_le, nat_lt}
 use Rattle.std.specs.List.Sorted.{IsNonDecreasingBy}
 use Rattle.std.proofs.lemmas.List.Sorted.{IsNonDecreasingBy-from_default}
-use Rattle.std.proofs.lemmas.List.{append-nil, drop-append-le, drop_at, get_or-map, get_or_append_left, get_or_at, length-map, map-append, take-append-le, take_at}
-use Rattle.std.proofs.lemmas.Bool.Decides.{eqb_tells, nat_tests}
+use Rattle.std.proofs.lemmas.List.{append-nil, drop-append-le, drop_at, get_or-map, length-map, map-append, take-append-le, take_at}
+use Rattle.std.proofs.lemmas.Bool.Decides.{nat_tests}
 use Rattle.info65.specs.Words.{AreAbove, AreNames, IsPool, IsWithin, NameView, ReachTo, Span, blank_entry, blank_name, block_start, bytes_of, covering, covering_below, covers, entry_seen, name_at, optional, reach_of, span_of}
 use Rattle.info65.specs.declared.information.pool.Entry.{Entry}
 
@@ -86,20 +86,6 @@ bytes_added pool text = ap (take (length text)) (drop_at pool text (length pool)
     take_all : (xs : List ℕ) → take (length xs) xs ≡ xs
     take_all xs = ap (take (length xs)) (sym (append-nil xs)) ∙ take_at xs [] (length xs) refl
 
-within_grow : (pool more : List ℕ) (s : Span) → IsWithin pool s → IsWithin (pool ++ more) s
-within_grow pool more s h = omega (arith, h, length-append pool more)
-
-comment_grow : (pool more : List ℕ) (s : Option Span) → IfSome s (IsWithin pool) → IfSome s (IsWithin (pool ++ more))
-comment_grow pool more None h = tt
-comment_grow pool more (Some s) h = within_grow pool more s h
-
-pub pool_grows : (pool more : List ℕ) (es : List Entry) → IsPool pool es → IsPool (pool ++ more) es
-pool_grows pool more es p = record {
-  texts = λ i l. within_grow pool more (get_or es i blank_entry).text (p.texts i l);
-  comments = λ i l. comment_grow pool more (get_or es i blank_entry).comment (p.comments i l);
-  blocks = p.blocks;
-}
-
 comment_seen : (pool more : List ℕ) (s : Option Span) → IfSome s (IsWithin pool) → option_map (bytes_of (pool ++ more)) s ≡ option_map (bytes_of pool) s
 comment_seen pool more None h = refl
 comment_seen pool more (Some s) h = ap (λ (t : List ℕ). Some t) (bytes_grow pool more s h)
@@ -120,9 +106,6 @@ record IsAdded (pool after : List ℕ) (es : List Entry) (e : Entry) : Type 0 wh
   own : reach_of e ≤ e.most
   block : ReachTo es (block_start (length es + 1)) (length es) e.most
 
-pool_more : (pool : List ℕ) (es : List Entry) (e : Entry) → IsPool pool es → IsAdded pool pool es e → IsPool pool (es ++ e ∷ [])
-pool_more pool es e p a = grind (arith, length-append, ⊎_elim, get_or_at, get_or_append_left, eqb_tells, get_or)
-
 -- an entry whose bytes are put at the end of the pool
 pub record IsPut (pool after : List ℕ) (es : List Entry) (e : Entry) (n : NameView) : Type 0 where
   pub bytes : after ≡ (pool ++ n.text) ++ optional n.comment
@@ -135,21 +118,6 @@ pub record IsPut (pool after : List ℕ) (es : List Entry) (e : Entry) (n : Name
 
 span_within : (pool text : List ℕ) → IsWithin (pool ++ text) (span_of pool text)
 span_within pool text = omega (arith, length-append pool text)
-
-comment_within : (pool : List ℕ) (c : Option (List ℕ)) → IfSome (option_map (span_of pool) c) (IsWithin (pool ++ optional c))
-comment_within pool None = tt
-comment_within pool (Some t) = span_within pool t
-
-pub put_pooled : (pool after : List ℕ) (es : List Entry) (e : Entry) (n : NameView) → IsPool pool es → IsPut pool after es e n → IsPool after (es ++ e ∷ [])
-put_pooled pool after es e n p a =
-    let both : (pool ++ n.text) ++ optional n.comment ≡ pool ++ (n.text ++ optional n.comment) = append_assoc pool n.text (optional n.comment) in
-    let grown : IsPool after es = subst (λ x. IsPool x es) (sym (a.bytes ∙ both)) (pool_grows pool (n.text ++ optional n.comment) es p) in
-    pool_more after es e grown (record {
-      text = rw (a.bytes, a.text) (within_grow (pool ++ n.text) (optional n.comment) (span_of pool n.text) (span_within pool n.text));
-      comment = rw (a.bytes, a.comment) (comment_within (pool ++ n.text) n.comment);
-      own = a.own;
-      block = a.block;
-    })
 
 pub put_seen : (pool after : List ℕ) (es : List Entry) (e : Entry) (n : NameView) → IsPool pool es → IsPut pool after es e n → map (entry_seen after) (es ++ e ∷ []) ≡ map (entry_seen pool) es ++ n ∷ []
 put_seen pool after es e n p a = grind (arith, append_assoc, seen_grows, bytes_grow, span_within, bytes_added, map-append)

@@ -9,7 +9,7 @@ use Rattle.info65.specs.Words.{AreNames, NameView, blank_name, covering, default
 use Rattle.map65.specs.Words.{Base, BaseLaw, Code, IsInCode, IsInner, LiesBy, MapView, PlaceLaw, RangeType, base_at, base_by, byte_at, default_base, entry_base, entry_start, full_len_at, given_base, is_inside, is_joined, is_own, is_referenced, is_skip, is_wide, item_len, item_start, place_of, role_at, role_of, size_at, size_for, unit_of}
 use Rattle.map65.proofs.ItemLaws.{begun, item_law}
 use Rattle.map65.proofs.ItemLemmas.{is_cut_at, joined-uncut, one-size}
-use Rattle.map65.proofs.NameLemmas.{base-covered, base-referenced, entry_start-default, entry_start-given, name-low, not-some}
+use Rattle.map65.proofs.NameLemmas.{base-covered, base-referenced, entry_start_default, entry_start_given, name-low, not-some}
 use Rattle.map65.proofs.NameLaws.{entry_start-entry_start, entry_start-inner, entry_start-referenced, under}
 use Rattle.map65.proofs.NamingLemmas.{entry_start_low, wide-shown}
 use Rattle.map65.proofs.PieceLaws.{own-some}
@@ -42,8 +42,8 @@ from-name m a at b v low covers_it is =
     record { index = r.index; bound = r.low; low = omega (arith, ap (λ (x : Base). x.address) is, name-low m.info.names at v covers_it, low); text = ap (λ (x : Base). x.text) same; address = ap (λ (x : Base). x.address) same }
 
 from-entry_start : (m : MapView) (a : ℕ) (b : Base) → is_referenced m a ≡ true → entry_base m a ≡ b → (o : Option NameView) → covering m.info.names (entry_start m a) ≡ o → FromName m a b ⊎ FromAddress m a b
-from-entry_start m a b referenced is (Some v) covers_it = inl (from-name m a (entry_start m a) b v (entry_start_low m a) covers_it (sym (entry_start-given m a v covers_it) ∙ is))
-from-entry_start m a b referenced is None none = grind (arith, entry_start-default, entry_start_low, entry_start-referenced, entry_start-entry_start)
+from-entry_start m a b referenced is (Some v) covers_it = inl (from-name m a (entry_start m a) b v (entry_start_low m a) covers_it (sym (entry_start_given m a v covers_it) ∙ is))
+from-entry_start m a b referenced is None none = grind (arith, entry_start_default, entry_start_low, entry_start-referenced, entry_start-entry_start)
 
 from : (m : MapView) (a : ℕ) (b : Base) (o : Option NameView) (w : Bool) → covering m.info.names a ≡ o → is_referenced m a ≡ w → base_by o w (entry_base m a) ≡ Some b → FromName m a b ⊎ FromAddress m a b
 from m a b (Some v) w covers_it referenced is = inl (from-name m a a b v (omega arith) covers_it (some-base _ b is))
@@ -70,7 +70,7 @@ base-own m are a b is =
     ∙ ap (λ (x : Base). Some x) (sym (ap₂ make n.text n.address)))
     (λ d.
     base-referenced m b.address d.none d.referenced
-    ∙ ap (λ (x : Base). Some x) (entry_start-default m b.address (ap (covering m.info.names) d.start_is ∙ d.none) ∙ ap default_base d.start_is ∙ ap (λ t. make t b.address) (sym d.text)))
+    ∙ ap (λ (x : Base). Some x) (entry_start_default m b.address (ap (covering m.info.names) d.start_is ∙ d.none) ∙ ap default_base d.start_is ∙ ap (λ t. make t b.address) (sym d.text)))
     (source m a b is)
 
 -- ---- one text, one base

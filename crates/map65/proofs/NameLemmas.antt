@@ -66,13 +66,13 @@ base-none m a is = none-of (base_at m a) (kind_by m a) is
 pub base_entry_start : (m : MapView) (a : ℕ) → has_name m a ≡ true → covering m.info.names a ≡ None → base_at m a ≡ Some (entry_base m a)
 base_entry_start m a is none = let referenced = rw (named-is m a, none) at is in base-referenced m a none referenced
 
-pub entry_start-given : (m : MapView) (a : ℕ) (v : NameView) → covering m.info.names (entry_start m a) ≡ Some v → entry_base m a ≡ given_base v
+pub entry_start_given : (m : MapView) (a : ℕ) (v : NameView) → covering m.info.names (entry_start m a) ≡ Some v → entry_base m a ≡ given_base v
 unfolding entry_base
-entry_start-given m a v is = ap (λ o. base_or o (default_base (entry_start m a))) is
+entry_start_given m a v is = ap (λ o. base_or o (default_base (entry_start m a))) is
 
-pub entry_start-default : (m : MapView) (a : ℕ) → covering m.info.names (entry_start m a) ≡ None → entry_base m a ≡ default_base (entry_start m a)
+pub entry_start_default : (m : MapView) (a : ℕ) → covering m.info.names (entry_start m a) ≡ None → entry_base m a ≡ default_base (entry_start m a)
 unfolding entry_base
-entry_start-default m a is = ap (λ o. base_or o (default_base (entry_start m a))) is
+entry_start_default m a is = ap (λ o. base_or o (default_base (entry_start m a))) is
 
 -- ---- what a caller is told of it
 

@@ -195,6 +195,7 @@ impl<'a, A: Allocator> Map<'a, A> {
     }
 
     /// Puts the name of the first byte of the address's item in the buffer.
+    #[tactic(auto, using(crate::proofs::NameLemmas::entry_start_given, crate::proofs::NameLemmas::entry_start_default, std::proofs::lemmas::Grind::common_steps))]
     fn put_entry_start(&self, address: u16, name: &mut NameBuf) -> NameKind
         ensures kind { result ≡ kind_by self.now address (entry_base self.now address) }
         ensures text { name.new.items ≡ (entry_base self.now address).text }

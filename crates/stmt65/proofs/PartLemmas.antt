@@ -6,7 +6,7 @@ use Rattle.std.specs.Char.{is_ascii_digit}
 use Rattle.std.proofs.lemmas.List.{take_rest}
 use Rattle.std.proofs.lemmas.Bool.{ne_eqb, lt-ltb}
 use Rattle.text65.specs.Names.{is_blank, is_word_byte}
-use Rattle.stmt65.specs.Words.{Language, Number, Part, Repair, Word, alone_at, hex_len, is_binary_digit, is_word_start, part_at, parts, parts_after}
+use Rattle.stmt65.specs.Words.{Language, Number, Part, Word, hex_len, is_word_start, part_at, parts, parts_after}
 
 pub parts_after-drop : (l : Language) (skip : ℕ) (bs : List ℕ) → parts_after l skip bs ≡ parts l (drop skip bs)
 unfolding parts_after
@@ -79,12 +79,6 @@ unfolding part_at
 hex_part l bytes n lt h e pos =
     let e' = rw take_rest at e in
     let some : nat_lt 0 (hex_len (drop 1 bytes)) ≡ true = lt-ltb 0 (hex_len (drop 1 bytes)) (omega arith) in
-    ap Number (take_first bytes n lt) ∙ rw (h, some, e') refl
-
-pub binary_part : (bytes : List ℕ) (n : ℕ) → 0 < length bytes → get_or bytes 0 0 ≡ 37 → n ≡ prefix_len is_binary_digit (take (length bytes - 1) (drop 1 bytes)) → 0 < n → Number (take (n + 1) bytes) ≡ (alone_at Repair (get_or bytes 0 0) (drop 1 bytes)).0
-binary_part bytes n lt h e pos =
-    let e' = rw take_rest at e in
-    let some : nat_lt 0 (prefix_len is_binary_digit (drop 1 bytes)) ≡ true = lt-ltb 0 (prefix_len is_binary_digit (drop 1 bytes)) (omega arith) in
     ap Number (take_first bytes n lt) ∙ rw (h, some, e') refl
 
 pub ruleset longest = (word_part, decimal_part, hex_part)

@@ -9,7 +9,7 @@ use Rattle.info65.specs.Words.{AreNames, IsName, NameView, blank_name, covering,
 use Rattle.stmt65.specs.Words.{IsNameLong, is_name}
 use Rattle.info65.proofs.Public.{last_name}
 use Rattle.map65.specs.Words.{Base, MapView, base_at, entry_base, entry_start, given_base, is_referenced}
-use Rattle.map65.proofs.Public.{entry_start-default, entry_start-given}
+use Rattle.map65.proofs.Public.{entry_start_default, entry_start_given}
 
 -- a text that can be printed, and that reads as a name
 pub record IsNameText (text : List ℕ) : Type 0 where
@@ -51,8 +51,8 @@ entry_start-text : (m : MapView) (a : ℕ) → AreNames m.info.names → IsNameT
 entry_start-text m a are = go (covering m.info.names (entry_start m a)) refl
   where
     go : (o : Option NameView) → covering m.info.names (entry_start m a) ≡ o → IsNameText (entry_base m a).text
-    go (Some v) e = subst (λ (b : Base). IsNameText b.text) (sym (entry_start-given m a v e)) (covering-text m.info.names (entry_start m a) v are e)
-    go None e = subst (λ (b : Base). IsNameText b.text) (sym (entry_start-default m a e)) (default-text (entry_start m a))
+    go (Some v) e = subst (λ (b : Base). IsNameText b.text) (sym (entry_start_given m a v e)) (covering-text m.info.names (entry_start m a) v are e)
+    go None e = subst (λ (b : Base). IsNameText b.text) (sym (entry_start_default m a e)) (default-text (entry_start m a))
 
 -- what holds of the base of a name that is given, and of an entry that is referred to, holds of the base of each address
 pub base-cases : (m : MapView) (a : ℕ) (b : Base) (P : Base → Type 0) → ((v : NameView) → covering m.info.names a ≡ Some v → P (given_base v)) → (is_referenced m a ≡ true → P (entry_base m a)) → base_at m a ≡ Some b → P b

@@ -83,11 +83,6 @@ segment-none m zero none = refl
 segment-none m (suc k) none =
     cond_both (begins m (m.image.start + k)) (segment_at m (m.image.start + k)) (segment_before m k) (λ s. s ≡ None) (λ _. none (m.image.start + k)) (λ _. segment-none m k none)
 
-pub same-segment : (s t : Option (List ℕ)) → is_same_segment s t ≡ true → s ≡ t
-same-segment None None same = refl
-same-segment (Some s) (Some t) same = ap (λ (x : List ℕ). Some x) ((bytes_eq-Decides s t).0 same)
-same-segment _ _ same = absurd cc
-
 pub segment-itself : (s : Option (List ℕ)) → is_same_segment s s ≡ true
 segment-itself None = refl
 segment-itself (Some s) = (bytes_eq-Decides s s).1 refl

@@ -39,6 +39,7 @@ impl From<DeviceFault> for TakeFault {
 }
 
 /// Passes over this many bytes without storing them. Returns false if the input ends before.
+#[tactic(auto, using(crate::proofs::ReadLemmas::takes_more, std::proofs::lemmas::Grind::common_steps))]
 pub fn pass_over<R: Source>(input: &mut R, count: usize) -> Result<bool, DeviceFault>
     ensures passed { Passes result count (R.left input.old) (R.left input.new) }
     ensures bound { TakesUpTo count (R.left input.old) (R.left input.new) }
