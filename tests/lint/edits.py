@@ -1,5 +1,5 @@
 """Each edit that must fail can be applied: its file exists, and has each text that it replaces exactly once. `rt ci` skips an edit that
-can't be applied. And each wrong body that is listed here has its edit, or the tests that refuse it."""
+can't be applied. And the wrong bodies that are listed here, and no others, have their edits, or the tests that refuse them."""
 
 import re
 
@@ -7,22 +7,25 @@ from source import ROOT
 
 CRATES = ROOT / "crates"
 
-# The wrong bodies that must be refused, each by an edit of the crate whose contract refuses it.
+# The wrong bodies that have an edit, by the crate whose contract refuses them: those of what da65 lists, and of what da65 and as65 do with
+# files. The first edit of a crate costs a second proof of it, so the other crates have none: docs/contracts keeps their clauses.
 WRONG_BODIES = {
     "da65": """everything_as_bytes no_forced_absolute always_forced_absolute zero_page_by_image_name inner_label_after
         return_entry_without_minus_one dbyt_low_byte_first listing_before_refusal write_fault_without_a_fault writes_the_image
         sized_by_base_name words_joined_over_a_name drops_or_repeats_lines no_line_at_once empty_lines_passed_over
         lines_after_a_failed_write""",
-    "usage65": """always_bad_words""",
     "map65": """branch_wraps instruction_runs_into_data name_for_every_address empty_cells write_fault_without_a_fault
-        tries_again_after_a_fault""",
-    "info65": """last_range_wins later_include_replaces keeps_names_of_a_refused_include""",
+        tries_again_after_a_fault failed_reader_is_at_its_end write_of_no_byte_accepted""",
+    "info65": """last_range_wins later_include_replaces keeps_names_of_a_refused_include out_of_memory_past_a_mebibyte""",
     "stmt65": """zero_page_for_a_later_name refuses_every_text accepts_a_doubled_name sized_by_base_name""",
+    "da65_cli": """failure_made_up flush_leaves_bytes message_after_a_failed_flush""",
+    "as65": """bytes_of_a_faulty_listing failed_write_called_a_difference image_cut_short listing_without_bytes_passed_on
+        syntax_called_another_fault write_fault_passed_over""",
 }
 
-# Those that no contract refuses, each with a test that does, and its file: a contract can't say whether memory ran out, or how much there
-# was.
+# Those that a test refuses, each with the test and its file. A contract can't say whether memory ran out, or how much there was.
 TESTED_BODIES = (
+    ("always_bad_words", "start_addresses", "conformance/src/tests/command_lines.rt"),
     ("always_out_of_memory", "each_allocation_refused_in_turn", "conformance/src/tests/memory.rt"),
     ("always_out_of_memory", "each_allocation_of_a_large_image_refused_in_turn", "conformance/src/tests/memory.rt"),
     ("lists_beside_cells", "run_allocates_as_its_parts", "conformance/src/tests/memory.rt"),
@@ -53,6 +56,8 @@ def check(write):
     for edit in sorted(CRATES.glob("*/must-fail/*.edit")):
         for fault in faults(edit):
             yield f"{edit.relative_to(CRATES)}: {fault}"
+        if edit.stem not in WRONG_BODIES.get(edit.parent.parent.name, "").split():
+            yield f"{edit.relative_to(CRATES)}: an edit of a wrong body that is not listed"
     for crate, bodies in WRONG_BODIES.items():
         for body in bodies.split():
             if not (CRATES / crate / "must-fail" / f"{body}.edit").is_file():
