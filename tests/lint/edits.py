@@ -8,7 +8,7 @@ from source import ROOT
 CRATES = ROOT / "crates"
 
 # The wrong bodies that have an edit, by the crate whose contract refuses them: those of what da65 lists, and of what da65 and as65 do with
-# files. The first edit of a crate costs a second proof of it, so the other crates have none: docs/contracts keeps their clauses.
+# files. The first edit of a crate costs a second proof of it, so the other crates have none: docs/contracts keeps their public clauses.
 WRONG_BODIES = {
     "da65": """everything_as_bytes no_forced_absolute always_forced_absolute zero_page_by_image_name inner_label_after
         return_entry_without_minus_one dbyt_low_byte_first listing_before_refusal write_fault_without_a_fault writes_the_image
