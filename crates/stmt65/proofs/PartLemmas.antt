@@ -80,5 +80,3 @@ hex_part l bytes n lt h e pos =
     let e' = rw take_rest at e in
     let some : nat_lt 0 (hex_len (drop 1 bytes)) ≡ true = lt-ltb 0 (hex_len (drop 1 bytes)) (omega arith) in
     ap Number (take_first bytes n lt) ∙ rw (h, some, e') refl
-
-pub ruleset longest = (word_part, decimal_part, hex_part)

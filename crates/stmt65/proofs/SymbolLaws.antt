@@ -10,7 +10,6 @@ use Rattle.std.specs.declared.cmp.Ordering.{Ordering}
 use Rattle.std.specs.declared.cmp.Ordering.TheVariants.{Less, Equal, Greater}
 use Rattle.std.specs.Ordering.{is_eq, nat_cmp}
 use Rattle.std.proofs.lemmas.Cmp.{nat_cmp_total, tied_itself}
-use Rattle.std.proofs.lemmas.Map.Text.{btree_map_updates_str}
 use Rattle.std.proofs.lemmas.Map.Lookups.{exact_unsigned}
 use Rattle.std.proofs.lemmas.Slice.Eq.{bytes_eq-Decides}
 use Rattle.std.proofs.lemmas.List.{length-map, map-append}
@@ -154,5 +153,3 @@ index_numbered ds numbered next others d m n h unknown is number free now = reco
         let same : m ≡ number_of q = exact_unsigned m (number_of q) e in
         let old = rw (none _ (rw same at free)) at (h.finds q) in
         rw (now (number_of q), e, is, slice_get-last, f) (old ∙ other (first_at q (map definition_of ds)) (length ds))
-
-pub ruleset indexed = (index_known, index_numbered, index_other, btree_map_updates_str)

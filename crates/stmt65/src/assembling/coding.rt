@@ -73,7 +73,7 @@ pub enum Coded<'s, 'a> {
 }
 
 /// What an instruction is coded by: the opcodes of the CPU, its mnemonic, and the definitions above it.
-#[derive(Clone, Copy)]
+#[derive(Drop)]
 struct Coder<'c, 'n, 't, A: Allocator + Clone> {
     opcodes: &'c EncodeTable,
     mnemonic: Mnemonic,

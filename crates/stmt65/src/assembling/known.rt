@@ -47,21 +47,21 @@ fn follow<'a, L: Allocator + Clone, A: Allocator + Clone, B: Allocator, C: Alloc
     names: &Symbols<'_, A>,
     state: &mut State<'_, '_, L>,
     count: usize,
-    source: &SourceLine<'a, B>,
+    source: SourceLine<'a, B>,
 ) -> Result<Option<usize>, AllocError>
     ensures { IfOk result (λ found. IfSome found (λ n. Follows names.now
         (state_of state.old (take count names.now)) (state_of state.new (take n names.now))
-        (source_of source.now) out.old.items out.new.items)) }
+        (source_of source.entry) out.old.items out.new.items)) }
 {
     let above = names.first(count);
-    let placed = place(state, &above, source);
-    if let Some(_) = code_placed(&names.all(), state, &above, source, &placed, out)? {
+    let placed = place(state, &above, &source);
+    if let Some(_) = code_placed(&names.all(), state, &above, &source, &placed, out)? {
         return Ok(None);
     }
     let Some(count) = count_after(names, count, placed.definition) else {
         return Ok(None);
     };
-    advance(state, source, &placed);
+    advance(state, &source, &placed);
     Ok(Some(count))
 }
 
@@ -83,7 +83,7 @@ pub fn assemble_known<'b, L: Allocator + Clone, A: Allocator, B: Allocator + Clo
         let Some(said) = read_line(alloc, source.language, line)? else {
             return Ok(None);
         };
-        let Some(next) = follow(&mut out, names, &mut state, count, &said)? else {
+        let Some(next) = follow(&mut out, names, &mut state, count, said)? else {
             return Ok(None);
         };
         count = next;

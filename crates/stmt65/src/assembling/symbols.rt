@@ -148,7 +148,6 @@ impl<'a, A: Allocator + Clone> Symbols<'a, A> {
     }
 
     /// Adds a definition after the others.
-    #[tactic(auto, using(crate::proofs::SymbolLaws::indexed))]
     pub fn define(&mut self, definition: Definition<'a>) -> Result<(), AllocError>
         ensures { OnOk result (self.new ≡ self.old ++ definition_of definition.entry ∷ []) }
     {
