@@ -38,7 +38,7 @@ pub fn info_message(fault: InfoFault) -> Message
     put(&mut out, b"da65: info:");
     put_decimal(&mut out, fault.line);
     put(&mut out, b": ");
-    put(&mut out, fault.kind.text());
+    put(&mut out, fault.kind.text().as_bytes());
     put(&mut out, b"\n");
     out
 }
@@ -55,7 +55,7 @@ pub fn include_message(name: &[u8], fault: InfoFault) -> Message
     put(&mut out, b":");
     put_decimal(&mut out, fault.line);
     put(&mut out, b": ");
-    put(&mut out, fault.kind.text());
+    put(&mut out, fault.kind.text().as_bytes());
     put(&mut out, b"\n");
     out
 }
