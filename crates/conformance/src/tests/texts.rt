@@ -1,6 +1,8 @@
 // The texts of the faults.
 use crate::tests::asserts::assert_equal;
 use da65::{RunFault, UsageFault};
+use info65::{InfoFault, InfoFaultKind};
+use std::fmt;
 
 const USAGE_FAULTS: &[(UsageFault, &str)] = &[
     (UsageFault::Words, "bad arguments"),
@@ -15,14 +17,33 @@ const RUN_FAULTS: &[(RunFault, &str)] = &[
     (RunFault::Messages, "cannot write the messages"),
 ];
 
+const INFO_FAULTS: &[(InfoFault, &str)] = &[
+    (
+        InfoFault {
+            line: 3,
+            kind: InfoFaultKind::TooLarge,
+        },
+        "3: too large",
+    ),
+    (
+        InfoFault {
+            line: 0,
+            kind: InfoFaultKind::Memory,
+        },
+        "0: out of memory",
+    ),
+];
+
+fn assert_texts<F: fmt::Display>(rt: &HostRuntime, faults: &[(F, &str)]) {
+    for (fault, text) in faults {
+        let found = format!(in rt.alloc(); "{fault}").expect(rt, "format");
+        assert_equal(rt, &found.as_str(), text);
+    }
+}
+
 #[test]
 fn texts_of_faults(rt: HostRuntime) {
-    for (fault, text) in USAGE_FAULTS {
-        let found = format!(in rt.alloc(); "{fault}").expect(&rt, "format");
-        assert_equal(&rt, &found.as_str(), text);
-    }
-    for (fault, text) in RUN_FAULTS {
-        let found = format!(in rt.alloc(); "{fault}").expect(&rt, "format");
-        assert_equal(&rt, &found.as_str(), text);
-    }
+    assert_texts(&rt, USAGE_FAULTS);
+    assert_texts(&rt, INFO_FAULTS);
+    assert_texts(&rt, RUN_FAULTS);
 }
