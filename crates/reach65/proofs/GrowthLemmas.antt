@@ -37,9 +37,6 @@ pub is_in_row : (f : FlowView) (old mid : State) (less a other : ℕ) → less �
 is_in_row f old mid less a other few words begins same =
     subst (λ e. MayJoin f e a 3) (sym (same-extent old mid same)) (in_row (record { less = less; few = few; other = other; words = words; begins = begins }))
 
-pub grown_same : (f : FlowView) (s : State) → IsDone f s → IsGrown f s s
-grown_same f s done = record { done = done; grown = λ first was. was }
-
 pub grown_before : (f : FlowView) (old new : State) → IsDone f old → IsAsBefore old new → IsGrown f old new
 grown_before f old new done same = grind (arith, same-extent)
 
@@ -48,9 +45,6 @@ grown_joined f old new a least candidate has = record {
   done = has.done;
   grown = λ first was. joined (extent_of old) (extent_of new) a least was candidate (record { entries = has.entries; reached = has.done.reached; sound = has.sound });
 }
-
-pub grown_then : (f : FlowView) (old mid new : State) → IsGrown f old mid → IsGrown f mid new → IsGrown f old new
-grown_then f old mid new one two = record { done = two.done; grown = λ first was. two.grown first (one.grown first was) }
 
 pub is_followed : (f : FlowView) (entries : List ℕ) (old new : State) → old.entries ≡ entries → IsDone f old → IsGrown f old new → IsFollowed f entries (extent_of new)
 is_followed f entries old new is done grown = record {

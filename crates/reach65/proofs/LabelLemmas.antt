@@ -37,17 +37,16 @@ labels_fresh names marks found is = grind (arith, labels-new, none-is, and_parts
 
 -- ---- one after the other
 
-pub labels_none : (p : ℕ → Bool) (a : ℕ) → labels_from p a 0 ≡ []
-unfolding labels_from
-labels_none p a = λ i. []
-
 labels-from : (p : ℕ → Bool) (a n : ℕ) → labels_from p a (n + 1) ≡ labels_from p a n ++ label_at p (a + n)
 unfolding labels_from
 labels-from p a zero = let none : a + 0 ≡ a = omega arith in rw none (append-nil (label_at p a))
 labels-from p a (suc n) = grind (arith, (labels-from p (a + 1) n), append_assoc)
 
-pub labels_more : (p : ℕ → Bool) (n : ℕ) → labels_from p 0 (n + 1) ≡ labels_from p 0 n ++ label_at p n
-labels_more p n = let none : 0 + n ≡ n = omega arith in rw none at (labels-from p 0 n)
+labels-more : (p : ℕ → Bool) (n : ℕ) → labels_from p 0 (n + 1) ≡ labels_from p 0 n ++ label_at p n
+labels-more p n = let none : 0 + n ≡ n = omega arith in rw none at (labels-from p 0 n)
+
+pub labels_next : (p : ℕ → Bool) (n : ℕ) (old new : List ℕ) → old ≡ labels_from p 0 n → new ≡ old ++ label_at p n → new ≡ labels_from p 0 (n + 1)
+labels_next p n old new before is = grind (arith, labels-more)
 
 -- ---- after a file
 

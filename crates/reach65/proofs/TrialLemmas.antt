@@ -115,18 +115,12 @@ checked-next f old new a next fine was = record {
 pub checked_leads : (f : FlowView) (old new end : State) (a : ℕ) → HasNext old new a → is_fine f a ≡ true → end ≡ put_leads f new a → AreChecked f old → AreChecked f end
 checked_leads f old new end a next fine is was = grind (arith, checked-put_some, checked-next)
 
-pub all_fine : (f : FlowView) (old new : State) → IsAtEnd old new → AreChecked f old → (b : ℕ) → Contains new.added b → is_fine f b ≡ true
-all_fine f old new end was b has = grind (arith, contains-nil)
-
 trial-checked : (f : FlowView) (s : State) (a : ℕ) → AreChecked f (put_entry f.map.image (record s { added = [] }) a)
 unfolding put_entry put_inside
 trial-checked f s a =
     let t : State = record s { entries = s.entries ++ a ∷ []; added = [] } in
     let first : AreChecked f t = record { each = λ b has. absurd (contains-nil b has) } in
     cond_both (is_inside f.map.image a) (put t a) t (AreChecked f) (λ _. checked-put f t a first) (λ _. first)
-
--- what holds where a trial ends
-pub ruleset trial_steps = (all_fine, trial_end, trial_next, trial_same)
 
 -- ---- the beginning of a trial
 

@@ -52,7 +52,7 @@ fn pointer_at<A: Allocator>(map: &Map<'_, A>, address: u16) -> Option<u16>
 }
 
 /// Returns what the tables of addresses and of returns refer to, in the order of their entries. Fails only if an allocation failed.
-#[tactic(auto, unfolding(crate::specs::Entries::pointers), using(std::proofs::lemmas::Grind::common_steps, crate::proofs::LoopLemmas::addresses_none, crate::proofs::LoopLemmas::addresses_more))]
+#[tactic(auto, unfolding(crate::specs::Entries::pointers))]
 pub fn pointers_of<A: Allocator, B: Allocator>(
     alloc: A,
     map: &Map<'_, B>,

@@ -154,7 +154,7 @@ impl<'a, 'm, A: Allocator> Flow<'a, 'm, A> {
     }
 
     /// What the information file says of the text behind this instruction of the address.
-    #[tactic(auto, unfolding(crate::specs::Flow::text_of), using(crate::proofs::FlowLemmas::no_text))]
+    #[tactic(auto, unfolding(crate::specs::Flow::text_of))]
     fn text_of(&self, address: u16, op: Op) -> Option<Tag>
         requires low { self.now.map.image.start ≤ address }
         requires high { address < end_of self.now.map.image }
@@ -216,9 +216,9 @@ impl<'a, 'm, A: Allocator> Flow<'a, 'm, A> {
         requires whole { address + len_of op.mode ≤ end_of self.now.map.image }
         ensures { result ≡ text_by self.now address (Some op) }
     {
-        if self.text_of(address, op)?.size.is_some() {
+        let Some(Tag { size: None, .. }) = self.text_of(address, op) else {
             return None;
-        }
+        };
         let text = usize::from(address) + usize::from(op.mode.len());
         zero_end_in(self.map.image(), text)?;
         Some(text as u16)

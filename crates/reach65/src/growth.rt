@@ -131,7 +131,7 @@ fn is_candidate<A: Allocator, B: Allocator>(
 // ---- one candidate
 
 /// Adds an address to the entries, if it is a sound beginning of at least so many instructions, and what is reached from it to `fresh`.
-#[tactic(auto, using(crate::proofs::GrowthLemmas::grown_same, crate::proofs::GrowthLemmas::grown_before, crate::proofs::GrowthLemmas::grown_joined))]
+#[tactic(auto, using(crate::proofs::GrowthLemmas::grown_before, crate::proofs::GrowthLemmas::grown_joined))]
 pub fn join<A: Allocator, B: Allocator>(
     search: &mut Search<A>,
     fresh: &mut Vec<u16, A>,
@@ -153,7 +153,6 @@ pub fn join<A: Allocator, B: Allocator>(
 }
 
 /// Adds the address of a candidate to the entries, if it is one still and a sound beginning. What `pairs` has is lost.
-#[tactic(auto, using(crate::proofs::GrowthLemmas::grown_same))]
 fn try_candidate<A: Allocator, B: Allocator>(
     pairs: &mut Vec<Pair, A>,
     search: &mut Search<A>,
@@ -176,7 +175,6 @@ fn try_candidate<A: Allocator, B: Allocator>(
 // ---- all candidates
 
 /// Adds the sound beginnings that tables refer to.
-#[tactic(auto, using(crate::proofs::GrowthLemmas::grown_same, crate::proofs::GrowthLemmas::grown_then, crate::proofs::GrowthLemmas::table_may))]
 fn join_tables<A: Allocator + Copy, B: Allocator>(
     alloc: A,
     search: &mut Search<A>,
@@ -275,7 +273,6 @@ fn candidates_of<A: Allocator + Copy, B: Allocator>(
 }
 
 /// Adds the sound beginnings among the candidates that these instructions give. Returns what is reached from them.
-#[tactic(auto, using(crate::proofs::GrowthLemmas::grown_same, crate::proofs::GrowthLemmas::grown_then))]
 fn join_candidates<A: Allocator + Copy, B: Allocator>(
     alloc: A,
     search: &mut Search<A>,
@@ -295,7 +292,6 @@ fn join_candidates<A: Allocator + Copy, B: Allocator>(
 }
 
 /// Adds the sound beginnings among the words of rows, and all that is found from them, until there are no more, or many times.
-#[tactic(auto, using(crate::proofs::GrowthLemmas::grown_same, crate::proofs::GrowthLemmas::grown_then))]
 fn grow_rows<A: Allocator + Copy, B: Allocator>(
     alloc: A,
     search: &mut Search<A>,
@@ -317,7 +313,6 @@ fn grow_rows<A: Allocator + Copy, B: Allocator>(
 
 /// Adds the sound beginnings among the candidates that what is reached gives, and what is reached from them, until there are no more.
 /// Each time but the last at least one address joins, so there are fewer times than addresses.
-#[tactic(auto, using(crate::proofs::GrowthLemmas::grown_same, crate::proofs::GrowthLemmas::grown_then))]
 fn grow<A: Allocator + Copy, B: Allocator>(
     alloc: A,
     search: &mut Search<A>,
@@ -340,7 +335,7 @@ fn grow<A: Allocator + Copy, B: Allocator>(
 /// Follows the code from its entries, and from the sound beginnings among what the tables of the information file refer to, the addresses
 /// that reached code has in halves, and those right after a reached instruction and its text. Each is tried once that is known, in the order of the
 /// addresses, until none joins. The time grows with the number of addresses that are reached. Fails only if an allocation failed.
-#[tactic(auto, using(crate::proofs::GrowthLemmas::is_followed, crate::proofs::GrowthLemmas::grown_then))]
+#[tactic(auto, using(crate::proofs::GrowthLemmas::is_followed))]
 pub fn follow<A: Allocator + Copy, B: Allocator>(
     alloc: A,
     flow: &Flow<'_, '_, B>,

@@ -74,7 +74,6 @@ fn put_unnamed<A: Allocator, B: Allocator>(
 }
 
 /// The marked addresses that no name covers, in order.
-#[tactic(auto, using(crate::proofs::LabelLemmas::labels_none, crate::proofs::LabelLemmas::labels_more))]
 fn unnamed<A: Allocator, B: Allocator>(
     alloc: A,
     info: &Info<B>,

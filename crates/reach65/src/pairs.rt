@@ -326,7 +326,7 @@ pub fn put_pairs_at<A: Allocator, B: Allocator>(
 
 /// Returns each pair of immediates in reached code that forms an address of the image or one of the 256 after it, by the address of its
 /// first instruction. Fails only if an allocation failed.
-#[tactic(auto, unfolding(crate::specs::Pairs::pairs_of), using(std::proofs::lemmas::Grind::common_steps, crate::proofs::LoopLemmas::addresses_none, crate::proofs::LoopLemmas::addresses_more))]
+#[tactic(auto, unfolding(crate::specs::Pairs::pairs_of))]
 pub fn pairs_of<A: Allocator, B: Allocator>(
     alloc: A,
     flow: &Flow<'_, '_, B>,

@@ -182,7 +182,6 @@ impl<'a, 'f, 'm, A: Allocator, B: Allocator> RowWords<'a, 'f, 'm, A, B> {
     }
 
     /// Adds an address to the entries, if code begins at the one of the word beside, and it is a sound beginning.
-    #[tactic(auto, using(crate::proofs::GrowthLemmas::grown_same, crate::proofs::GrowthLemmas::grown_before, crate::proofs::GrowthLemmas::grown_then))]
     fn join_beside<C: Allocator>(
         &self,
         search: &mut Search<C>,
@@ -206,7 +205,6 @@ impl<'a, 'f, 'm, A: Allocator, B: Allocator> RowWords<'a, 'f, 'm, A, B> {
     }
 
     /// Adds the address of a word to the entries, if that and the word beside are in a row. Returns whether it is reached.
-    #[tactic(auto, using(crate::proofs::GrowthLemmas::grown_same, crate::proofs::GrowthLemmas::grown_then))]
     fn join_word<C: Allocator>(
         &self,
         search: &mut Search<C>,
@@ -236,7 +234,6 @@ impl<'a, 'f, 'm, A: Allocator, B: Allocator> RowWords<'a, 'f, 'm, A, B> {
     }
 
     /// Adds the addresses of two words to the entries, if they are in a row, and sound beginnings.
-    #[tactic(auto, using(crate::proofs::GrowthLemmas::grown_same, crate::proofs::GrowthLemmas::grown_then))]
     fn join_words<C: Allocator>(
         &self,
         search: &mut Search<C>,
@@ -272,7 +269,6 @@ impl<'a, 'f, 'm, A: Allocator, B: Allocator> RowWords<'a, 'f, 'm, A, B> {
     }
 
     /// Adds the addresses of the word at the address, and of the next one, to the entries, if they are in a row, and sound beginnings.
-    #[tactic(auto, using(crate::proofs::GrowthLemmas::grown_same, crate::proofs::GrowthLemmas::grown_then))]
     fn join_at<C: Allocator>(
         &self,
         search: &mut Search<C>,
@@ -291,7 +287,6 @@ impl<'a, 'f, 'm, A: Allocator, B: Allocator> RowWords<'a, 'f, 'm, A, B> {
     }
 
     /// Adds the sound beginnings among the words of rows to the entries. Returns what is reached from them.
-    #[tactic(auto, using(crate::proofs::GrowthLemmas::grown_same, crate::proofs::GrowthLemmas::grown_then))]
     pub fn join_rows<C: Allocator + Copy>(
         &self,
         alloc: C,

@@ -158,7 +158,6 @@ impl<A: Allocator> Search<A> {
     }
 
     /// Marks all that is reached.
-    #[tactic(auto, using(crate::proofs::SearchLemmas::begun_done, crate::proofs::SearchLemmas::leads_left))]
     fn finish<B: Allocator>(&mut self, flow: &Flow<'_, '_, B>) -> Result<(), AllocError>
         requires { IsBegun flow.now self.old }
         ensures done { OnOk result (IsDone flow.now self.new) }
@@ -196,7 +195,6 @@ impl<A: Allocator> Search<A> {
     }
 
     /// Marks all that is reached, or stops at the first instruction that is not fine: then it returns `false`.
-    #[tactic(auto, using(crate::proofs::SearchLemmas::begun_done, crate::proofs::SearchLemmas::leads_left, crate::proofs::TrialLemmas::trial_steps))]
     fn finish_trial<B: Allocator>(&mut self, flow: &Flow<'_, '_, B>) -> Result<bool, AllocError>
         requires begun { IsBegun flow.now self.old }
         requires checked { AreChecked flow.now self.old }

@@ -15,14 +15,14 @@ pub enum Alphabet {
 }
 
 /// How many characters follow each other, and how many of them are letters or blanks.
-#[derive(Clone, Copy, Debug, PartialEq, Eq)]
+#[derive(Clone, Copy)]
 pub struct Tail {
     count: usize,
     letters: usize,
 }
 
 /// The characters in each alphabet.
-#[derive(Clone, Copy, Debug, PartialEq, Eq)]
+#[derive(Clone, Copy)]
 pub struct Tails {
     pub ascii: Tail,
     pub high: Tail,
