@@ -66,8 +66,8 @@ fn traced_text(rt: &HostRuntime, tracing: &Tracing) -> Result<Vec<u8>, Failure> 
 }
 
 /// Writes what is found in the image. The output is created once the text is there.
-fn trace(rt: &HostRuntime, mut tracing: Tracing) -> Result<(), Failure> {
-    let text = traced_text(rt, &tracing)?;
+fn trace(rt: &HostRuntime, tracing: &mut Tracing) -> Result<(), Failure> {
+    let text = traced_text(rt, tracing)?;
     let mut output = Output::create_new(rt, tracing.output.take())?;
     Ok(write_text(&mut output, &text)?)
 }
@@ -78,7 +78,7 @@ fn program(rt: &HostRuntime) -> Result<(), Failure> {
     match requested(rt)? {
         Request::Help => tell(rt, &this_program().help_text(rt.alloc())?),
         Request::Version => tell(rt, &this_program().version_text(rt.alloc())?),
-        Request::Trace(tracing) => trace(rt, tracing),
+        Request::Trace(mut tracing) => trace(rt, &mut tracing),
     }
 }
 
