@@ -1,28 +1,21 @@
 -- Sets of lemmas, each by the function whose proof they make.
 use Rattle.std.proofs.lemmas.Grind.{common_steps}
-use Rattle.da65.proofs.Groups.GroupLemmas.{begins-true, first_place, group-fits, group-some, item-begins, item-goes-on, place-next, place-skip}
+use Rattle.da65.proofs.Groups.GroupLemmas.{begins-true, group-fits, item-begins, item-goes-on}
 use Rattle.da65.proofs.Groups.RoleLemmas.{role_some, role_there}
 use Rattle.da65.proofs.Groups.ShapeLemmas.{group-index, limit-code}
 use Rattle.da65.proofs.Groups.StepLemmas.{addresses-end, addresses-here, group_one, more-step}
 use Rattle.da65.proofs.Names.BaseLemmas.{base_unnamed}
 use Rattle.da65.proofs.NextLine.CommentLemmas.{given_told, some_printable}
-use Rattle.da65.proofs.NextLine.ConstantLemmas.{constants-unnamed}
 use Rattle.da65.proofs.NextLine.HeadingLemmas.{group-headings, heading-comment, heading-first, heading-forward, heading-none, headings-bare, headings-end, headings-run, headings-unmarked, headings-unnamed, segment-no, segment-yes}
 use Rattle.da65.proofs.NextLine.ListedGroupLemmas.{bare, has-bytes, is-inside, is-long, is-short, no-instruction, no-operands, of-role, statement-is}
-use Rattle.da65.proofs.NextLine.MarkLemmas.{comment-shown, unmarked, unnamed-comment}
-use Rattle.da65.proofs.NextLine.NextLemmas.{above-lines, beside-lines, constant-bare, constant-base, constant-comment, constant-moved, first-text, from-label, header-blank, lines-here, lines-title, next-moved, next-plain, shown-start, takes-label, unlabelled-lines}
-use Rattle.da65.proofs.Outcomes.IncludeLemmas.{all_of_none, seen_alike}
-use Rattle.da65.proofs.Reentry.ReentryLemmas.{byte-told, count-told, keyed-after, keys-told, known-back, known-end, known-first, known-next, known-skip, never-entered, none-seen, skip-told, start-told}
+use Rattle.da65.proofs.NextLine.MarkLemmas.{unmarked, unnamed-comment}
+use Rattle.da65.proofs.NextLine.NextLemmas.{above-lines, beside-lines, constant-bare, constant-base, constant-comment, constant-moved, first-text, from-label, header-blank, lines-title, next-moved, next-plain, shown-start, takes-label, unlabelled-lines}
 use Rattle.da65.proofs.Statements.EntryLemmas.{group_of_table}
 use Rattle.da65.proofs.Statements.PrintLaws.{statement_prints}
-use Rattle.std.proofs.lemmas.Bool.{OnFalse_at, cond-false, eqb-true, true≢false}
-use Rattle.std.proofs.lemmas.List.{nil_from_length, take_all}
+use Rattle.std.proofs.lemmas.Bool.{true≢false}
 use Rattle.std.proofs.lemmas.List.Elements.{All-from_get_or}
-use Rattle.std.proofs.lemmas.List.Folds.{list_any_at, list_any_more}
 
 pub ruleset comment_at_rules = (given_told, some_printable, unmarked, unnamed-comment)
-
-pub ruleset constant_before_rules = (cond-false, constants-unnamed, lines-here)
 
 pub ruleset put_assignment_rules = (true≢false, constant-base)
 
@@ -60,8 +53,6 @@ pub ruleset put_heading_rules = (heading-comment, heading-forward)
 
 pub ruleset put_segment_rules = (segment-no, segment-yes, first-text)
 
-pub ruleset has_comment_rules = (take_all, list_any_at, list_any_more, comment-shown)
-
 pub ruleset group_len_rules = (role_some, limit-code, group_one)
 
 pub ruleset is_any_skipped_rules = (addresses-end, addresses-here)
@@ -75,7 +66,3 @@ pub ruleset is_shown_rules = (shown-start, common_steps)
 pub ruleset put_next_group_rules = (next-moved, common_steps)
 
 pub ruleset put_header_line_rules = (first-text, header-blank)
-
-pub ruleset add_includes_rules = (eqb-true, all_of_none, seen_alike)
-
-pub ruleset is_entered_again_rules = (eqb-true, OnFalse_at, nil_from_length, byte-told, count-told, keyed-after, keys-told, known-back, known-end, known-first, known-next, known-skip, never-entered, none-seen, skip-told, start-told, first_place, group-some, item-begins, place-next, place-skip)

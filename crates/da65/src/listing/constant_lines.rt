@@ -111,7 +111,6 @@ fn named_from<A: Allocator>(map: &Map<'_, A>, from: usize, end: usize) -> usize
 }
 
 /// The first address from this one on and before `end` that has a constant line. The buffer holds its name.
-#[tactic(auto, using(crate::proofs::Rules::constant_before_rules, std::proofs::lemmas::Grind::common_steps))]
 fn constant_before<A: Allocator>(
     listed: &ListedImage<'_, A>,
     from: usize,

@@ -9,7 +9,6 @@ use info65::Info;
 use std::alloc::Allocator;
 
 /// Whether a given name has a comment.
-#[tactic(auto, using(crate::proofs::Rules::has_comment_rules, std::proofs::lemmas::Grind::common_steps))]
 fn has_comment<A: Allocator>(info: &Info<A>) -> bool
     ensures { result ≡ list_any has_comment info.now.names }
 {

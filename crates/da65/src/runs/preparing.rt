@@ -50,7 +50,6 @@ fn with_bytes<'a, A: Allocator + Copy>(
 }
 
 /// The name of the include file at this index.
-#[tactic(auto, using(crate::proofs::Outcomes::IncludeFacts::short_name))]
 fn name_at<'a, A: Allocator + Copy>(included: &Inclusion<'a, A>, index: usize) -> &'a str
     requires { index < length included.now.includes }
     ensures name { IsNameAt included.now index result.now }
@@ -106,7 +105,6 @@ fn all_names<'a, 'f: 'a, A: Allocator + Copy>(
 }
 
 /// Adds the names of all include files, if an input is named and no file is refused.
-#[tactic(auto, using(crate::proofs::Rules::add_includes_rules, std::proofs::lemmas::Grind::common_steps))]
 fn add_includes<A: Allocator + Copy>(
     alloc: A,
     info: &mut Info<A>,

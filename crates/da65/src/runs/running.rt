@@ -50,7 +50,6 @@ fn warnings_of<A: Allocator>(map: &Map<'_, A>) -> Message
 }
 
 /// Writes the listing of an image and then its warnings. Allocates nothing.
-#[tactic(auto, using(crate::proofs::Outcomes::RunLaws::listing_took))]
 fn write_listing<A: Allocator, W: Sink, M: Sink>(
     map: &Map<'_, A>,
     messages: &[u8],

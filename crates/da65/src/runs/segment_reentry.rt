@@ -99,7 +99,6 @@ impl Entered {
 ///
 /// The default counts as CODE. The names of the segments are compared by their keys, of which a set of a fixed
 /// size is kept, so this allocates nothing. The time grows as n + r log s with n groups, r runs and s segments.
-#[tactic(auto, using(crate::proofs::Rules::is_entered_again_rules, std::proofs::lemmas::Grind::common_steps), unfolding(crate::specs::SegmentReentry::is_entered_again))]
 pub fn is_entered_again<A: Allocator>(map: &Map<'_, A>) -> bool
     ensures { result ≡ is_entered_again map.now }
 {
