@@ -12,7 +12,6 @@ use std::alloc::Allocator;
 const LIMIT: usize = 65_537;
 
 /// The bytes after the first `offset`, up to the end or `limit` of them.
-#[tactic(auto, using(crate::proofs::ReadLemmas::bound_after))]
 fn take_after<A: Allocator, R: Source>(
     alloc: A,
     input: &mut R,

@@ -39,7 +39,6 @@ impl From<DeviceFault> for TakeFault {
 }
 
 /// Passes over this many bytes without storing them. Returns false if the input ends before.
-#[tactic(auto, using(crate::proofs::ReadLemmas::takes_more, std::proofs::lemmas::Grind::common_steps))]
 pub fn pass_over<R: Source>(input: &mut R, count: usize) -> Result<bool, DeviceFault>
     ensures passed { Passes result count (R.left input.old) (R.left input.new) }
     ensures bound { TakesUpTo count (R.left input.old) (R.left input.new) }
@@ -60,7 +59,6 @@ pub fn pass_over<R: Source>(input: &mut R, count: usize) -> Result<bool, DeviceF
 }
 
 /// Reads up to the end of the input, or up to `limit` bytes. A read that fails is not tried again.
-#[tactic(auto, using(crate::proofs::ReadLemmas::takes))]
 pub fn take_up_to<A: Allocator, R: Source>(
     alloc: A,
     input: &mut R,

@@ -8,7 +8,6 @@ use crate::devices::device::{DeviceFault, Sink};
 
 /// Writes all bytes, or fails at the first write that fails, with a prefix of them written. No write is
 /// tried again, and without a byte there is none.
-#[tactic(auto, using(crate::proofs::WriteLemmas::taken_more, crate::proofs::WriteLemmas::taken_all))]
 pub fn write_whole<W: Sink>(out: &mut W, bytes: &[u8]) -> Result<(), DeviceFault>
     ensures whole { OnOk result (Appends (W.taken out.old) (W.taken out.new) bytes.now) }
     ensures front { OnErr result (AppendsFront (W.taken out.old) (W.taken out.new) bytes.now) }
