@@ -32,6 +32,7 @@ use image::image;
 use info65::Info;
 use information::{information, placed_at};
 use listing::need_bytes;
+use map65::Image;
 use message::{say, say_starts};
 use named_start::named_start;
 use request::{Comparing, Request, Writing, is_compared_by, is_comparing, request_of};
@@ -39,7 +40,7 @@ use segment_starts::layout_of;
 use status::{Ended, status_of};
 use std::process::ExitCode;
 use stmt65::{Language, Layout, Source};
-use usage65::{RequestFault, words_of};
+use usage65::{Names, RequestFault, words_of};
 
 /// Writes a text about the program on standard output.
 fn tell(rt: &HostRuntime, text: &[u8]) -> Result<Ended, Failure> {
@@ -57,47 +58,75 @@ fn repair<'t, 'l, 'n>(layout: &'l Layout<'n>, start: u16, text: &'t [u8]) -> Sou
     }
 }
 
-/// Reads the listing, and writes its bytes. The output is created once they are there.
-fn write_under(rt: &HostRuntime, mut writing: Writing, info: &Info) -> Result<Ended, Failure> {
-    let start = placed_at(info.settings()).ok_or(RequestFault::NoStart)?;
-    let layout = layout_of(rt.alloc(), info.segments(), writing.place.fill)?;
-    let output = writing.names.output.take();
-    let name = writing.names.listing.as_str();
-    let text = read_listing(rt, name)?;
-    let source = repair(&layout, start, &text);
-    let assembled = Assembled::new(rt.alloc(), &source, name)?;
+/// Writes the bytes of a listing. The output is created once they are there.
+fn write_source(
+    rt: &HostRuntime,
+    names: &mut Names,
+    source: &Source<'_, '_, '_>,
+) -> Result<Ended, Failure> {
+    let name = names.listing.as_str();
+    let assembled = Assembled::new(rt.alloc(), source, name)?;
     need_bytes(rt.alloc(), &assembled, name)?;
-    let mut output = Output::create(rt, output)?;
+    let mut output = Output::create(rt, names.output.take())?;
     assembled.write(&mut output)?;
     Ok(Ended::Done)
 }
 
-/// Reads what says where the image is, and writes it. Its output may not be the input of the information file either.
-fn write_image(rt: &HostRuntime, writing: Writing) -> Result<Ended, Failure> {
+/// Reads the listing, and writes its bytes. The output may not be the input of the information file either.
+fn write_under(rt: &HostRuntime, writing: &mut Writing, info: &Info) -> Result<Ended, Failure> {
+    let names = &mut writing.names;
+    keep_inputs(
+        rt,
+        names.output.as_deref(),
+        &[info.settings().input.as_deref()],
+    )?;
+    let start = placed_at(info.settings()).ok_or(RequestFault::NoStart)?;
+    let layout = layout_of(rt.alloc(), info.segments(), writing.place.fill)?;
+    let text = read_listing(rt, names.listing.as_str())?;
+    write_source(rt, names, &repair(&layout, start, &text))
+}
+
+/// Reads what says where the image is, and writes it.
+fn write_image(rt: &HostRuntime, writing: &mut Writing) -> Result<Ended, Failure> {
     let names = &writing.names;
     let inputs = [names.info.as_deref(), Some(names.listing.as_str())];
-    let output = names.output.as_deref();
-    keep_inputs(rt, output, &inputs)?;
+    keep_inputs(rt, names.output.as_deref(), &inputs)?;
     keep_apart(rt, &inputs)?;
     let info = information(rt, names.info.as_deref(), writing.place.start)?;
-    keep_inputs(rt, output, &[info.settings().input.as_deref()])?;
     write_under(rt, writing, &info)
 }
 
-/// Reads the image and the listing, and writes on standard output where their bytes differ.
-fn compare_under(rt: &HostRuntime, comparing: &Comparing, info: &Info) -> Result<Ended, Failure> {
-    let image = image(rt, comparing.image.as_str(), info)?;
-    let layout = layout_of(rt.alloc(), info.segments(), comparing.place.fill)?;
+/// Writes on standard output where the bytes of an image and of a listing differ.
+fn compare_source(
+    rt: &HostRuntime,
+    comparing: &Comparing,
+    info: &Info,
+    image: &Image,
+    source: &Source<'_, '_, '_>,
+) -> Result<Ended, Failure> {
     let name = comparing.names.listing.as_str();
-    let text = read_listing(rt, name)?;
-    let source = repair(&layout, image.start(), &text);
-    let assembled = Assembled::new(rt.alloc(), &source, name)?;
+    let assembled = Assembled::new(rt.alloc(), source, name)?;
     need_bytes(rt.alloc(), &assembled, name)?;
     if info.settings().start.is_none() && image.bytes() != assembled.bytes() {
-        let named = named_start(rt.alloc(), &source, image.bytes().len())?;
+        let named = named_start(rt.alloc(), source, image.bytes().len())?;
         say_starts(rt, comparing.image.as_str(), image.start(), named)?;
     }
-    compare(rt.alloc(), &image, &assembled, &mut Output::standard(rt))
+    compare(rt.alloc(), image, &assembled, &mut Output::standard(rt))
+}
+
+/// Reads the image and the listing, and compares them.
+fn compare_under(rt: &HostRuntime, comparing: &Comparing, info: &Info) -> Result<Ended, Failure> {
+    keep_inputs(rt, None, &[info.settings().input.as_deref()])?;
+    let image = image(rt, comparing.image.as_str(), info)?;
+    let layout = layout_of(rt.alloc(), info.segments(), comparing.place.fill)?;
+    let text = read_listing(rt, comparing.names.listing.as_str())?;
+    compare_source(
+        rt,
+        comparing,
+        info,
+        &image,
+        &repair(&layout, image.start(), &text),
+    )
 }
 
 /// Reads what says where the image is, and compares. The output is standard output.
@@ -112,7 +141,6 @@ fn compare_with(rt: &HostRuntime, comparing: &Comparing) -> Result<Ended, Failur
     keep_inputs(rt, None, &inputs)?;
     keep_apart(rt, &inputs)?;
     let info = information(rt, info, comparing.place.start)?;
-    keep_inputs(rt, None, &[info.settings().input.as_deref()])?;
     compare_under(rt, comparing, &info)
 }
 
@@ -122,7 +150,7 @@ fn program(rt: &HostRuntime, words: &[String]) -> Result<Ended, Failure> {
     match request_of(rt.alloc(), words)? {
         Request::Help => tell(rt, &this_program().help_text(rt.alloc())?),
         Request::Version => tell(rt, &this_program().version_text(rt.alloc())?),
-        Request::Write(writing) => write_image(rt, writing),
+        Request::Write(mut writing) => write_image(rt, &mut writing),
         Request::Compare(comparing) => compare_with(rt, &comparing),
     }
 }
