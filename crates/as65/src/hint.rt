@@ -4,7 +4,7 @@
 ghost use Rattle.std.specs.Prelude.{◌≡◌, ◌==◌, ◌||◌, ◌-◌, ◌≤◌, IfOk, OnOk, Some, [], ◌++◌, false, length, map, option_map};
 ghost use Rattle.std.specs.List.{flat_map, prefix_len};
 ghost use Rattle.text65.specs.Names.{is_blank, is_word_byte};
-ghost use Rattle.stmt65.specs.Words.{datum_of, datum_values, form_values, operation_values, value_of};
+ghost use Rattle.stmt65.specs.Words.{datum_of, datum_values, form_values, operation_values, source_definitions, value_of};
 ghost use Rattle.stmt65.specs.Code.SourceLineViews.{form_of, operation_of};
 ghost use Rattle.as65.specs.Words.{address_after, after_blanks, after_label, alone, branch_hint, branch_target, code_of, difference_hint, distance_hint, ends_string, first_difference, first_unknown, first_word, has, has_0x, has_inner_quote, has_unknown_operation, hint, hint_for, hint_in, is_code, lacks_colon, name_in, operation_by, past_start, range_by, segment_by, too_far};
 
@@ -462,7 +462,36 @@ fn address_after(
     })
 }
 
-/// What the fault of an operation is about that stands in the line of this number.
+/// What the fault of an operation is about that stands in the line of this number, by all names of the text.
+fn operation_by(
+    alloc: Global,
+    fault: AsmFault,
+    source: &Source<'_, '_, '_>,
+    names: &Names<'_, '_, '_, '_>,
+    operation: &Operation<'_>,
+) -> Result<Vec<u8>, AllocError>
+    requires { names.now ≡ source_definitions source.now }
+    ensures { IfOk result (λ h.
+        h.items ≡ operation_by fault.kind fault.line source.now (operation_of operation.now)) }
+{
+    match fault.kind {
+        AsmFaultKind::Undefined => {
+            let values = operation_values(alloc, operation)?;
+            owned(alloc, first_unknown(names, &values))
+        }
+        AsmFaultKind::OutOfRange => {
+            let next = address_after(alloc, source, fault.line)?;
+            range_hint(alloc, names, next, operation)
+        }
+        AsmFaultKind::PastStart => {
+            let at = address_after(alloc, source, fault.line)?;
+            segment_hint(alloc, source.layout, at, operation)
+        }
+        _ => Ok(Vec::new(alloc)),
+    }
+}
+
+/// The same, where the names are not there yet.
 fn operation_hint(
     alloc: Global,
     fault: AsmFault,
@@ -473,23 +502,7 @@ fn operation_hint(
         h.items ≡ operation_by fault.kind fault.line source.now (operation_of operation.now)) }
 {
     let names = Definitions::new(&alloc, source)?;
-    match fault.kind {
-        AsmFaultKind::Undefined => {
-            owned(
-                alloc,
-                first_unknown(&names, &operation_values(alloc, operation)?),
-            )
-        }
-        AsmFaultKind::OutOfRange => {
-            let next = address_after(alloc, source, fault.line)?;
-            range_hint(alloc, &names, next, operation)
-        }
-        AsmFaultKind::PastStart => {
-            let at = address_after(alloc, source, fault.line)?;
-            segment_hint(alloc, source.layout, at, operation)
-        }
-        _ => Ok(Vec::new(alloc)),
-    }
+    operation_by(alloc, fault, source, &names, operation)
 }
 
 /// What the fault of a line of a text is about; empty if the line itself says it.
