@@ -210,16 +210,11 @@ fn alone(name: &[u8]) -> Value<'_>
 fn form_values<'a>(alloc: Global, form: Form<'a>) -> Result<Vec<Value<'a>>, AllocError>
     ensures { IfOk result (λ values. map value_of values.items ≡ form_values (form_of form.entry)) }
 {
-    let mut values = Vec::new(alloc);
     match form {
-        Form::Empty | Form::Accumulator => {}
-        Form::Two(v, w) => {
-            values.push(v)?;
-            values.push(w)?;
-        }
-        Form::One(_, v) => values.push(v)?,
+        Form::Empty | Form::Accumulator => Ok(Vec::new(alloc)),
+        Form::One(_, v) => copied(alloc, &[v]),
+        Form::Two(v, w) => copied(alloc, &[v, w]),
     }
-    Ok(values)
 }
 
 /// Appends the expression of an operand of `.byte`, if it is none but a number.
