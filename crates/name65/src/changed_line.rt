@@ -87,11 +87,11 @@ pub fn put_changed(
     if placed.at < placed.end {
         return put_operation(out, plan, placed);
     }
-    match read_line(plan.alloc, placed.language, placed.line)? {
+    let put = match read_line(plan.alloc, placed.language, placed.line)? {
         Some(SourceLine::Assignment(name, n)) => {
-            put_constant(out, tail, plan, placed.line, (name, n.value()))?;
+            put_constant(out, tail, plan, placed.line, (name, n.value()))
         }
-        _ => put_kept(out, placed.line)?,
-    }
-    Ok(())
+        _ => put_kept(out, placed.line),
+    };
+    Ok(put?)
 }

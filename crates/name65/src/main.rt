@@ -74,13 +74,13 @@ fn named_listing(rt: &HostRuntime, naming: &Naming) -> Result<Vec<u8>, Failure> 
 }
 
 /// Reads the listing and the groups, and writes the listing by names. The output is created once that is there.
-fn name_listing(rt: &HostRuntime, mut naming: Naming) -> Result<(), Failure> {
+fn name_listing(rt: &HostRuntime, naming: &mut Naming) -> Result<(), Failure> {
     let names = &naming.names;
     let inputs = [names.info.as_deref(), Some(names.listing.as_str())];
     keep_inputs(rt, names.output.as_deref(), &inputs)?;
     need_plain(rt, names.output.as_deref())?;
     keep_apart(rt, &inputs)?;
-    let text = named_listing(rt, &naming)?;
+    let text = named_listing(rt, naming)?;
     let mut output = Output::create(rt, naming.names.output.take())?;
     Ok(write_text(&mut output, &text)?)
 }
@@ -102,7 +102,7 @@ fn program(rt: &HostRuntime) -> Result<(), Failure> {
     match requested(rt)? {
         Request::Help => tell(rt, &this_program().help_text(rt.alloc())?),
         Request::Version => tell(rt, &this_program().version_text(rt.alloc())?),
-        Request::Name(naming) => name_listing(rt, naming),
+        Request::Name(mut naming) => name_listing(rt, &mut naming),
     }
 }
 
