@@ -43,7 +43,6 @@ unfoldable pub use Rattle.da65.specs.Style.{style_of}
 unfoldable pub use Rattle.da65.specs.Usage.{layout_in, options_in, usage_of}
 pub use Rattle.da65.specs.declared.listing.constant_lines.TheConstants.{BLOCK}
 pub use Rattle.info65.specs.declared.fault.InfoFaultKind.TheVariants.{BadInclude}
-pub use Rattle.info65.specs.declared.information.name.Given.{Given}
 pub use Rattle.info65.specs.declared.information.range.RangeType.TheVariants.{AddrTable, RtsTable, Skip, TextTable}
 pub use Rattle.info65.specs.declared.information.segment.SegmentSpec.{SegmentSpec}
 pub use Rattle.isa65.specs.declared.cpu.Cpu.TheVariants.{M6502}

@@ -13,13 +13,12 @@ mod listing;
 mod message_buffer;
 
 use da65::{
-    File, Info, InfoFault, Options, RunFault, Status, Told, needs_read, options_of, read_info,
+    Info, InfoFault, Options, RunFault, Status, Told, needs_read, options_of, read_info,
     this_program,
 };
 use files65::{FileFault, Input, Output, Placeholders, read_information, say, write_text};
 use include_files::{Content, files_for_run, include_files};
 use listing::{Listed, run_read_buffered};
-use std::alloc::AllocError;
 use std::process::ExitCode;
 use usage65::{RequestFault, words_of};
 
@@ -56,24 +55,6 @@ fn devices(
 }
 
 /// Opens the input and the output, and lists.
-fn list_on(
-    rt: &HostRuntime,
-    read: Result<Info, InfoFault>,
-    files: &[File<'_>],
-    input: Option<String>,
-    output: Option<String>,
-) -> Result<Status, Failure> {
-    let (mut input, output) = devices(rt, input, output)?;
-    let mut errors = Told::new(rt.stderr());
-    let listed = run_read_buffered(rt.alloc(), read, files, &mut input, output, &mut errors);
-    let Listed {
-        output: _output,
-        result,
-    } = listed;
-    result.map_err(Failure::Own)
-}
-
-/// Lists with these include files.
 fn list_with(
     rt: &HostRuntime,
     read: Result<Info, InfoFault>,
@@ -81,18 +62,16 @@ fn list_with(
     input: Option<String>,
     output: Option<String>,
 ) -> Result<Status, Failure> {
-    let files = files_for_run(rt.alloc(), contents)?;
-    list_on(rt, read, &files, input, output)
-}
-
-/// Reads the include files of the information file. With them are returned the names of the input and of the output.
-fn included(
-    rt: &HostRuntime,
-    read: &Result<Info, InfoFault>,
-) -> Result<(Vec<Content>, Option<String>, Option<String>), AllocError> {
-    let needs = needs_read(rt.alloc(), read)?;
-    let contents = include_files(rt, needs.includes)?;
-    Ok((contents, needs.input, needs.output))
+    let alloc = rt.alloc();
+    let files = files_for_run(alloc, contents)?;
+    let (mut input, output) = devices(rt, input, output)?;
+    let mut errors = Told::new(rt.stderr());
+    let listed = run_read_buffered(alloc, read, &files, &mut input, output, &mut errors);
+    let Listed {
+        output: _output,
+        result,
+    } = listed;
+    result.map_err(Failure::Own)
 }
 
 /// Reads the information file and its include files, and lists under them.
@@ -102,8 +81,9 @@ fn list_under(rt: &HostRuntime, options: &Options) -> Result<Status, Failure> {
         options,
         &read_information(rt, options.info.as_deref())?,
     );
-    let (contents, input, output) = included(rt, &read)?;
-    list_with(rt, read, &contents, input, output)
+    let needs = needs_read(rt.alloc(), &read)?;
+    let contents = include_files(rt, needs.includes)?;
+    list_with(rt, read, &contents, needs.input, needs.output)
 }
 
 /// Does what the options ask for.

@@ -1,44 +1,14 @@
 -- What a reader has left after one read and then another, and which image its bytes give.
-use Rattle.std.proofs.Common.{◌≡◌, ℕ, ◌+◌, ◌<◌, ◌≤◌, refl, Bool, nat_lt, arith, length-append, List, ◌++◌, length, take, drop, Option, None, Some, IfSome, Result, Ok, Err, sym, ◌∙◌, ap, ap₂, subst, ⊎_elim}
-use Rattle.std.proofs.Math.Seq.{drop-append_seam}
-use Rattle.std.proofs.lemmas.List.{append-nil, take_at, take_all, length-take, drop_all}
+use Rattle.std.proofs.Common.{◌≡◌, ℕ, ◌+◌, ◌<◌, ◌≤◌, refl, Bool, nat_lt, arith, length-append, List, length, take, drop, Option, None, Some, IfSome, Result, Ok, Err, sym, ◌∙◌, ap, ap₂, subst, ⊎_elim}
+use Rattle.std.proofs.lemmas.List.{take_all, length-take}
 use Rattle.std.proofs.lemmas.Bool.{cases_lt}
 use Rattle.std.proofs.lemmas.Bool.Decides.{nat_tests}
-use Rattle.std.specs.Io.KnownBytes.{Consumes, IsAtEnd}
+use Rattle.std.specs.Io.KnownBytes.{Consumes}
 use Rattle.std.proofs.KnownBytes.{Consumes-trans}
 use Rattle.info65.specs.Words.{SettingsView}
 use Rattle.map65.specs.Words.{Empty, GivesImage, ImageFault, ImageView, IsReadTo, ReadCount, Short, StopsAt, Takes, TakesUpTo, TooLarge, image_by, image_of, most_of, read_limit, sized}
 
 -- ---- reads, one after the other
-
--- at the end, all was taken
-pub took_all : (old new : Option (List ℕ)) (bytes : List ℕ) (limit : ℕ) → Consumes old new bytes → IsAtEnd new → length bytes ≤ limit → IfSome old (λ xs. bytes ≡ take limit xs)
-took_all None new bytes limit f e h = tt
-took_all (Some xs) None bytes limit f e h = absurd f
-took_all (Some xs) (Some ys) bytes limit f e h = grind (arith, append-nil, take_all)
-
--- at the limit, that much was
-pub took_limit : (old new : Option (List ℕ)) (bytes : List ℕ) (limit : ℕ) → Consumes old new bytes → length bytes ≡ limit → IfSome old (λ xs. bytes ≡ take limit xs)
-took_limit None new bytes limit f h = tt
-took_limit (Some xs) None bytes limit f h = absurd f
-took_limit (Some xs) (Some ys) bytes limit f h = rw f (sym (take_at bytes ys limit h))
-
--- at the end, nothing is left after the limit
-pub rest_end : (old new : Option (List ℕ)) (bytes : List ℕ) (limit : ℕ) → Consumes old new bytes → IsAtEnd new → length bytes ≤ limit → IsReadTo limit old new
-rest_end None new bytes limit f e h = tt
-rest_end (Some xs) None bytes limit f e h = absurd f
-rest_end (Some xs) (Some ys) bytes limit f e h = grind (arith, append-nil, drop_all)
-
-drop_at : (bytes ys : List ℕ) (limit : ℕ) → length bytes ≡ limit → drop limit (bytes ++ ys) ≡ ys
-drop_at bytes ys limit is = rw (← is) (drop-append_seam bytes ys)
-
--- at the limit, what is left stands after it
-pub rest_limit : (old new : Option (List ℕ)) (bytes : List ℕ) (limit : ℕ) → Consumes old new bytes → length bytes ≡ limit → IsReadTo limit old new
-rest_limit None new bytes limit f h = tt
-rest_limit (Some xs) None bytes limit f h = absurd f
-rest_limit (Some xs) (Some ys) bytes limit f h = ap Some (sym (ap (drop limit) f ∙ drop_at bytes ys limit h))
-
-pub ruleset takes = (Consumes-trans, took_all, took_limit, rest_end, rest_limit)
 
 -- what was taken at first, and then in a read, is within the limit
 pub took_up_to : (old mid new : Option (List ℕ)) (a b : List ℕ) (limit : ℕ) → Consumes old mid a → Consumes mid new b → length a + length b ≤ limit → TakesUpTo limit old new

@@ -5,8 +5,8 @@ use Rattle.std.specs.List.{list_any}
 use Rattle.std.proofs.lemmas.Bool.{eqb-true, not-false, or_parts, true≢false}
 use Rattle.std.proofs.lemmas.List.{nil_from_length}
 use Rattle.std.proofs.lemmas.List.Folds.{list_any_at}
-use Rattle.info65.specs.Words.{NameView, blank_name, covering, given_seen}
-use Rattle.da65.specs.Words.{Given, IsUnmarked, comment_at, comment_by, has_comment, has_marks, style_of}
+use Rattle.info65.specs.Words.{NameView, blank_name, covering}
+use Rattle.da65.specs.Words.{IsUnmarked, comment_at, comment_by, has_comment, has_marks, style_of}
 use Rattle.info65.proofs.Public.{last_name}
 use Rattle.map65.specs.Words.{MapView, has_name}
 use Rattle.map65.proofs.Public.{base-covered, base-none}
@@ -37,7 +37,3 @@ unmarked m none = grind (arith, or_parts, eqb-true, not-false, nil_from_length, 
 pub unnamed-comment : (m : MapView) (a : ℕ) → has_name m a ≡ false → comment_at m a ≡ None
 unfolding comment_at
 unnamed-comment m a none = grind (arith, base-covered, base-none)
-
--- a name that is looked at has a comment where the name that was given has one
-pub comment-shown : (given : Given) (n : NameView) → given_seen given ≡ n → has_comment n ≡ is_some given.comment
-comment-shown given n same = grind arith
