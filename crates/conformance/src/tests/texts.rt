@@ -2,7 +2,9 @@
 use crate::tests::asserts::assert_equal;
 use da65::{RunFault, UsageFault};
 use info65::{InfoFault, InfoFaultKind};
+use std::alloc::Global;
 use std::fmt;
+use std::process::Abort;
 
 const USAGE_FAULTS: &[(UsageFault, &str)] = &[
     (UsageFault::Words, "bad arguments"),
@@ -34,16 +36,17 @@ const INFO_FAULTS: &[(InfoFault, &str)] = &[
     ),
 ];
 
-fn assert_texts<F: fmt::Display>(rt: &HostRuntime, faults: &[(F, &str)]) {
+fn assert_texts<F: fmt::Display>(rt: &impl Abort, alloc: Global, faults: &[(F, &str)]) {
     for (fault, text) in faults {
-        let found = format!(in rt.alloc(); "{fault}").expect(rt, "format");
+        let found = format!(in alloc; "{fault}").expect(rt, "format");
         assert_equal(rt, &found.as_str(), text);
     }
 }
 
 #[test]
 fn texts_of_faults(rt: HostRuntime) {
-    assert_texts(&rt, USAGE_FAULTS);
-    assert_texts(&rt, INFO_FAULTS);
-    assert_texts(&rt, RUN_FAULTS);
+    let alloc = rt.alloc();
+    assert_texts(&rt, alloc, USAGE_FAULTS);
+    assert_texts(&rt, alloc, INFO_FAULTS);
+    assert_texts(&rt, alloc, RUN_FAULTS);
 }
