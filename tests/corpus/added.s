@@ -1,0 +1,17 @@
+; An address to which a number is added, half by half, is not found today.
+; expect: code 20 of 20, constants as code 0 of 4, halves 0 right 0 wrong, rows 0 right 0 wrong, follows 0 of 2, wrong 0, runs 0 of 2
+; should be: follows 2 of 2
+        .code
+        lda     #$02
+        clc
+        adc     #<table
+        sta     $80
+        lda     #$00
+        adc     #>table
+        sta     $81
+        ldy     #$00
+        lda     ($80),y
+        jmp     exit
+        .include "sim65.inc"
+        .rodata
+table:  .byte   1,2,3,4

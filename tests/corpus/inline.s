@@ -1,0 +1,35 @@
+; Texts after the calls of a routine that prints them, up to a zero byte, which the information file names.
+; expect: code 74 of 74, constants as code 0 of 11, halves 0 right 0 wrong, rows 0 right 0 wrong, follows 8 of 8, wrong 0, runs 7 of 7
+; info: #: INLINE { ADDR @print; };
+; shows: RANGE { START @again; END @again+6; TYPE TextTable; }; # AGAIN..
+        .code
+        ldx     #$FF
+        txs
+        jsr     print
+        .rodata
+        .byte   "HI ",0
+        .code
+        jsr     print
+        .rodata
+again:  .byte   "AGAIN",$0A,0
+        .code
+        lda     #$03
+        jmp     exit
+print:  pla
+        sta     $80
+        pla
+        sta     $81
+next:   inc     $80
+        bne     same
+        inc     $81
+same:   ldy     #$00
+        lda     ($80),y
+        beq     done
+        jsr     putchar
+        jmp     next
+done:   lda     $81
+        pha
+        lda     $80
+        pha
+        rts
+        .include "sim65.inc"
