@@ -152,17 +152,6 @@ comes_back() {
         fails "$1" 'other bytes by ca65 and ld65'
 }
 
-# moves NAME: of a program of tests/moves the listing by names at $1000, assembled at $2345, is the program there.
-moves() {
-    local start
-    for start in 0x1000 0x2345; do
-        ca65 -t none -o program.o "$root/tests/moves/$1.s" &&
-            ld65 -t none -S "$start" -D __STACKSTART__=0x10800 -o "$start.bin" program.o || fails "$1" 'not linked'
-    done
-    proposes "$1" 0x1000 0x1000.bin
-    "$as65" -S 0x2345 --compare 0x2345.bin named.s || fails "$1" 'it does not move'
-}
-
 comes_back 'hello' 0xF000 examples/hello.bin
 comes_back 'the kernal' 0xC000 examples/kernal.bin
 comes_back 'the monitor' 0xFC00 examples/board/monitor.bin
@@ -179,11 +168,8 @@ for seed in $(seq 5); do
     comes_back "program $seed" 0x2000 code.bin
 done
 if [ "${CA65-}" = skip ]; then
-    echo 'name65: programs at two addresses are left out, since CA65=skip is set'
+    echo 'name65: the monitor is not moved, since CA65=skip is set'
 else
-    for name in halves row returns filler variables routine; do
-        moves "$name"
-    done
     # The guide's way: an instruction at the beginning of the monitor, whose filler goes, gives what its source with it gives.
     nop='s/^reset:  cld/&\n        nop/'
     "$da65" -i examples/board/board.info -o board.s

@@ -1,7 +1,7 @@
 #!/usr/bin/env bash
 # Tests trace65 on real files: its messages, and what it proposes. da65 lists each image with the proposals, and as65 has to give the image
-# back, also from the listing by names of name65. That listing and the programs of tests/moves go through ca65 and ld65: without these the
-# script fails, unless CA65=skip is set.
+# back, also from the listing by names of name65. That listing goes through ca65 and ld65: without these the script fails, unless CA65=skip is
+# set. tests/corpus.py tests how good the proposals are.
 # Usage: tests/trace65.sh TRACE65 DA65 AS65 NAME65
 set -u
 program=$(realpath "$1")
@@ -11,6 +11,12 @@ name65=$(realpath "$4")
 root=$(realpath "$(dirname "$0")/..")
 . "$root/tests/rows.sh"
 ln -s "$root/examples" examples
+if [ "${CA65-}" = skip ]; then
+    echo 'trace65: no listing goes through ca65 and ld65, since CA65=skip is set'
+elif ! { command -v ca65 && command -v ld65; } >/dev/null; then
+    echo 'trace65: ca65 and ld65 are not there: install cc65, or set CA65=skip'
+    exit 1
+fi
 
 # proposes NAME RANGES WORD..: exactly these ranges are proposed, each as FIRST-LAST TYPE.
 proposes() {
@@ -249,6 +255,9 @@ image wrong.info \
 misplaced 'an entry of the file and ranges' \
     'entry $1006 is outside the image;range $0F00-$0FFF is outside the image;range $1005-$1005 is outside the image;' -S 0x1000 -i \
     wrong.info operand.bin
+misplaced 'an entry of the command line comes before it' \
+    'entry $1005 is outside the image;entry $1006 is outside the image;range $0F00-$0FFF is outside the image;'\
+'range $1005-$1005 is outside the image;' -S 0x1000 -i wrong.info --entry 0x1005 operand.bin
 image within.info '#: ENTRY { ADDR $1001; };\n'
 misplaced 'an entry of the file inside an instruction' 'entry $1001 is inside the instruction at $1000;' -S 0x1000 -i within.info \
     operand.bin
@@ -264,6 +273,9 @@ misplaced 'ranges with a byte of the image' 'entry $0F00 is outside the image;' 
 image after.bin '\x60\xa9\x01\x8d\x00\x02\xe8\x60'
 proposes 'four instructions right after reached code' '' -S 0x1000 after.bin
 proposes 'plainly they are bytes' '1001-1007 ByteTable;' -S 0x1000 --plain after.bin
+# brk; lda #1; sta $0200; inx; rts
+image trap.bin '\x00\xa9\x01\x8d\x00\x02\xe8\x60'
+proposes 'and right after brk' '' -S 0x1000 trap.bin
 image three.bin '\x60\xa9\x01\xe8\x60\xff'
 proposes 'three are not enough' '1001-1005 ByteTable;' -S 0x1000 three.bin
 image brk.bin '\x60\xea\xea\xea\xea\x00'
@@ -282,6 +294,17 @@ proposes 'two that share a byte' '1001-1007 ByteTable;' -S 0x1000 overlap.bin
 image halves.bin '\xa9\x07\xa2\x10\x60\xff\xff\xea\xea\xea\x60'
 proposes 'an address in halves' '1005-1006 ByteTable;' -S 0x1000 halves.bin
 proposes 'plainly it leads nowhere' '1005-100A ByteTable;' -S 0x1000 --plain halves.bin
+# nop; nop; a branch out of the image; nop; rts
+image leaves.bin '\x60\xea\xea\xd0\x70\xea\x60'
+proposes 'a branch out of the image' '1001-1006 ByteTable;' -S 0x1000 leaves.bin
+image leaves.bin '\x60\xea\xea\x0f\x10\x70\xea\x60'
+proposes 'a bit branch out of the image' '1001-1007 ByteTable;' -S 0x1000 --cpu 65c02 leaves.bin
+# lda #$0b; ldx #$10; lda #$0a; ldx #$10; rts; a byte; bit $05a9; inx; inx; rts, and from $100B on lda #$05 in place of bit
+image lower.bin '\xa9\x0b\xa2\x10\xa9\x0a\xa2\x10\x60\xff\x2c\xa9\x05\xe8\xe8\x60'
+proposes 'of two that share a byte the lower one' '1009-1009 ByteTable;' -S 0x1000 lower.bin
+# lda #$b6; ldx #$14; rts; 1,200 times inx; an undefined opcode; nop; nop; nop; rts
+{ printf '\xa9\xb6\xa2\x14\x60'; head -c 1200 /dev/zero | tr '\0' '\350'; printf '\xff\xea\xea\xea\x60'; } >patience.bin
+proposes 'after many instructions that lead to no code' '1005-14B4 ByteTable;14B5-14B5 ByteTable;' -S 0x1000 patience.bin
 # a table of $1004 and $1009: nop; nop; nop; rts; a byte; a text
 image refers.bin '\x04\x10\x09\x10\xea\xea\xea\x60\xffHELLO'
 image refers.info 'RANGE { START $1000; END $1003; TYPE AddrTable; };\n'
@@ -323,6 +346,8 @@ proposes 'words less one' '1003-1003 ByteTable;1004-1007 RtsTable;1008-1008 Byte
 image third.bin '\x60\xff\xff\x10\x09\x10\x0e\x10\xff\xe8\xe8\xe8\x60\xff\xc8\xc8\xc8\x60'
 proposes 'a row begins where words lead on' '1001-1003 ByteTable;1004-1007 AddrTable;1008-1008 ByteTable;100D-100D ByteTable;' \
     -S 0x1000 third.bin
+image last.bin '\x60\xff\xe8\xe8\xe8\x60\xff\xc8\xc8\xc8\x60\xff\x02\x10\x07\x10'
+proposes 'a row at the end of the image' '1001-1001 ByteTable;1006-1006 ByteTable;100B-100B ByteTable;100C-100F AddrTable;' -S 0x1000 last.bin
 # a table that leads to code with a second table, and this to the rest
 image tables.bin '\x60\xff\x07\x10\x0c\x10\xff\xe8\xe8\xe8\x60\xff\xc8\xc8\xc8\x60\xff\x16\x10\x07\x10\xff\xca\xca\xca\x60'
 proposes 'a table leads on to another one' \
@@ -351,6 +376,8 @@ image halved.bin '\xff\x60\x60\x60\xf8\xff\x00\x00\xf9\xff'
 proposes 'a vector that leads nowhere' 'FFF6-FFF7 ByteTable;FFFA-FFFB AddrTable;FFFC-FFFD ByteTable;FFFE-FFFF AddrTable;' halved.bin
 image byte.info 'RANGE { START $FFFB; END $FFFB; TYPE ByteTable; };\n'
 proposes 'a vector that a range has a byte of' 'FFF6-FFF6 ByteTable;FFFA-FFFA ByteTable;FFFC-FFFF AddrTable;' -i byte.info vectors.bin
+image byte.info 'RANGE { START $FFFA; END $FFFA; TYPE ByteTable; };\n'
+proposes 'and its first byte' 'FFF6-FFF6 ByteTable;FFFB-FFFB ByteTable;FFFC-FFFF AddrTable;' -i byte.info vectors.bin
 
 # ---- rows of words
 
@@ -406,6 +433,8 @@ image far.bin '\xa9\x04\xa2\x11\x60'
 halves 'the last address after the image' '1001,1003: 1104;' -S 0x1000 far.bin
 image far.bin '\xa9\x05\xa2\x11\x60'
 halves 'and the one after that' '' -S 0x1000 far.bin
+image start.bin '\xa9\x00\xa2\x10\x60'
+halves 'the first address of the image' '1001,1003: 1000;' -S 0x1000 start.bin
 image before.bin '\xa9\xff\xa2\x0f\x60'
 halves 'an address before the image' '' -S 0x1000 before.bin
 # jmp $1007 over the loads
@@ -480,6 +509,7 @@ likely() {
 
 likely 'a word that is the address of a routine' 'the word at $1001 is $1007: AddrTable?;' -S 0x1000 --entry 0x1007 rows.bin
 likely 'but not in a table' '' -S 0x1000 --entry 0x1007,0x100b rows.bin
+likely 'nor in a table of return addresses' '' -S 0x1000 --entry 0x1001 less.bin
 # rts; the word $1004; a byte; a byte at $1004
 image named.bin '\x60\x04\x10\xff\xff'
 image named.info 'LABEL { ADDR $1004; NAME "data"; };\n'
@@ -498,6 +528,17 @@ likely 'a call after which nothing decodes' 'what follows 1 of 1 calls of $1007 
 image inline.info '#: INLINE { ADDR $1007; };\n'
 likely 'unless the file says so' '' -S 0x1000 -i inline.info inline.bin
 likely 'a call before code' '' -S 0x1000 call.bin
+# jsr to the rts at the end; seven or eight times nop; an undefined opcode
+image eighth.bin '\x20\x0b\x10\xea\xea\xea\xea\xea\xea\xea\xff\x60'
+likely 'the eighth instruction does not decode' 'what follows 1 of 1 calls of $100B does not decode: INLINE?;' -S 0x1000 eighth.bin
+image ninth.bin '\x20\x0c\x10\xea\xea\xea\xea\xea\xea\xea\xea\xff\x60'
+likely 'the ninth does not' '' -S 0x1000 ninth.bin
+image ends.bin '\x20\x04\x10\x40\x60'
+likely 'a call before rti' '' -S 0x1000 ends.bin
+image ends.bin '\x20\x06\x10\x4c\x06\x10\x60'
+likely 'before jmp' '' -S 0x1000 ends.bin
+image ends.bin '\x20\x05\x10\x80\x00\x60'
+likely 'before bra' '' -S 0x1000 --cpu 65sc02 ends.bin
 # jsr three times; rts; rts
 image calls.bin '\x20\x0a\x10\x20\x0a\x10\x20\x0a\x10\x60\x60'
 likely 'three calls before code' '' -S 0x1000 calls.bin
@@ -546,6 +587,8 @@ image bad.info '#: ENTRY { ADDR $10000; };\n'
 runs 'a group with a fault' 1 '' 'trace65: info:1: value out of range\n' -i bad.info three.bin
 image bad.info '#: ENTRY { ADDR 1; };\nFOO\n'
 runs 'a fault of the file comes first' 1 '' 'trace65: info:2: unknown group\n' -i bad.info three.bin
+image bad.info 'ASMINC { FILE "bad.inc"; };\n#: EXIT { };\n'
+runs 'and one of an include file' 1 '' 'trace65: include bad.inc:2: bad include line\n' -i bad.info three.bin
 
 image end.info 'LABEL { ADDR $1009; NAME "end"; };\n'
 runs 'the whole text' 0 "$legend# \$1000 +\n# 9 bytes of code that is reached, 0 in ranges, 1 in neither\n"\
@@ -555,6 +598,15 @@ image variable.bin '\x8d\x10\x10\x60'
 runs 'and with a label and a variable' 0 "$legend# \$1000 #\n# 4 bytes of code that is reached, 0 in ranges, 0 in neither\n"\
 "LABEL { ADDR \$1010; NAME \"L1010\"; };\n#: AFTER { START \$1004; END \$1010; };\n" '' \
     -S 0x1000 variable.bin
+
+# jsr $100A; a byte; the word $1007; a byte; three bytes at $1007; lda #$07; ldx #$10; sta $1020; rts
+image order.bin '\x20\x0a\x10\xff\x07\x10\xff\x01\x02\x03\xa9\x07\xa2\x10\x8d\x20\x10\x60'
+image order.info 'LABEL { ADDR $1007; NAME "data"; };\n'
+runs 'what is only likely comes last' 0 "$legend# \$1000 +\n# 11 bytes of code that is reached, 0 in ranges, 7 in neither\n"\
+"RANGE { START \$1003; END \$1009; TYPE ByteTable; }; # .......\nLABEL { ADDR \$1020; NAME \"L1020\"; };\n"\
+"#: HALVES { LOW \$100B; HIGH \$100D; }; # \$1007 data\n#: AFTER { START \$1012; END \$1020; };\n"\
+"# the word at \$1004 is \$1007 data: AddrTable?\n# what follows 1 of 1 calls of \$100A does not decode: INLINE?\n" '' \
+    -S 0x1000 -i order.info order.bin
 
 # ---- the whole file
 
@@ -640,64 +692,6 @@ for seed in $(seq 20); do
     mnemonics both.s >got.txt
     same "instructions of random program $seed" got.txt wanted.txt
 done
-
-# ---- programs at two addresses
-
-# linked NAME START IMAGE WORD..: ca65, with these words, and ld65 make the image of the program at the start.
-linked() {
-    local name=$1 start=$2 image=$3
-    shift 3
-    ca65 -t none "$@" -o program.o "$root/tests/moves/$name.s" &&
-        ld65 -t none -S "$start" -D __STACKSTART__=0x10800 -o "$image" program.o || fails "$name" 'not linked'
-}
-
-# shows NAME START: what is proposed for the program at the start, without plain comments, and its listing with that are the program's text.
-shows() {
-    linked "$1" "$2" program.bin
-    rm -f program.info
-    "$program" -S "$2" -o program.info program.bin && "$da65" -S "$2" -i program.info -o program.s program.bin ||
-        fails "$1" 'not listed'
-    { grep -v '^# ' program.info; sed '1,/\.setcpu/d' program.s; } >program.txt
-    same "$1" program.txt "$root/tests/moves/$1.txt"
-}
-
-# moves NAME START EDIT DIFFERS WORD..: that listing, edited by this script of sed, is the program at the start, but for these bytes.
-moves() {
-    local name=$1 start=$2 edit=$3 differs=$4
-    shift 4
-    linked "$name" "$start" moved.bin "$@"
-    sed "$edit" program.s >moved.s
-    "$as65" -S "$start" --compare moved.bin moved.s >moved.txt
-    holds "$name" moved.txt "$differs"
-}
-
-if [ "${CA65-}" = skip ]; then
-    echo 'trace65: programs at two addresses are left out, since CA65=skip is set'
-elif ! { command -v ca65 && command -v ld65; } >/dev/null; then
-    fails 'programs at two addresses' 'ca65 and ld65 are not there: install cc65, or set CA65=skip'
-else
-    # A label at what halves lead to does not change them: they follow by hand.
-    shows halves 0x1000
-    moves halves 0x2345 '' '$2346: 52 -> 0D, line 5: lda     #$0D\n$234A: 23 -> 10, line 7: lda     #$10\n'
-    moves halves 0x2345 's/#\$0D/#<L100D/; s/#\$10/#>L100D/' ''
-    shows row 0x1000
-    moves row 0x2345 '' ''
-    shows returns 0x1000
-    moves returns 0x2345 '' ''
-    # The code moves by eight bytes: a line of filler goes.
-    shows vectors 0xFFC0
-    moves vectors 0xFFC0 's/^LFFC0:/        .res 8,$EA\n&/; 0,/$FF,$FF,$FF,$FF/ { //d }' '' -D GAP=8
-    shows filler 0x1000
-    moves filler 0x2345 '' ''
-    # Labels after the image are constants: their lines say where they lie.
-    shows variables 0x1000
-    moves variables 0x2345 '' \
-        '$2348: 51 23 -> 0C 10, line 9: sta     L100C\n'\
-'$234B: 52 23 -> 0D 10, line 10: sta     L100D,x\n$234E: 51 23 -> 0C 10, line 11: inc     L100C\n'
-    moves variables 0x2345 's/:= \$100C/:= $2351/; s/:= \$100D/:= $2352/' ''
-    shows routine 0x1000
-    moves routine 0x2345 '' ''
-fi
 
 [ "$failed" = 0 ] && echo 'trace65: it proposes what it should, and each image comes back'
 exit "$failed"
