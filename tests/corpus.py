@@ -79,6 +79,7 @@ class Program:
 
     def assemble(self):
         """Assembles and links the program. Each part gets a segment of its own, so that ld65 keeps their order."""
+
         def segment(match):
             self.parts.append(f"{match[1].upper()}{len(self.parts)}")
             return f'.segment "{self.parts[-1]}"'
@@ -86,8 +87,7 @@ class Program:
         (self.folder / "program.s").write_text(re.sub(r"^ *\.(code|rodata)\b", segment, self.text, flags=re.MULTILINE))
         self.run("ca65", "-g", "--relax-checks", "-I", str(FOLDER), "-o", "program.o", "program.s")
         self.image = self.linked(0)
-        spans = re.findall(r"^CODE\d+ +(\w+) +(\w+)", (self.folder / "map").read_text(), re.MULTILINE)
-        self.code = addresses(spans)
+        self.code = addresses(re.findall(r"^CODE\d+ +(\w+) +(\w+)", (self.folder / "map").read_text(), re.MULTILINE))
         self.labels = {name: int(at, 16) for at, name in re.findall(r"al (\w+) \.(\w+)", (self.folder / "labels").read_text())}
 
     def start_at(self, distance):
@@ -114,9 +114,14 @@ class Program:
         carry = value % 256 + 1 if self.is_rom else 256 - value % 256
         return all(word(self.linked(by)) - value == self.start_at(by) - self.start for by in (1, 256, carry - 1, carry))
 
+    def address_of(self, name):
+        if name not in self.labels:
+            raise Refused(f"no label {name}")
+        return self.labels[name]
+
     def with_addresses(self, text):
         """The text, with addresses in place of names of labels."""
-        return re.sub(r"@(\w+)(\+\d+)?", lambda match: f"${self.labels[match[1]] + int(match[2] or 0):04X}", text)
+        return re.sub(r"@(\w+)(\+\d+)?", lambda match: f"${self.address_of(match[1]) + int(match[2] or 0):04X}", text)
 
     def assembled(self, listing, distance=0):
         """The image that as65 makes of a listing."""
@@ -145,7 +150,7 @@ def propose(program):
     info = f'GLOBAL {{ INPUTNAME "image.bin"; STARTADDR ${program.start:04X}; CPU "{program.cpu}"; }};\n'
     info += "".join(program.with_addresses(line) + "\n" for line in program.head["info"])
     (program.folder / "given.info").write_text(info)
-    entries = ",".join(str(program.labels[name]) for line in program.head["entry"] for name in line.split())
+    entries = ",".join(str(program.address_of(name)) for line in program.head["entry"] for name in line.split())
     found = program.run("trace65", "-i", "given.info", *(["--entry", entries] if entries else []))
     program.lost = [line for line in map(program.with_addresses, program.head["shows"]) if line not in found.split("\n")]
     (program.folder / "all.info").write_text(info + found)
@@ -194,10 +199,11 @@ def count_runs(program):
     lines = (program.folder / "named.s").read_text().split("\n")
     for number, size in insertions(lines):
         (program.folder / "edited.s").write_text("\n".join(lines[:number] + ["        nop"] * size + lines[number:]))
+        program.figures.update(moves=1)
         try:
-            program.figures.update(moves=1, runs=program.executed(program.assembled("edited.s"), program.start) == before)
-        except Refused:
-            continue
+            program.figures.update(runs=program.executed(program.assembled("edited.s"), program.start) == before)
+        except Refused:  # as65 can't assemble it
+            pass
 
 
 def measured(path, tools):
@@ -254,10 +260,10 @@ def main(words):
         return "corpus: ca65, ld65 or sim65 is not there: install cc65, or set CA65=skip"
     files = [Path(word).resolve() for word in words if Path(word).exists()]
     files = [file / name for file in files for name in PROGRAMS] if files and files[0].is_dir() else files
-    names = [word for word in words if not Path(word).exists() and word != "--write"]
-    if {file.name for file in files} != set(PROGRAMS):
-        return __doc__
+    names = {word for word in words if not Path(word).exists()} - {"--write"}
     paths = [path for path in sorted(FOLDER.glob("*.s")) if not names or path.stem in names]
+    if {file.name for file in files if file.exists()} != set(PROGRAMS) or len(paths) < len(names):
+        return __doc__[__doc__.index("Usage") :]
     with ThreadPoolExecutor(os.cpu_count()) as pool:
         programs = list(pool.map(lambda path: measured(path, {file.name: str(file) for file in files}), paths))
     failed = 0

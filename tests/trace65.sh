@@ -1,7 +1,7 @@
 #!/usr/bin/env bash
 # Tests trace65 on real files: its messages, and what it proposes. da65 lists each image with the proposals, and as65 has to give the image
-# back, also from the listing by names of name65. That listing goes through ca65 and ld65: without these the script fails, unless CA65=skip is
-# set. tests/corpus.py tests how good the proposals are.
+# back, also from the listing by names of name65. That listing goes through ca65 and ld65: without these the script fails, unless CA65=skip
+# is set. How good the proposals are is for tests/corpus.py.
 # Usage: tests/trace65.sh TRACE65 DA65 AS65 NAME65
 set -u
 program=$(realpath "$1")
@@ -347,7 +347,8 @@ image third.bin '\x60\xff\xff\x10\x09\x10\x0e\x10\xff\xe8\xe8\xe8\x60\xff\xc8\xc
 proposes 'a row begins where words lead on' '1001-1003 ByteTable;1004-1007 AddrTable;1008-1008 ByteTable;100D-100D ByteTable;' \
     -S 0x1000 third.bin
 image last.bin '\x60\xff\xe8\xe8\xe8\x60\xff\xc8\xc8\xc8\x60\xff\x02\x10\x07\x10'
-proposes 'a row at the end of the image' '1001-1001 ByteTable;1006-1006 ByteTable;100B-100B ByteTable;100C-100F AddrTable;' -S 0x1000 last.bin
+proposes 'a row at the end of the image' '1001-1001 ByteTable;1006-1006 ByteTable;100B-100B ByteTable;100C-100F AddrTable;' \
+    -S 0x1000 last.bin
 # a table that leads to code with a second table, and this to the rest
 image tables.bin '\x60\xff\x07\x10\x0c\x10\xff\xe8\xe8\xe8\x60\xff\xc8\xc8\xc8\x60\xff\x16\x10\x07\x10\xff\xca\xca\xca\x60'
 proposes 'a table leads on to another one' \

@@ -25,7 +25,7 @@ WIDER = {
     "name65": 3,
 }
 
-SCRIPTS = ("Makefile", ".ci/run", "tests/*.sh", "tests/shim.c")
+SCRIPTS = ("Makefile", ".ci/run", "tests/*.sh", "tests/*.py", "tests/corpus/*", "tests/shim.c")
 PAGES = ("*.md", "docs/*.md")
 MANUALS = ("docs/*.[15]",)
 
