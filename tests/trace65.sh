@@ -297,6 +297,7 @@ proposes 'plainly it leads nowhere' '1005-100A ByteTable;' -S 0x1000 --plain hal
 # nop; nop; a branch out of the image; nop; rts
 image leaves.bin '\x60\xea\xea\xd0\x70\xea\x60'
 proposes 'a branch out of the image' '1001-1006 ByteTable;' -S 0x1000 leaves.bin
+proposes 'a branch out of the address space' 'FFF1-FFF6 ByteTable;' -S 0xfff0 leaves.bin
 image leaves.bin '\x60\xea\xea\x0f\x10\x70\xea\x60'
 proposes 'a bit branch out of the image' '1001-1007 ByteTable;' -S 0x1000 --cpu 65c02 leaves.bin
 # lda #$0b; ldx #$10; lda #$0a; ldx #$10; rts; a byte; bit $05a9; inx; inx; rts, and from $100B on lda #$05 in place of bit
