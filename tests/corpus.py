@@ -38,7 +38,6 @@ import tempfile
 from collections import Counter, defaultdict
 from concurrent.futures import ThreadPoolExecutor
 from functools import cache
-from itertools import takewhile
 from pathlib import Path
 
 FOLDER = Path(__file__).resolve().parent / "corpus"
@@ -63,8 +62,7 @@ class Program:
         self.name, self.path, self.folder, self.tools = path.stem, path, folder, tools
         self.text, self.parts, self.said, self.figures, self.lost = path.read_text(), [], "", Counter(), []
         self.head = defaultdict(list)
-        for line in takewhile(lambda line: line.startswith(";"), self.text.splitlines()):
-            key, _, value = line[2:].partition(": ")
+        for key, value in re.findall(r"^; (expect|should be|shows|info|entry|start): (.*)", self.text, re.MULTILINE):
             self.head[key].append(value)
         self.start = int(self.head["start"][0][1:], 16) if self.head["start"] else 0x1000
         self.cpu = (re.findall(r'\.setcpu +"(\w+)"', self.text) or ["6502"])[0]
