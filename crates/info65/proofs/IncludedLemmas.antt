@@ -120,10 +120,6 @@ alike names g = record {
       ∙ sym (elsewhere_is names n g.texts);
 }
 
--- names that are added to those that are sorted by address
-pub names_alike : (names more : List NameView) → AreGiven names → by_address (by_address names ++ more) ≡ by_address (names ++ more)
-names_alike names more g = same_address (by_address names ++ more) (names ++ more) (more_alike (by_address names) names more (alike names g))
-
 -- a file adds the same names to those that are sorted by address
 pub file_sorted : (i : IncludeView) (names : List NameView) (bytes : List ℕ) → AreGiven names → names_included i (by_address names) bytes ≡ names_included i names bytes
 unfolding names_included

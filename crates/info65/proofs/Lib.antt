@@ -1,10 +1,8 @@
 mod Accepting
-mod AppendedGroups
-mod AppendedLabels
-mod AppendedTokens
 mod Cases
 mod ClassLemmas
 mod CoveringLemmas
+mod DefaultNames
 mod FormLemmas
 mod GroupLemmas
 mod IncludeFileLemmas

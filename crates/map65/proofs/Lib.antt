@@ -14,6 +14,7 @@ mod PieceLaws
 mod ReadLemmas
 mod RunLemmas
 mod MarkingLemmas
+mod MarksLemmas
 mod TargetLemmas
 mod WriteLemmas
 pub mod Public

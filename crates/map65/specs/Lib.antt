@@ -6,6 +6,7 @@ pub mod ImageView
 pub mod Items
 pub mod MapRows
 pub mod MapView
+pub mod Marks
 pub mod Names
 pub mod Pieces
 pub mod Roles

@@ -16,6 +16,8 @@ pub use Rattle.map65.specs.Items.{AreItems, CanBegin, EndsBefore, ItemLaw, code_
 unfoldable pub use Rattle.map65.specs.Items.{full_len_at, item_len, item_start, size_at}
 pub use Rattle.map65.specs.MapRows.{WorkedMaps, code_at, map_of}
 pub use Rattle.map65.specs.MapView.{IsSoundMap, MapView, mapped, opcodes}
+pub use Rattle.map65.specs.Marks.{MarksView}
+unfoldable pub use Rattle.map65.specs.Marks.{is_marked}
 pub use Rattle.map65.specs.Names.{Base, EntryStartLaw, IsHighest, IsInner, IsReferenced, IsUncovered, NameLaw, ReferenceLaw, base_by, base_or, default_base, given_base, kind_by, place_in, refers_by, text_by}
 unfoldable pub use Rattle.map65.specs.Names.{base_at, entry_base, entry_start, has_name, is_referenced, kind_at, place_of, refers, text_at}
 pub use Rattle.map65.specs.Pieces.{AreAlike, AreOnePiece, AreOneRun, AreUnnamed, IsFirst, PieceLaw, RunLaw}

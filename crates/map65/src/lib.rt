@@ -4,6 +4,7 @@
 //! them from any `std::io::Read` or `Write`. [`take_up_to`] reads some bytes, and [`write_whole`] writes some.
 //! [`read_image`] reads the [`Image`] that the settings of an `Info` ask for, and [`Map::build`] builds its [`Map`]: the
 //! role and the name of each address, and the length of the item that begins there. `cells` packs these into 16 bits; `marking`, `borders` and `naming` write the cells of an image.
+//! [`Marks`] is a flag for each address.
 //! `laws` states the laws of roles, runs, pieces, items, names and cells, and the worked examples.
 #![tactic(auto)]
 
@@ -14,6 +15,7 @@ mod image;
 mod laws;
 mod map;
 mod marking;
+mod marks;
 mod name;
 mod naming;
 mod reading;
@@ -27,6 +29,7 @@ pub use laws::{
     run_law, worked_maps,
 };
 pub use map::Map;
+pub use marks::Marks;
 pub use name::{NameBuf, NameKind, Place};
 pub use reading::read_image;
 pub use roles::{is_skip, unit_of};

@@ -1,15 +1,16 @@
 -- The addresses that groups of the lines `#: ..` name: of the bytes of HALVES and DIFFERENCE, and from START to END of AFTER.
-use Rattle.std.specs.Prelude.{◌≡◌, ◌<◌, ℕ, ◌+◌, ◌-◌, ◌&&◌, ◌||◌, nat_le, nat_lt, Bool, false, List, Option, Some, None, get_or, length}
+use Rattle.std.specs.Prelude.{◌≡◌, ℕ, ◌+◌, ◌-◌, ◌&&◌, ◌||◌, min, nat_le, nat_lt, Bool, false, List, Option, Some, None}
 use Rattle.std.specs.List.{list_any}
 use Rattle.std.specs.Option.{unwrap_or}
 use Rattle.info65.specs.declared.tags.tag.Tag.{Tag}
 use Rattle.info65.specs.declared.tags.tag.TagKind.{TagKind}
 use Rattle.info65.specs.declared.tags.tag.TagKind.TheVariants as kind
+use Rattle.map65.specs.Words.{MarksView, is_marked}
 
--- one of so many addresses from one on
+-- one of so many addresses from one on, up to $FFFF
 abbrev pub is_among : Option ℕ → ℕ → ℕ → Bool
 is_among None n a = false
-is_among (Some first) n a = nat_le first a && nat_lt a (first + n)
+is_among (Some first) n a = nat_le first a && nat_lt a (min (first + n) 65536)
 
 -- how many addresses there are from one to another
 abbrev pub count_to : Option ℕ → Option ℕ → ℕ
@@ -30,14 +31,6 @@ is_named_by a t = by_kind t.kind
 abbrev pub is_named : List Tag → ℕ → Bool
 is_named tags a = list_any (is_named_by a) tags
 
-abbrev pub is_marked : List Bool → ℕ → Bool
-is_marked marks a = get_or marks a false
-
 -- those that were marked, and those of which a test holds
-abbrev pub MarksAlso : (ℕ → Bool) → List Bool → List Bool → Type 0
-MarksAlso holds old new = (a : ℕ) → a < 65536 → is_marked new a ≡ (is_marked old a || holds a)
-
--- there is a mark for each address, set for those that a group names
-pub record AreNamed (tags : List Tag) (marks : List Bool) : Type 0 where
-  pub count : length marks ≡ 65536
-  pub each : (a : ℕ) → a < 65536 → is_marked marks a ≡ is_named tags a
+abbrev pub MarksAlso : (ℕ → Bool) → MarksView → MarksView → Type 0
+MarksAlso holds old new = (a : ℕ) → is_marked new a ≡ (is_marked old a || holds a)

@@ -1,41 +1,28 @@
 //! The lines of a listing, each as it was or changed.
 
-ghost use Rattle.std.specs.Prelude.{◌≡◌, ◌++◌, ◌-◌, ◌≤◌, [], if◌then◌else◌, IfOk, None, Ok, OnOk, Some, drop, take};
-ghost use Rattle.std.specs.List.{list_any};
+ghost use Rattle.std.specs.Prelude.{◌≡◌, ◌++◌, ◌-◌, [], if◌then◌else◌, IfOk, None, Ok, OnOk, Some};
+ghost use Rattle.std.specs.List.{list_any, range_with_len};
+ghost use Rattle.map65.specs.Words.{is_marked};
 ghost use Rattle.stmt65.specs.Words.{source_addresses, source_meaning};
 ghost use Rattle.name65.specs.NamedText.{AreLines, IsNamed, line_text, touches};
 
 use crate::changed_line::put_changed;
 use crate::complaint::Refusal;
 use crate::constants::names_after;
-use crate::marks::{is_marked, mark_named};
+use crate::marks::mark_named;
 use crate::plan::{PlacedLine, Plan};
 use crate::wishes::Wishes;
 use info65::Tag;
+use map65::Marks;
 use std::alloc::{AllocError, Global};
 use stmt65::{Assembly, Source, SourceLine, Symbols, read_line};
 use text65::first_line;
 
-/// The first marks, as many as there are of so many, and the others.
-fn cut(marks: &[bool], count: usize) -> (&[bool], &[bool])
-    ensures front { result.0.now ≡ take count marks.now }
-    ensures rest { result.1.now ≡ drop count marks.now }
+/// Whether one of the addresses from `at` to before `end` is marked.
+fn has_mark(marks: &Marks, at: u64, end: u64) -> bool
+    ensures { result ≡ list_any (is_marked marks.now) (range_with_len at (end - at)) }
 {
-    if count <= marks.len() {
-        marks.split_at(count)
-    } else {
-        (marks, &[])
-    }
-}
-
-/// Whether one of the marks from `at` to before `end` is set.
-fn has_mark(marks: &[bool], at: u64, end: u64) -> bool
-    requires { at ≤ end }
-    ensures { result ≡ list_any (λ is. is) (take (end - at) (drop at marks.now)) }
-{
-    let (_, rest) = cut(marks, at as usize);
-    let (here, _) = cut(rest, (end - at) as usize);
-    here.iter().any(|is| *is)
+    (at..end).any(|address| marks.get_at(address as usize))
 }
 
 /// Whether a group touches a line.
@@ -47,7 +34,9 @@ fn is_touched(plan: &Plan<'_, '_>, placed: &PlacedLine<'_>) -> Result<bool, Allo
         return Ok(has_mark(plan.marks, placed.at, placed.end));
     }
     match read_line(plan.alloc, placed.language, placed.line)? {
-        Some(SourceLine::Assignment(_, n)) => Ok(plan.used || is_marked(plan.marks, n.value())),
+        Some(SourceLine::Assignment(_, n)) => Ok(
+            plan.used || plan.marks.get_at(n.value() as usize),
+        ),
         _ => Ok(false),
     }
 }
@@ -79,7 +68,7 @@ fn put_lines(
     ends: &[u64],
 ) -> Result<(), Refusal>
     requires { out.old.items ≡ [] }
-    ensures { OnOk result (AreLines source.now plan.now.marks.now plan.now.used ends.now out.new.items) }
+    ensures { OnOk result (AreLines source.now (is_marked plan.now.marks.now) plan.now.used ends.now out.new.items) }
 {
     let mut change = Vec::new(plan.alloc);
     let mut at = u64::from(source.start);

@@ -1,6 +1,5 @@
 //! What becomes of constant lines, and of the names that a text defines with them.
 
-use crate::marks::is_marked;
 use crate::plan::Plan;
 use std::alloc::{AllocError, Global};
 use stmt65::{Definition, Symbols};
@@ -20,7 +19,7 @@ pub fn fate_of(plan: &Plan<'_, '_>, name: &[u8], value: u64) -> Fate {
     if plan.wishes.is_left_out(name) {
         return Fate::LeftOut;
     }
-    if !is_marked(plan.marks, value) {
+    if !plan.marks.get_at(value as usize) {
         return Fate::Kept;
     }
     match value.checked_sub(plan.wishes.end()) {

@@ -1,6 +1,7 @@
 //! What is asked of the lines of a listing.
 
 use crate::wishes::Wishes;
+use map65::Marks;
 use std::alloc::Global;
 use stmt65::Language;
 
@@ -8,7 +9,7 @@ use stmt65::Language;
 #[derive(Clone, Copy)]
 pub struct Plan<'w, 't> {
     pub alloc: Global,
-    pub marks: &'w [bool],
+    pub marks: &'w Marks,
     pub used: bool,
     pub wishes: &'w Wishes<'t>,
 }

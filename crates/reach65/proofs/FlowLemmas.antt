@@ -1,7 +1,6 @@
 -- Where instructions lead.
-use Rattle.std.proofs.Common.{◌≡◌, ◌<◌, ℕ, true, List, [], ◌∷◌, length, inl, inr, refl, Option, Some, None, option_and_then, arith}
-use Rattle.map65.proofs.Public.{within}
-use Rattle.map65.specs.Words.{ImageView, IsPlaced, MapView, bytes_from, is_inside, only_inside}
+use Rattle.std.proofs.Common.{◌≡◌, ℕ, true, List, [], ◌∷◌, length, inl, inr, refl, Option, Some, None, option_and_then, arith}
+use Rattle.map65.specs.Words.{ImageView, MapView, bytes_from, is_inside, only_inside}
 use Rattle.reach65.specs.Words.{FlowView, LeadsTo, Op, Tag, goal_at, goal_by, goal_of, inline_of, instruction_at, next_at, next_of, text_of}
 
 only_inside-is : (image : ImageView) (t b : ℕ) → only_inside image t ≡ Some b → is_inside image b ≡ true
@@ -24,11 +23,6 @@ pub leads-inside : (f : FlowView) (a b : ℕ) → LeadsTo f a b → is_inside f.
 unfolding next_at goal_at
 leads-inside f a b (inl is) = next_of-inside f a (instruction_at f.map a) b is
 leads-inside f a b (inr is) = goal_by-inside f.map a (instruction_at f.map a) b is
-
-pub leads-below : (f : FlowView) (a b : ℕ) → IsPlaced f.map.image → LeadsTo f a b → b < 65536
-leads-below f a b placed leads = omega (arith, placed.room, (within f.map b (leads-inside f a b leads)).high)
-
--- ---- without groups
 
 no-inline : (tags : List Tag) (o : Option ℕ) → length tags ≡ 0 → option_and_then (inline_of tags) o ≡ None
 unfolding inline_of

@@ -1,24 +1,38 @@
--- Marks of addresses that are spoken for.
-use Rattle.std.proofs.Common.{◌≡◌, ◌∙◌, ◌<◌, ◌||◌, ℕ, Bool, false, List, length, replicate, ap, arith, refl, sym}
-use Rattle.std.proofs.lemmas.List.{get_or-replicate, get_or_past, length-replicate}
-use Rattle.std.proofs.lemmas.Bool.{cases_lt}
-use Rattle.reach65.specs.Words.{AreMarkedBy, is_code, is_given, is_marked, is_taken, no_marks}
-use Rattle.map65.specs.Words.{MapView}
+-- Marks of taken addresses, one instruction or range after the other.
+use Rattle.std.proofs.Common.{◌≡◌, ◌+◌, ◌≤◌, ◌<◌, ◌&&◌, ◌||◌, ◌==◌, nat_le, nat_lt, ℕ, zero, suc, Bool, false, List, [], ◌∷◌, ◌++◌, length, get_or, take, arith, refl}
+use Rattle.std.proofs.lemmas.Bool.Decides.{nat_tests}
+use Rattle.std.specs.List.{list_any}
+use Rattle.std.proofs.lemmas.List.Folds.{list_any-append, list_any_more}
+use Rattle.map65.specs.Words.{MapView, addresses}
+use Rattle.reach65.specs.Words.{is_code, is_code_of}
 
-pub none_set : (n a : ℕ) → is_marked (replicate n false) a ≡ false
-none_set n a = grind (arith, cases_lt, get_or-replicate, get_or_past, length-replicate)
+-- the bytes of an instruction, one by one
+pub in_span : (from len a : ℕ) → len ≤ 3 → ((nat_lt 0 len && from == a) || ((nat_lt 1 len && from + 1 == a) || (nat_lt 2 len && from + 2 == a))) ≡ (nat_le from a && nat_lt a (from + len))
+in_span from len a few = grind (arith, nat_tests)
 
-pub blank_false : (marks : List Bool) (a : ℕ) → marks ≡ no_marks → is_marked marks a ≡ false
-unfolding no_marks
-blank_false marks a is = ap (λ l. is_marked l a) is ∙ none_set 65536 a
+-- one address of the image more
+addresses_more : (k a : ℕ) → addresses (k + 1) a ≡ addresses k a ++ (a + k) ∷ []
+unfolding addresses
+addresses_more zero a = let none : a + 0 ≡ a = omega arith in rw none (λ i. a ∷ [])
+addresses_more (suc k) a = grind (arith, (addresses_more k (a + 1)))
 
--- marks that were not set before are those of the test
-pub marked_by : (p : ℕ → Bool) (blank marks : List Bool) → blank ≡ no_marks → length marks ≡ 65536
-    → ((a : ℕ) → a < 65536 → is_marked marks a ≡ (is_marked blank a || p a)) → AreMarkedBy p marks
-marked_by p blank marks empty count each = grind (arith, blank_false)
+-- the instruction of one of the first k addresses has the address, and is reached
+pub code_in : MapView → (ℕ → Bool) → ℕ → ℕ → Bool
+code_in m reached k a = list_any (λ b. is_code_of m reached b a) (addresses k m.image.start)
 
--- no range has the address, and no reached instruction
-pub not_taken : (m : MapView) (given marks : List Bool) (a : ℕ) → AreMarkedBy (is_given m.info.ranges) given → a < 65536 → is_marked given a ≡ false
-    → is_code m marks a ≡ false → is_taken m marks a ≡ false
-unfolding is_taken
-not_taken m given marks a are low none code = rw (sym (are.each a low) ∙ none, code) refl
+pub code_in_none : (m : MapView) (reached : ℕ → Bool) (a : ℕ) → code_in m reached 0 a ≡ false
+unfolding code_in addresses
+code_in_none m reached a = refl
+
+pub code_in_more : (m : MapView) (reached : ℕ → Bool) (k at a : ℕ) → at ≡ m.image.start + k → code_in m reached (k + 1) a ≡ (code_in m reached k a || is_code_of m reached at a)
+unfolding code_in
+code_in_more m reached k at a is = grind (arith, addresses_more, list_any-append)
+
+pub code_in_all : (m : MapView) (reached : ℕ → Bool) (k a : ℕ) → k ≡ length m.image.bytes → code_in m reached k a ≡ is_code m reached a
+unfolding code_in is_code
+code_in_all m reached k a is = rw is refl
+
+-- one range more
+pub any_range : {X : Type 0} (p : X → Bool) (xs : List X) (i : ℕ) (d : X) (first old new : Bool) → i < length xs → old ≡ (first || list_any p (take i xs))
+    → new ≡ (old || p (get_or xs i d)) → new ≡ (first || list_any p (take (i + 1) xs))
+any_range p xs i d first old new room before is = rw (list_any_more p xs i d room) (grind arith)

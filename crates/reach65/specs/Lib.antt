@@ -1,28 +1,9 @@
--- the rules: where an instruction leads, where reading begins, what is reached
+-- where an instruction leads, what is reached from given entries, which addresses are taken, and the ranges of the others
 pub mod Inlines
 pub mod Flow
-pub mod Entries
 pub mod Reached
 pub mod Taken
-pub mod Pairs
-pub mod Sound
-pub mod Growth
+pub mod Ranges
 pub mod Worked
-pub mod Routines
-pub mod Survey
-pub mod Halves
-pub mod Rows
-pub mod Said
-pub mod Variables
-pub mod Labels
-pub mod Vectors
-pub mod Texts
-pub mod Pieces
-pub mod RangeLines
-pub mod TextLaws
-pub mod Laws
-pub mod WorkedTexts
-pub mod WorkedFinds
-pub mod Code
 pub mod Types
 pub mod Words

@@ -1,23 +1,14 @@
 -- The types of the code that these definitions speak of, from one place.
-pub use Rattle.reach65.specs.declared.pairs.Pair.{Pair}
-pub use Rattle.reach65.specs.declared.pairs.Register.{Register}
-pub use Rattle.reach65.specs.declared.pairs.Register.TheVariants.{A, X, Y}
-pub use Rattle.reach65.specs.declared.pairs.Store.{Store}
-pub use Rattle.reach65.specs.declared.texts.Alphabet.{Alphabet}
-pub use Rattle.reach65.specs.declared.texts.Tail.{Tail}
-pub use Rattle.reach65.specs.declared.texts.Tails.{Tails}
-pub use Rattle.info65.specs.declared.information.range.Entry.{Entry}
 pub use Rattle.info65.specs.declared.information.range.RangeSpec.{RangeSpec}
 pub use Rattle.info65.specs.declared.information.range.RangeType.{RangeType}
 pub use Rattle.info65.specs.declared.tags.tag.Tag.{Tag}
 pub use Rattle.info65.specs.declared.tags.tag.TagKind.{TagKind}
 pub use Rattle.isa65.specs.declared.cpu.Cpu.TheVariants.{M6502, M65C02}
 pub use Rattle.isa65.specs.declared.mnemonic.Mnemonic.{Mnemonic}
-pub use Rattle.isa65.specs.declared.mnemonic.Mnemonic.TheVariants.{Bra, Brk, Jmp, Jsr, Lda, Ldx, Ldy, Rti, Rts, Sta, Stx, Sty}
+pub use Rattle.isa65.specs.declared.mnemonic.Mnemonic.TheVariants.{Bra, Brk, Jmp, Jsr, Rti, Rts}
 pub use Rattle.isa65.specs.declared.mode.Mode.{Mode}
-pub use Rattle.isa65.specs.declared.mode.Mode.TheVariants.{Abs, Imm, Zp}
 pub use Rattle.isa65.specs.declared.op.Op.{Op}
-pub use Rattle.isa65.specs.declared.row.OperandKind.TheVariants.{Distance, Word}
+pub use Rattle.isa65.specs.declared.row.OperandKind.TheVariants.{Word}
 pub use Rattle.isa65.specs.declared.row.Pattern.TheVariants.{Direct}
 pub use Rattle.isa65.specs.declared.row.Row.{Row}
-pub use Rattle.isa65.specs.declared.row.Row.TheVariants.{One, Two}
+pub use Rattle.isa65.specs.declared.row.Row.TheVariants.{One}

@@ -1,7 +1,4 @@
 pub mod CommandLemmas
-pub mod AppendLemmas
-pub mod CommentLemmas
-pub mod CommentRows
-pub mod LikelyLemmas
-pub mod LikelyLines
+pub mod CheckLemmas
+pub mod UnshownLemmas
 pub mod ReportLemmas

@@ -1,11 +1,6 @@
 pub mod Command
-pub mod Appending
-pub mod Said
-pub mod Findings
-pub mod Picture
-pub mod Misplaced
-pub mod PairComments
-pub mod Likely
-pub mod Report
 pub mod Request
+pub mod Check
+pub mod Unshown
+pub mod Report
 pub mod Words

@@ -1,75 +1,63 @@
--- The text that is written: lines of an information file.
-use Rattle.std.specs.Prelude.{◌≡◌, ◌≤◌, ℕ, Bool, true, false, Ok, List, [], ◌∷◌, ◌++◌, codes, flat_map, length}
+-- What is found of an image, and what is written of it.
+use Rattle.std.specs.Prelude.{◌≡◌, ◌++◌, ℕ, Bool, true, false, List, Ok, length, take}
 use Rattle.info65.specs.Words.{InfoView, OptionsView, information}
 use Rattle.info65.specs.declared.information.range.RangeSpec.{RangeSpec}
-use Rattle.info65.specs.declared.tags.tag.Tag.{Tag}
-use Rattle.map65.specs.Words.{MapView}
-use Rattle.reach65.specs.Words.{AreAmong, comment_line, label_lines, range_lines, with_found}
-use Rattle.trace65.specs.Findings.{AreFindings, Findings}
-use Rattle.trace65.specs.Likely.{call_comments, word_comments}
-use Rattle.trace65.specs.Misplaced.{misplaced_comments}
-use Rattle.trace65.specs.PairComments.{last_wanted, new_after, pair_comments}
-use Rattle.trace65.specs.Picture.{counts_comment, image_marks, picture_comments}
+use Rattle.map65.specs.Words.{MapView, MarksView, is_marked, mapped}
+use Rattle.reach65.specs.Words.{AreInOrder, AreReached, FlowView, HaveAllFree, LieIn, is_code, is_taken}
+use Rattle.trace65.specs.Check.{Says}
+use Rattle.trace65.specs.Unshown.{unshown_in, unshown_lines}
+use Rattle.trace65.specs.declared.report.Findings.{Findings}
+use Rattle.trace65.specs.declared.report.InfoFile.{InfoFile}
+use Rattle.trace65.specs.declared.report.Report.{Report}
+use Rattle.trace65.specs.declared.request.Tracing.{Tracing}
 
--- what the characters of the picture stand for
-abbrev pub legend : List ℕ
-legend = codes " a character for 64 bytes: # code that is reached, + partly,"
+-- ---- what is found
 
-abbrev pub legend_more : List ℕ
-legend_more = codes " r in a range of the information file, . neither"
+-- the instructions of a map, and where they lead, with the groups `#: ..` of the file
+abbrev pub flow_of : MapView → InfoFile → FlowView
+flow_of m file = record { map = m; tags = file.tags.now }
 
--- the first comment, and then these
-abbrev pub headed : List (List ℕ) → List ℕ
-headed comments = comment_line legend ++ flat_map comment_line comments
+-- the list begins with the other one
+abbrev pub Begins : List ℕ → List ℕ → Type 0
+Begins all first = take (length first) all ≡ first
 
--- the picture, and the counts
-abbrev pub picture_and_counts : ℕ → List Bool → List Bool → List (List ℕ)
-picture_and_counts start code taken = legend_more ∷ (picture_comments start code taken ++ counts_comment code taken ∷ [])
+-- the ranges have exactly the addresses of the image that no reached instruction and no range of the information file has
+abbrev pub HaveTheRest : MapView → MarksView → List RangeSpec → Type 0
+HaveTheRest m reached ranges = HaveAllFree m.image (is_taken m (is_code m (is_marked reached))) ranges
 
--- the comments after the first one: those, and what is given where it counts for nothing
-abbrev pub comments_before : MapView → Findings → List (List ℕ)
-comments_before m f =
-    picture_and_counts m.image.start (image_marks m.image f.survey.code) (image_marks m.image f.survey.taken) ++ misplaced_comments m f.survey.reached f.entries
+-- What is reached is what the entries lead to, those that were given among them. The ranges have the rest of the image and nothing else, and
+-- no two of them share an address.
+pub record AreFindings (flow : FlowView) (asked : Tracing) (f : Findings) : Type 0 where
+  pub given_first : Begins f.entries.items asked.entries.items
+  pub reached : AreReached flow f.entries.items (is_marked f.reached)
+  pub cover : HaveTheRest flow.map f.reached f.ranges.items
+  pub inside : LieIn flow.map.image f.ranges.items
+  pub apart : AreInOrder f.ranges.items
 
--- a comment for each pair, and one for what lies after the image
-abbrev pub move_comments : MapView → List Tag → Findings → List (List ℕ)
-move_comments m tags f = pair_comments m f.pairs ++ new_after tags m.image (last_wanted f.pairs f.variables)
+-- ---- what is written
 
--- what is only likely
-abbrev pub likely_comments : MapView → List Tag → Findings → List (List ℕ)
-likely_comments m tags f = word_comments m f.survey f.words f.returns ++ call_comments (record { map = m; tags = tags }) f.survey.reached
+-- what follows the information file: what is found, and a comment on each reached instruction that the listing does not show
+abbrev pub proposals : Findings → List ℕ → List ℕ
+proposals f unshown = f.text.items ++ unshown_lines unshown
 
--- those after the labels
-abbrev pub found_comments : MapView → List Tag → Findings → List (List ℕ)
-found_comments m tags f = move_comments m tags f ++ likely_comments m tags f
+-- After the information file this is accepted, and the whole says what the file says, these ranges and these labels. In the map of all that,
+-- each reached instruction is an item that is as long, except those of the list.
+pub record IsReadBack (o : OptionsView) (file : InfoFile) (m : MapView) (f : Findings) (unshown : List ℕ) : Type 0 where
+  pub info : InfoView
+  pub accepted : information o (file.bytes.now ++ proposals f unshown) ≡ Ok info
+  pub says : Says file.info.now f.ranges.items f.labels.items info
+  pub shown : unshown ≡ unshown_in (mapped info m.image) m f.reached
 
--- The picture, the counts and what counts for nothing as comments, a line for each range that is proposed and for each label, and the comments `#: ..`.
-unfoldable pub report_text : MapView → List Tag → Findings → List ℕ
-report_text m tags f =
-    headed (comments_before m f)
-    ++ (range_lines m.image f.ranges ++ (label_lines f.labels ++ flat_map comment_line (found_comments m tags f)))
+abbrev pub IsAccepted : OptionsView → InfoFile → MapView → Report → Type 0
+IsAccepted o file m r = IsReadBack o file m r.found r.unshown.items
 
--- After an information file that is accepted, and that has the ranges of the map and of its names, the text is accepted, and adds these ranges, and
--- labels with default names at these addresses.
-abbrev pub IsAccepted : MapView → List RangeSpec → List ℕ → List ℕ → Type 0
-IsAccepted m ranges labels text = (o : OptionsView) (file : List ℕ) (info : InfoView)
-    → information o file ≡ Ok info → m.info.ranges ≡ info.ranges → AreAmong info.names m.info.names → length (file ++ text) ≤ 1_048_576
-    → information o (file ++ text) ≡ Ok (with_found info ranges labels)
+-- the information file, if the whole is to be written, and then the rest
+abbrev pub after_file : Bool → List ℕ → List ℕ → List ℕ
+after_file true file rest = file ++ rest
+after_file false file rest = rest
 
--- the text of what is found in an image, beside what the groups `#: ..` of the file say
-pub record IsReport (m : MapView) (given : List ℕ) (plain : Bool) (tags : List Tag) (text : List ℕ) : Type 0 where
-  pub found : Findings
-  pub are : AreFindings m given plain tags found
-  pub lines : text ≡ report_text m tags found
-  pub accepted : IsAccepted m found.ranges found.labels text
+abbrev pub written : Bool → InfoFile → Findings → List ℕ → List ℕ
+written whole file f unshown = after_file whole file.bytes.now (proposals f unshown)
 
--- the information file, if the whole is to be written
-abbrev pub file_before : Bool → List ℕ → List ℕ
-file_before true file = file
-file_before false file = []
-
--- what is written: the information file, if the whole is to be written, and then the text of what is found
-pub record IsWritten (m : MapView) (given : List ℕ) (plain whole : Bool) (tags : List Tag) (file text : List ℕ) : Type 0 where
-  pub found : List ℕ
-  pub report : IsReport m given plain tags found
-  pub parts : text ≡ file_before whole file ++ found
+abbrev pub IsWritten : Bool → InfoFile → Report → Type 0
+IsWritten whole file r = r.text.items ≡ written whole file r.found r.unshown.items

@@ -19,4 +19,10 @@ pub enum Refused {
     /// The input gives no image.
     #[error("{0}")]
     Image(ImageFault),
+    /// After what is found the information file has this fault.
+    #[error("the information file with what is found would be refused: {0}")]
+    Text(InfoFault),
+    /// After what is found the information file does not say that.
+    #[error("the information file with what is found would say something else")]
+    Other,
 }

@@ -50,6 +50,19 @@ pub fn information(rt: &HostRuntime, options: &Options, bytes: &[u8]) -> Result<
     Ok(info)
 }
 
+/// What the information file of these bytes says without the names of its include files, if it has any: else what it says is this.
+pub fn without_includes(
+    rt: &HostRuntime,
+    options: &Options,
+    bytes: &[u8],
+    info: &Info,
+) -> Result<Option<Info>, Failure> {
+    if info.includes().is_empty() {
+        return Ok(None);
+    }
+    Ok(Some(read_info(rt.alloc(), options, bytes)?))
+}
+
 /// The failure for a fault of the image.
 fn image_failure(fault: ImageFault) -> Failure
     ensures { result ≡ Own (Refused.Image fault) }

@@ -7,28 +7,23 @@
 //! 0 if the text, the help text or the version was written, otherwise 1.
 #![tactic(auto)]
 
-mod calls;
+mod advice;
+mod check;
 mod command;
 mod failure;
 mod information;
-mod labels;
-mod likely;
-mod misplaced;
-mod pair_comments;
-mod part;
-mod picture;
-mod ranges;
 mod report;
 mod request;
-mod said;
+mod text;
+mod unshown;
 
 use command::this_program;
 use failure::Failure;
 use files65::{Output, Placeholders, read_information, say, write_text};
-use info65::{Info, Tag};
-use information::{image, information, tags};
+use info65::Info;
+use information::{image, information, tags, without_includes};
 use map65::Map;
-use report::report;
+use report::{InfoFile, report_of};
 use request::{Request, Tracing, request_of};
 use std::process::ExitCode;
 use usage65::{RequestFault, words_of};
@@ -44,25 +39,31 @@ fn tell(rt: &HostRuntime, text: &[u8]) -> Result<(), Failure> {
     Ok(write_text(&mut Output::standard(rt), text)?)
 }
 
-/// The text that is written of an image, under what the information file of these bytes says.
+/// The text that is written of an image, which has this information with that of the include files.
 fn text_of(
     rt: &HostRuntime,
     tracing: &Tracing,
     info: &Info,
-    tags: &[Tag],
-    file: &[u8],
+    file: &InfoFile<'_>,
 ) -> Result<Vec<u8>, Failure> {
     let image = image(rt, info)?;
     let map = Map::build(rt.alloc(), info, &image)?;
-    Ok(report(rt.alloc(), &map, tracing, tags, file)?)
+    Ok(report_of(rt.alloc(), &map, file, tracing)?.text)
 }
 
 /// The text that is written.
 fn traced_text(rt: &HostRuntime, tracing: &Tracing) -> Result<Vec<u8>, Failure> {
-    let bytes = read_information(rt, tracing.options.info.as_deref())?;
-    let info = information(rt, &tracing.options, &bytes)?;
+    let options = &tracing.options;
+    let bytes = read_information(rt, options.info.as_deref())?;
+    let info = information(rt, options, &bytes)?;
+    let alone = without_includes(rt, options, &bytes, &info)?;
     let tags = tags(rt, &bytes)?;
-    text_of(rt, tracing, &info, &tags, &bytes)
+    let file = InfoFile {
+        bytes: &bytes,
+        info: alone.as_ref().unwrap_or(&info),
+        tags: &tags,
+    };
+    text_of(rt, tracing, &info, &file)
 }
 
 /// Writes what is found in the image. The output is created once the text is there.

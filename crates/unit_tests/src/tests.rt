@@ -8,5 +8,6 @@ mod includes;
 mod inputs;
 mod long_lines;
 mod maps;
+mod marks;
 mod said;
 mod told;

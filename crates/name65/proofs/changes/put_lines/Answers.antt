@@ -1,6 +1,7 @@
 use Rattle.std.proofs.Common.{◌≡◌, ◌∙◌, Bool, true, false, [], Some, None, append_assoc, refl}
 use Rattle.std.specs.Prelude.{if◌then◌else◌, is_some}
 use Rattle.std.proofs.lemmas.List.{append-nil, nil_from_length}
+use Rattle.map65.specs.Words.{is_marked}
 use Rattle.name65.proofs.ChangeLemmas.{from_all, from_end, from_last, from_next}
 use Rattle.name65.proofs.changes.put_lines.Goals as goal
 
@@ -9,7 +10,7 @@ is_some-if true x = refl
 is_some-if false x = refl
 
 pub lines-init : goal.lines-init
-lines-init c = rw (c.requires, c.from-at.ensures) (from_all c.args.source.now c.args.plan.now.marks.now c.args.plan.now.used c.args.ends.now)
+lines-init c = rw (c.requires, c.from-at.ensures) (from_all c.args.source.now (is_marked c.args.plan.now.marks.now) c.args.plan.now.used c.args.ends.now)
 
 pub lines-preserved : goal.lines-preserved
 lines-preserved c = λ text from.

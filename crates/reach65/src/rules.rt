@@ -1,0 +1,22 @@
+//! What guides: which addresses may be code, and what bytes that are no code may be.
+//!
+//! Each module is one rule. A rule may be wrong: what comes of it is checked before it is written, and programs whose truth is known
+//! (`tests/corpus`) say how often it is. `step` says where an instruction leads, `search` tries entries, `growth` lets sound ones join by
+//! the other rules. `survey` has what reached code does with addresses, and the rest says what the other bytes are.
+
+pub mod bytes;
+pub mod entries;
+pub mod ground;
+pub mod growth;
+pub mod halves;
+pub mod labels;
+pub mod pieces;
+pub mod rows;
+pub mod search;
+pub mod sound;
+pub mod step;
+pub mod survey;
+pub mod texts;
+pub mod variables;
+pub mod vectors;
+pub mod words;

@@ -1,0 +1,30 @@
+//! Bytes and words of an image by their addresses, which may lie outside it.
+
+use map65::{ADDRESSES, Image};
+
+/// Returns the byte at the address, if that lies in the image.
+pub fn byte(image: &Image, at: usize) -> Option<u8> {
+    let index = at.checked_sub(usize::from(image.start()))?;
+    image.bytes().get(index).copied()
+}
+
+/// Returns the word at the address, low byte first, if both of its bytes lie in the image.
+pub fn word(image: &Image, at: usize) -> Option<u16> {
+    let low = byte(image, at)?;
+    let high = byte(image, at.checked_add(1)?)?;
+    Some(u16::from_le_bytes([low, high]))
+}
+
+/// Returns the first address of the image, and the first one after it.
+pub fn ends(image: &Image) -> (usize, usize) {
+    let start = usize::from(image.start());
+    (
+        start,
+        start.saturating_add(image.bytes().len()).min(ADDRESSES),
+    )
+}
+
+/// Returns the address, if it is at most $FFFF.
+pub fn address(at: usize) -> Option<u16> {
+    u16::try_from(at).ok()
+}

@@ -1,0 +1,74 @@
+//! Where reading begins.
+
+use crate::rules::bytes::{ends, word};
+use info65::{Entry, RangeType};
+use map65::{Image, Map, return_target};
+use std::alloc::{AllocError, Global};
+
+/// Returns whether the image has the bytes at $FFFA to $FFFF, where the vectors of the CPU are.
+pub fn has_vectors(image: &Image) -> bool {
+    let (start, end) = ends(image);
+    start <= 0xFFFA && end == 0x1_0000
+}
+
+/// The address that the entry of a table refers to that begins at the address, if it is one of addresses or of returns.
+fn pointer_at(map: &Map<'_>, at: usize) -> Option<u16> {
+    let address = u16::try_from(at).ok()?;
+    let role = map.role(address)?;
+    if map.item_len(address) != 2 {
+        return None;
+    }
+    match role.layout().entry {
+        Entry::Address => word(map.image(), at),
+        Entry::Return => return_target(word(map.image(), at)?),
+        _ => None,
+    }
+}
+
+/// Returns what the tables of addresses and of returns of the information file refer to, in the order of their entries. Fails only if an
+/// allocation failed.
+pub fn pointers_of(alloc: Global, map: &Map<'_>) -> Result<Vec<u16>, AllocError> {
+    let mut found = Vec::new(alloc);
+    if map.info().ranges().is_empty() {
+        return Ok(found);
+    }
+    let (start, end) = ends(map.image());
+    for at in start..end {
+        if let Some(address) = pointer_at(map, at) {
+            found.push(address)?;
+        }
+    }
+    Ok(found)
+}
+
+/// Returns where reading begins: what the tables of the information file refer to, if these are followed; the first address of each
+/// range of code; the vectors, if the image has them; without any of these the first address of the image; and the addresses that are
+/// given. Fails only if an allocation failed.
+pub fn entries_of(
+    alloc: Global,
+    map: &Map<'_>,
+    given: &[u16],
+    with_tables: bool,
+) -> Result<Vec<u16>, AllocError> {
+    let mut found = Vec::new(alloc);
+    if with_tables {
+        found = pointers_of(alloc, map)?;
+    }
+    for range in map.info().ranges() {
+        if range.role == RangeType::Code {
+            found.push(range.first)?;
+        }
+    }
+    if has_vectors(map.image()) {
+        for vector in [0xFFFAusize, 0xFFFC, 0xFFFE] {
+            if let Some(address) = word(map.image(), vector) {
+                found.push(address)?;
+            }
+        }
+    }
+    if found.is_empty() {
+        found.push(map.image().start())?;
+    }
+    found.extend_from_slice(given)?;
+    Ok(found)
+}

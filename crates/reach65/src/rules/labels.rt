@@ -1,0 +1,29 @@
+//! The addresses that get labels with default names.
+
+use crate::rules::halves::Pair;
+use info65::Info;
+use std::alloc::{AllocError, Global};
+
+/// Returns the addresses that get labels, in order: those of the pairs, and the variables, but for those that a name of the information
+/// file covers. Fails only if an allocation failed.
+pub fn labels_of(
+    alloc: Global,
+    info: &Info,
+    pairs: &[Pair],
+    variables: &[u16],
+) -> Result<Vec<u16>, AllocError> {
+    let mut wanted = Vec::from_slice(alloc, variables)?;
+    for pair in pairs {
+        wanted.push(pair.address)?;
+    }
+    wanted.sort()?;
+    let mut found = Vec::new(alloc);
+    let mut last = None;
+    for &address in &wanted {
+        if last != Some(address) && info.covering(address).is_none() {
+            found.push(address)?;
+        }
+        last = Some(address);
+    }
+    Ok(found)
+}

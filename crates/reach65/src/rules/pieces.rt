@@ -1,0 +1,209 @@
+//! What stands at the addresses that nothing speaks for: words, filler, texts and other bytes.
+
+use crate::rules::bytes::{byte, ends};
+use crate::rules::ground::Ground;
+use crate::rules::texts::{Alphabet, Chars};
+use info65::RangeType;
+use std::alloc::{AllocError, Global};
+
+/// The least number of equal bytes that are filler.
+const FILLER: u32 = 16;
+
+/// What begins at a byte of the image.
+#[derive(Clone, Copy, PartialEq, Eq)]
+enum Begins {
+    Nothing,
+    /// Equal bytes, 16 at least.
+    Filler,
+    /// A text of this many bytes.
+    Text(u32),
+}
+
+/// The bytes that nothing speaks for, cut into pieces.
+#[derive(Drop)]
+pub struct Pieces<'g, 'i> {
+    ground: &'g Ground<'i>,
+    start: usize,
+    end: usize,
+    begins: Vec<Begins>,
+}
+
+/// The characters of each alphabet from a byte on.
+#[derive(Clone, Copy)]
+struct Tails {
+    ascii: Chars,
+    high: Chars,
+    petscii: Chars,
+}
+
+/// These characters and the byte before them, if that is one, else none.
+fn with(after: Chars, alphabet: Alphabet, byte: u8) -> Chars {
+    if alphabet.is_char(byte) {
+        after.with(alphabet, byte)
+    } else {
+        Chars::none()
+    }
+}
+
+/// How many characters they have, if they are a text, else 0.
+fn text_len(chars: Chars) -> u32 {
+    if chars.are_text() { chars.count } else { 0 }
+}
+
+impl Tails {
+    fn none() -> Tails {
+        Tails {
+            ascii: Chars::none(),
+            high: Chars::none(),
+            petscii: Chars::none(),
+        }
+    }
+
+    fn with(self, byte: u8) -> Tails {
+        Tails {
+            ascii: with(self.ascii, Alphabet::Ascii, byte),
+            high: with(self.high, Alphabet::High, byte),
+            petscii: with(self.petscii, Alphabet::Petscii, byte),
+        }
+    }
+
+    /// The longest text of them, if there is one.
+    fn longest(self) -> Begins {
+        let one = text_len(self.ascii).max(text_len(self.high));
+        match one.max(text_len(self.petscii)) {
+            0 => Begins::Nothing,
+            count => Begins::Text(count),
+        }
+    }
+}
+
+/// What begins at each byte of the image, from the last one to the first.
+fn begins_backward(alloc: Global, ground: &Ground<'_>) -> Result<Vec<Begins>, AllocError> {
+    let (start, end) = ends(ground.image);
+    let mut found = Vec::new(alloc);
+    let mut tails = Tails::none();
+    let mut after = None;
+    let mut run = 0u32;
+    for at in (start..end).rev() {
+        let here = if ground.is_plain(at) {
+            byte(ground.image, at)
+        } else {
+            None
+        };
+        run = if here.is_some() && here == after {
+            run.saturating_add(1)
+        } else {
+            1
+        };
+        after = here;
+        let Some(byte) = here else {
+            tails = Tails::none();
+            found.push(Begins::Nothing)?;
+            continue;
+        };
+        if FILLER <= run {
+            tails = Tails::none();
+            found.push(Begins::Filler)?;
+        } else {
+            tails = tails.with(byte);
+            found.push(tails.longest())?;
+        }
+    }
+    found.reverse();
+    Ok(found)
+}
+
+impl<'g, 'i> Pieces<'g, 'i> {
+    /// Looks at the addresses that nothing speaks for. The time grows with the size of the image. Fails only if an allocation failed.
+    pub fn of(alloc: Global, ground: &'g Ground<'i>) -> Result<Pieces<'g, 'i>, AllocError> {
+        let (start, end) = ends(ground.image);
+        Ok(Pieces {
+            ground,
+            start,
+            end,
+            begins: begins_backward(alloc, ground)?,
+        })
+    }
+
+    /// What begins at the address.
+    fn begins_at(&self, at: usize) -> Begins {
+        match self.begins.get(at.saturating_sub(self.start)) {
+            Some(begins) => *begins,
+            None => Begins::Nothing,
+        }
+    }
+
+    /// The first address after this one that fails the test, or the end of the image.
+    fn end_of<F: Fn(usize) -> bool>(&self, from: usize, goes_on: F) -> usize
+        requires { F.IsAlwaysCallable goes_on }
+    {
+        for at in from.saturating_add(1)..self.end {
+            if !goes_on(at) {
+                return at;
+            }
+        }
+        self.end
+    }
+
+    /// Where a text that is known ends: after its zero byte.
+    fn known_end(&self, from: usize) -> usize {
+        for at in from..self.end {
+            if !self.ground.is_free(at) {
+                return at;
+            }
+            if byte(self.ground.image, at) == Some(0) {
+                return at.saturating_add(1);
+            }
+        }
+        self.end
+    }
+
+    /// The type of a text of this many bytes.
+    fn text_type(&self, from: usize, count: usize) -> RangeType {
+        for at in from..from.saturating_add(count) {
+            match byte(self.ground.image, at) {
+                Some(byte) if Alphabet::Ascii.is_char(byte) => {}
+                _ => return RangeType::ByteTable,
+            }
+        }
+        RangeType::TextTable
+    }
+
+    /// Returns what is proposed for the address and those after it, and where that ends: an ADDRTABLE for words that are addresses, an
+    /// RTSTABLE for words that are less one, a BYTETABLE for filler, a TEXTTABLE for a text of ASCII and one that is known, a BYTETABLE
+    /// for another text, and a BYTETABLE up to where any of these begins.
+    pub fn piece_at(&self, first: u16) -> (RangeType, usize) {
+        let ground = self.ground;
+        let at = usize::from(first);
+        if ground.texts.get(first) {
+            return (RangeType::TextTable, self.known_end(at));
+        }
+        if ground.words.get(first) {
+            let end = self.end_of(at, |a| ground.is_free(a) && ground.words.get_at(a));
+            return (RangeType::AddrTable, end);
+        }
+        if ground.returns.get(first) {
+            let end = self.end_of(at, |a| ground.is_free(a) && ground.returns.get_at(a));
+            return (RangeType::RtsTable, end);
+        }
+        match self.begins_at(at) {
+            Begins::Filler => {
+                let here = byte(ground.image, at);
+                let end = self.end_of(at, |a| {
+                    ground.is_plain(a) && byte(ground.image, a) == here
+                });
+                (RangeType::ByteTable, end)
+            }
+            Begins::Text(count) => {
+                let count = count as usize;
+                (self.text_type(at, count), at.saturating_add(count))
+            }
+            Begins::Nothing => {
+                let end = self.end_of(at, |a| {
+                    ground.is_plain(a) && self.begins_at(a) == Begins::Nothing
+                });
+                (RangeType::ByteTable, end)
+            }
+        }
+    }
+}

@@ -1,0 +1,86 @@
+//! What reached code does with addresses.
+
+use crate::flow::Flow;
+use crate::rules::bytes::ends;
+use crate::rules::step::{Step, step_at};
+use isa65::Mnemonic;
+use map65::{Marks, is_jump};
+use std::alloc::{AllocError, Global};
+
+/// Marks of addresses, by what reached instructions do with them.
+#[derive(Drop)]
+pub struct Survey<'r> {
+    /// A reached instruction begins at the address.
+    pub reached: &'r Marks,
+    /// One has it.
+    pub code: &'r Marks,
+    /// One goes on to it: it leads there as the next one, or branches there.
+    pub gone_on: Marks,
+    /// One calls it.
+    pub called: Marks,
+    /// One has it as its absolute operand.
+    pub operands: Marks,
+    /// A text behind a call begins there that ends with a zero byte.
+    pub texts: Marks,
+}
+
+/// Marks the address, if there is one.
+fn set_some(marks: &mut Marks, address: Option<u16>) {
+    if let Some(address) = address {
+        marks.set(address);
+    }
+}
+
+impl<'r> Survey<'r> {
+    /// Looks at the reached instructions. Fails only if an allocation failed.
+    pub fn of(
+        alloc: Global,
+        flow: &Flow<'_, '_>,
+        reached: &'r Marks,
+        code: &'r Marks,
+    ) -> Result<Survey<'r>, AllocError> {
+        let mut survey = Survey {
+            reached,
+            code,
+            gone_on: Marks::none(alloc)?,
+            called: Marks::none(alloc)?,
+            operands: Marks::none(alloc)?,
+            texts: Marks::none(alloc)?,
+        };
+        let (start, end) = ends(flow.map().image());
+        for at in start..end {
+            if let Ok(address) = u16::try_from(at)
+                && reached.get(address)
+                && let Some(step) = step_at(flow, address)
+            {
+                survey.put(step);
+            }
+        }
+        Ok(survey)
+    }
+
+    /// Marks what the instruction does.
+    fn put(&mut self, step: Step) {
+        set_some(&mut self.gone_on, step.next);
+        if step.op.mnemonic == Mnemonic::Jsr {
+            set_some(&mut self.called, step.goal);
+        }
+        if !is_jump(step.op.mnemonic) {
+            set_some(&mut self.gone_on, step.goal);
+        }
+        set_some(&mut self.operands, step.operand);
+        set_some(&mut self.texts, step.text);
+    }
+
+    /// Returns whether a routine begins at the address, which may lie past $FFFF: it is called, or no code goes on to it.
+    pub fn is_routine(&self, at: usize) -> bool {
+        self.reached.get_at(at)
+            && self.code.get_at(at)
+            && (self.called.get_at(at) || !self.gone_on.get_at(at))
+    }
+
+    /// Returns whether no reached instruction has the address, or a routine begins there.
+    pub fn is_likely(&self, address: u16) -> bool {
+        !self.code.get(address) || self.is_routine(usize::from(address))
+    }
+}

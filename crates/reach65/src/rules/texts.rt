@@ -1,0 +1,87 @@
+//! Which bytes are a text, in three alphabets.
+
+/// What bytes stand for as characters.
+#[derive(Clone, Copy, Debug, PartialEq, Eq)]
+pub enum Alphabet {
+    /// ASCII, $20 to $7E.
+    Ascii,
+    /// The same with the high bit set, as on the Apple II.
+    High,
+    /// PETSCII of the Commodore machines, with capitals from $C1 to $DA.
+    Petscii,
+}
+
+impl Alphabet {
+    /// Returns whether the byte is a character.
+    pub fn is_char(self, byte: u8) -> bool {
+        match self {
+            Alphabet::Ascii => matches!(byte, 0x20..=0x7E),
+            Alphabet::High => matches!(byte, 0xA0..=0xFE),
+            Alphabet::Petscii => matches!(byte, 0x20..=0x5F | 0xC1..=0xDA),
+        }
+    }
+
+    /// Whether the byte is a letter or the blank.
+    fn is_letter(self, byte: u8) -> bool {
+        match self {
+            Alphabet::Ascii => matches!(byte, 0x20 | 0x41..=0x5A | 0x61..=0x7A),
+            Alphabet::High => matches!(byte, 0xA0 | 0xC1..=0xDA | 0xE1..=0xFA),
+            Alphabet::Petscii => matches!(byte, 0x20 | 0x41..=0x5A | 0xC1..=0xDA),
+        }
+    }
+
+    /// Returns whether the bytes are a text of this alphabet.
+    pub fn is_text(self, bytes: &[u8]) -> bool {
+        let mut chars = Chars::none();
+        for &byte in bytes {
+            if !self.is_char(byte) {
+                return false;
+            }
+            chars = chars.with(self, byte);
+        }
+        chars.are_text()
+    }
+
+    /// Returns what a character is in ASCII.
+    pub fn in_ascii(self, byte: u8) -> u8 {
+        match (self, byte) {
+            (Alphabet::Ascii, _) => byte,
+            (Alphabet::High, _) => byte.saturating_sub(128),
+            (Alphabet::Petscii, 0xC1..=0xFF) => byte - 128,
+            (Alphabet::Petscii, 0x41..=0x5A) => byte + 32,
+            (Alphabet::Petscii, _) => byte,
+        }
+    }
+}
+
+/// How many characters follow each other, and how many of them are letters or blanks.
+#[derive(Clone, Copy)]
+pub struct Chars {
+    pub count: u32,
+    letters: u32,
+}
+
+impl Chars {
+    /// No characters.
+    pub fn none() -> Chars {
+        Chars {
+            count: 0,
+            letters: 0,
+        }
+    }
+
+    /// These characters, and one beside them.
+    pub fn with(self, alphabet: Alphabet, byte: u8) -> Chars {
+        Chars {
+            count: self.count.saturating_add(1),
+            letters: self
+                .letters
+                .saturating_add(u32::from(alphabet.is_letter(byte))),
+        }
+    }
+
+    /// Returns whether they are a text: there are five at least, and half of them are letters or blanks.
+    pub fn are_text(self) -> bool {
+        5 <= self.count && self.count <= self.letters.saturating_mul(2)
+    }
+}

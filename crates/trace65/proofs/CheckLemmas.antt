@@ -1,0 +1,50 @@
+-- Of the comparison of two informations.
+use Rattle.std.proofs.Common.{◌≡◌, ◌∙◌, ◌<◌, ◌+◌, ℕ, List, [], ◌∷◌, ◌++◌, get_or, length, take, ap, subst, sym, refl, arith, rules}
+use Rattle.std.proofs.lemmas.List.{append-nil, take_more}
+use Rattle.info65.specs.Words.{InfoView, NameView, blank_name, default_label, name_at}
+use Rattle.trace65.specs.Check.{AreMerged, Says, given, label, none}
+
+-- one name more, which the base gives
+pub given_last : (n : NameView) {names : List NameView} {labels : List ℕ} {all : List NameView}
+    → AreMerged names labels all → AreMerged (names ++ n ∷ []) labels (all ++ n ∷ [])
+given_last n none = given n [] [] [] none
+given_last n (given m names labels all rest) = given m (names ++ n ∷ []) labels (all ++ n ∷ []) (given_last n rest)
+given_last n (label a names labels all rest) = label a (names ++ n ∷ []) labels (all ++ n ∷ []) (given_last n rest)
+
+-- one name more, which is a label
+pub label_last : (a : ℕ) {names : List NameView} {labels : List ℕ} {all : List NameView}
+    → AreMerged names labels all → AreMerged names (labels ++ a ∷ []) (all ++ default_label a ∷ [])
+label_last a none = label a [] [] [] none
+label_last a (given m names labels all rest) = given m names (labels ++ a ∷ []) (all ++ default_label a ∷ []) (label_last a rest)
+label_last a (label b names labels all rest) = label b names (labels ++ a ∷ []) (all ++ default_label a ∷ []) (label_last a rest)
+
+-- the next name of the base is the next one
+pub given_next : (names all : List NameView) (labels : List ℕ) (j i : ℕ) → j < length names → i < length all → name_at all i ≡ name_at names j
+    → AreMerged (take j names) labels (take i all) → AreMerged (take (j + 1) names) labels (take (i + 1) all)
+given_next names all labels j i within there same merged =
+    let P : List NameView → Type 0 = λ l. AreMerged (take (j + 1) names) labels l in
+    let Q : List NameView → Type 0 = λ l. AreMerged l labels (take i all ++ name_at all i ∷ []) in
+    let R : NameView → Type 0 = λ n. AreMerged (take j names ++ n ∷ []) labels (take i all ++ name_at all i ∷ []) in
+    subst P (sym (take_more all i blank_name there)) (subst Q (sym (take_more names j blank_name within)) (subst R same (given_last (name_at all i) merged)))
+
+-- the default name of the next address is the next one
+pub label_next : (names all : List NameView) (labels : List ℕ) (k i : ℕ) → k < length labels → i < length all → name_at all i ≡ default_label (get_or labels k 0)
+    → AreMerged names (take k labels) (take i all) → AreMerged names (take (k + 1) labels) (take (i + 1) all)
+label_next names all labels k i within there same merged =
+    let P : List NameView → Type 0 = λ l. AreMerged names (take (k + 1) labels) l in
+    let Q : List ℕ → Type 0 = λ l. AreMerged names l (take i all ++ name_at all i ∷ []) in
+    let R : NameView → Type 0 = λ n. AreMerged names (take k labels ++ get_or labels k 0 ∷ []) (take i all ++ n ∷ []) in
+    subst P (sym (take_more all i blank_name there)) (subst Q (sym (take_more labels k 0 within)) (subst R (sym same) (label_last (get_or labels k 0) merged)))
+
+-- without labels all names are those of the base
+no_labels : {names all : List NameView} (labels : List ℕ) → labels ≡ [] → AreMerged names labels all → all ≡ names
+no_labels labels none_left none = refl
+no_labels labels none_left (given n names ls all rest) = ap (λ l. n ∷ l) (no_labels ls none_left rest)
+no_labels labels none_left (label a names ls all rest) = cc
+
+same_info : {a b : InfoView} → a.settings ≡ b.settings → a.ranges ≡ b.ranges → a.segments ≡ b.segments → a.names ≡ b.names → a.includes ≡ b.includes → a ≡ b
+same_info settings ranges segments names includes = first_of (cc, grind arith, search rules)
+
+-- without more ranges and labels all is as before
+pub says_same : {base new : InfoView} → Says base [] [] new → new ≡ base
+says_same says = same_info says.settings (says.ranges ∙ append-nil _) says.segments (no_labels [] refl says.names) says.includes

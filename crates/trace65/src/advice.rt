@@ -1,0 +1,137 @@
+//! What guides: which entries join, and what the bytes may be that no code has.
+
+use info65::{Tag, TagKind};
+use map65::{Image, Marks};
+use reach65::Flow;
+use reach65::rules::bytes::ends;
+use reach65::rules::entries::entries_of;
+use reach65::rules::ground::Ground;
+use reach65::rules::growth::follow;
+use reach65::rules::halves::{Pair, halves_of};
+use reach65::rules::labels::labels_of;
+use reach65::rules::rows::mark_rows;
+use reach65::rules::survey::Survey;
+use reach65::rules::variables::variables_of;
+use reach65::rules::vectors::mark_vectors;
+use std::alloc::{AllocError, Global};
+
+/// Marks of what is reached in an image.
+#[derive(Clone, Copy)]
+pub struct Reach<'a> {
+    /// A reached instruction begins at the address.
+    pub reached: &'a Marks,
+    /// One has it.
+    pub code: &'a Marks,
+    /// One has it, or a range of the information file.
+    pub taken: &'a Marks,
+}
+
+/// What is found of an image.
+#[derive(Drop)]
+pub struct Advice<'a, 'f, 'm> {
+    pub flow: &'a Flow<'f, 'm>,
+    /// What the ranges of the information file and reached instructions have.
+    pub taken: &'a Marks,
+    /// What reached instructions do with addresses.
+    pub survey: Survey<'a>,
+    /// What nothing speaks for, with the words among it.
+    pub ground: Ground<'a>,
+    /// The addresses in halves.
+    pub pairs: Vec<Pair>,
+    /// The variables right after the image.
+    pub variables: Vec<u16>,
+    /// The addresses that get labels.
+    pub labels: Vec<u16>,
+}
+
+/// Returns the entries that are given: those of the command line, and then those of the groups ENTRY. Fails only if an allocation failed.
+pub fn given_entries(alloc: Global, given: &[u16], tags: &[Tag]) -> Result<Vec<u16>, AllocError> {
+    let mut entries = Vec::from_slice(alloc, given)?;
+    for tag in tags {
+        if let (TagKind::Entry, Some(address)) = (tag.kind, tag.address) {
+            entries.push(address)?;
+        }
+    }
+    Ok(entries)
+}
+
+/// Returns all entries: where reading begins, with those that are given, and, unless no more than the entries are to be followed, those that join
+/// them. Fails only if an allocation failed.
+pub fn entries(
+    alloc: Global,
+    flow: &Flow<'_, '_>,
+    given: &[u16],
+    plain: bool,
+) -> Result<Vec<u16>, AllocError> {
+    let entries = entries_of(alloc, flow.map(), given, plain)?;
+    if plain {
+        return Ok(entries);
+    }
+    follow(alloc, flow, &entries)
+}
+
+/// The places of the bytes that groups HALVES of the information file have.
+fn said_places(alloc: Global, tags: &[Tag]) -> Result<Marks, AllocError> {
+    let mut marks = Marks::none(alloc)?;
+    for tag in tags {
+        if tag.kind == TagKind::Halves {
+            for first in [tag.low, tag.high] {
+                if let Some(first) = first {
+                    let from = usize::from(first);
+                    marks.set_span(from, from + usize::from(tag.size.unwrap_or(1)));
+                }
+            }
+        }
+    }
+    Ok(marks)
+}
+
+impl<'a, 'f, 'm: 'a> Advice<'a, 'f, 'm> {
+    /// Looks at an image of which this is reached. Fails only if an allocation failed.
+    pub fn of(
+        alloc: Global,
+        flow: &'a Flow<'f, 'm>,
+        reach: Reach<'a>,
+    ) -> Result<Advice<'a, 'f, 'm>, AllocError> {
+        let Reach {
+            reached,
+            code,
+            taken,
+        } = reach;
+        let image = flow.map().image();
+        let survey = Survey::of(alloc, flow, reached, code)?;
+        let mut ground = Ground::of(alloc, image, taken, survey.texts.copy(alloc)?)?;
+        mark_vectors(&mut ground.words, image, reached, taken);
+        mark_rows(&mut ground, &survey);
+        let pairs = halves_of(alloc, flow, &survey, said_places(alloc, flow.tags())?)?;
+        let variables = variables_of(alloc, image, &survey.operands)?;
+        let labels = labels_of(alloc, flow.map().info(), &pairs, &variables)?;
+        Ok(Advice {
+            flow,
+            taken,
+            survey,
+            ground,
+            pairs,
+            variables,
+            labels,
+        })
+    }
+
+    /// Returns the first address of the image, and the first one after it.
+    pub fn ends(&self) -> (usize, usize) {
+        ends(self.image())
+    }
+
+    /// Returns the bytes of the image from an address to before another one, as far as it has them.
+    pub fn bytes(&self, from: usize, end: usize) -> &'a [u8] {
+        let start = usize::from(self.image().start());
+        let bytes = self.image().bytes();
+        let end = end.saturating_sub(start).min(bytes.len());
+        let from = from.saturating_sub(start).min(end);
+        &bytes[from..end]
+    }
+
+    fn image(&self) -> &'a Image {
+        self.flow.map().image()
+    }
+}

@@ -1,0 +1,101 @@
+//! Comments for calls after which nothing decodes: text that the called routine reads may follow them.
+
+use crate::advice::Advice;
+use files65::{put_address, put_decimal};
+use isa65::Mnemonic;
+use reach65::inline_of;
+use reach65::rules::step::step_at;
+use std::alloc::{AllocError, Global};
+
+/// How many instructions after a call are looked at.
+const STEPS: usize = 8;
+
+/// Whether another instruction runs after it, and not the next one.
+fn is_end(mnemonic: Mnemonic) -> bool {
+    matches!(
+        mnemonic,
+        Mnemonic::Jmp | Mnemonic::Bra | Mnemonic::Rts | Mnemonic::Rti
+    )
+}
+
+/// Whether of the instructions after a call one does not decode, is `brk`, or is the last of the image.
+fn fails(advice: &Advice<'_, '_, '_>, from: Option<u16>) -> bool {
+    let mut at = from;
+    for _ in 0..STEPS {
+        let Some(address) = at else {
+            return true;
+        };
+        let Some(step) = step_at(advice.flow, address) else {
+            return true;
+        };
+        if step.next.is_none() {
+            return !is_end(step.op.mnemonic);
+        }
+        at = step.next;
+    }
+    false
+}
+
+/// The reached calls of routines of the image: the routine, and whether nothing decodes after the call; by routine.
+fn calls_of(alloc: Global, advice: &Advice<'_, '_, '_>) -> Result<Vec<(u16, bool)>, AllocError> {
+    let mut calls = Vec::new(alloc);
+    let (start, end) = advice.ends();
+    for at in start..end {
+        if let Ok(address) = u16::try_from(at)
+            && advice.survey.reached.get(address)
+            && let Some(step) = step_at(advice.flow, address)
+            && step.op.mnemonic == Mnemonic::Jsr
+            && let Some(routine) = step.goal
+        {
+            calls.push((routine, fails(advice, step.next)))?;
+        }
+    }
+    calls.sort_by_key(|call| call.0)?;
+    Ok(calls)
+}
+
+/// Adds the comment of a routine, if half of its calls fail at least, and one, and unless a group INLINE of the file has it.
+fn put_routine(
+    out: &mut Vec<u8>,
+    advice: &Advice<'_, '_, '_>,
+    routine: u16,
+    calls: usize,
+    failing: usize,
+) -> Result<(), AllocError> {
+    if failing == 0
+        || failing.saturating_mul(2) < calls
+        || inline_of(advice.flow.tags(), routine).is_some()
+    {
+        return Ok(());
+    }
+    put_decimal(out, b"# what follows ", failing)?;
+    put_decimal(out, b" of ", calls)?;
+    put_address(out, b" calls of $", usize::from(routine))?;
+    out.extend_from_slice(b" does not decode: INLINE?\n")
+}
+
+/// Adds a comment for each routine of the image after whose calls nothing decodes most often, by address.
+pub fn put_calls(
+    out: &mut Vec<u8>,
+    alloc: Global,
+    advice: &Advice<'_, '_, '_>,
+) -> Result<(), AllocError> {
+    let calls = calls_of(alloc, advice)?;
+    let mut last = None;
+    let (mut count, mut failing) = (0usize, 0usize);
+    for &(routine, fails) in &calls {
+        if let Some(last) = last
+            && last != routine
+        {
+            put_routine(out, advice, last, count, failing)?;
+            (count, failing) = (0, 0);
+        }
+        last = Some(routine);
+        count = count.saturating_add(1);
+        failing = failing.saturating_add(usize::from(fails));
+    }
+    match last {
+        Some(last) => put_routine(out, advice, last, count, failing),
+        None => Ok(()),
+    }
+}

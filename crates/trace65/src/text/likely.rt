@@ -1,0 +1,35 @@
+//! Comments for words in data that are likely addresses.
+
+use crate::advice::Advice;
+use crate::text::moves::put_name;
+use files65::put_address;
+use map65::is_inside;
+use std::alloc::AllocError;
+
+/// Whether the address is that of a routine, or that of a name, in the image.
+fn is_meant(advice: &Advice<'_, '_, '_>, address: u16) -> bool {
+    let map = advice.flow.map();
+    let at = usize::from(address);
+    let named = match map.info().covering(address) {
+        Some(name) => name.address == address && is_inside(map.image(), at),
+        None => false,
+    };
+    named || advice.survey.is_routine(at)
+}
+
+/// Adds a comment for each word that is likely an address: nothing speaks for its bytes, they differ, and no row of words has them.
+pub fn put_words(out: &mut Vec<u8>, advice: &Advice<'_, '_, '_>) -> Result<(), AllocError> {
+    let (start, end) = advice.ends();
+    for at in start..end {
+        if let Some(word) = advice.ground.word(at)
+            && word / 256 != word % 256
+            && is_meant(advice, word)
+        {
+            put_address(out, b"# the word at $", at)?;
+            put_address(out, b" is $", usize::from(word))?;
+            put_name(out, advice, word)?;
+            out.extend_from_slice(b": AddrTable?\n")?;
+        }
+    }
+    Ok(())
+}

@@ -1,0 +1,59 @@
+//! The lines `#: ..`: for addresses that code loads in halves, and for what lies after the image.
+
+use crate::advice::Advice;
+use files65::{put_address, put_decimal};
+use info65::TagKind;
+use std::alloc::AllocError;
+
+/// Adds the name of an address, if it has one, and how far the address lies after that of its name.
+pub fn put_name(
+    out: &mut Vec<u8>,
+    advice: &Advice<'_, '_, '_>,
+    address: u16,
+) -> Result<(), AllocError> {
+    let Some(name) = advice.flow.map().info().covering(address) else {
+        return Ok(());
+    };
+    out.extend_from_slice(b" ")?;
+    out.extend_from_slice(name.text)?;
+    match address.saturating_sub(name.address) {
+        0 => Ok(()),
+        offset => put_decimal(out, b"+", usize::from(offset)),
+    }
+}
+
+/// Adds a line for each pair.
+pub fn put_pairs(out: &mut Vec<u8>, advice: &Advice<'_, '_, '_>) -> Result<(), AllocError> {
+    for pair in &advice.pairs {
+        put_address(out, b"#: HALVES { LOW $", usize::from(pair.low))?;
+        put_address(out, b"; HIGH $", usize::from(pair.high))?;
+        put_address(out, b"; }; # $", usize::from(pair.address))?;
+        put_name(out, advice, pair.address)?;
+        out.extend_from_slice(b"\n")?;
+    }
+    Ok(())
+}
+
+/// Adds the line of what lies after the image, up to the greatest address of the pairs and the variables, if one lies there, and unless the
+/// file says it.
+pub fn put_after(out: &mut Vec<u8>, advice: &Advice<'_, '_, '_>) -> Result<(), AllocError> {
+    let mut last = 0u16;
+    for pair in &advice.pairs {
+        last = last.max(pair.address);
+    }
+    for &variable in &advice.variables {
+        last = last.max(variable);
+    }
+    let (_, end) = advice.ends();
+    let said = advice
+        .flow
+        .tags()
+        .iter()
+        .any(|tag| tag.kind == TagKind::After);
+    if said || usize::from(last) < end {
+        return Ok(());
+    }
+    put_address(out, b"#: AFTER { START $", end)?;
+    put_address(out, b"; END $", usize::from(last))?;
+    out.extend_from_slice(b"; };\n")
+}

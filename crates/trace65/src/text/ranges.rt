@@ -1,0 +1,74 @@
+//! The lines of the ranges that are proposed: each is a group, with the bytes of the range as a comment.
+
+use crate::advice::Advice;
+use files65::put_address;
+use info65::{RangeSpec, RangeType};
+use reach65::rules::texts::Alphabet;
+use std::alloc::AllocError;
+
+/// How many bytes of a range are shown.
+const SHOWN: usize = 32;
+
+/// A byte as it is shown: a dot stands for what is no character of ASCII.
+fn shown(byte: u8) -> u8 {
+    if matches!(byte, 0x20..=0x7E) {
+        byte
+    } else {
+        b'.'
+    }
+}
+
+/// What the type of a range is called.
+fn type_text(role: RangeType) -> &'static str {
+    match role {
+        RangeType::TextTable => "TextTable",
+        RangeType::AddrTable => "AddrTable",
+        RangeType::RtsTable => "RtsTable",
+        _ => "ByteTable",
+    }
+}
+
+/// What the bytes of a range of this type are shown in, and what is said of it.
+fn alphabet_of(role: RangeType, bytes: &[u8]) -> (Alphabet, &'static str) {
+    if role != RangeType::ByteTable {
+        (Alphabet::Ascii, "")
+    } else if Alphabet::High.is_text(bytes) {
+        (Alphabet::High, "text with the high bit: ")
+    } else if Alphabet::Petscii.is_text(bytes) {
+        (Alphabet::Petscii, "text in PETSCII: ")
+    } else {
+        (Alphabet::Ascii, "")
+    }
+}
+
+/// Adds the bytes of a range of this type as characters: the first 32 of them, and two dots if there are more.
+fn put_bytes(out: &mut Vec<u8>, role: RangeType, bytes: &[u8]) -> Result<(), AllocError> {
+    let (alphabet, title) = alphabet_of(role, bytes);
+    out.extend_from_slice(title.as_bytes())?;
+    for &byte in bytes.iter().take(SHOWN) {
+        out.push(shown(alphabet.in_ascii(byte)))?;
+    }
+    if SHOWN < bytes.len() {
+        out.extend_from_slice(b" ..")?;
+    }
+    Ok(())
+}
+
+/// Adds the lines of the ranges.
+pub fn put_ranges(
+    out: &mut Vec<u8>,
+    advice: &Advice<'_, '_, '_>,
+    ranges: &[RangeSpec],
+) -> Result<(), AllocError> {
+    for range in ranges {
+        let (first, last) = (usize::from(range.first), usize::from(range.last));
+        put_address(out, b"RANGE { START $", first)?;
+        put_address(out, b"; END $", last)?;
+        out.extend_from_slice(b"; TYPE ")?;
+        out.extend_from_slice(type_text(range.role).as_bytes())?;
+        out.extend_from_slice(b"; }; # ")?;
+        put_bytes(out, range.role, advice.bytes(first, last.saturating_add(1)))?;
+        out.extend_from_slice(b"\n")?;
+    }
+    Ok(())
+}
