@@ -1,6 +1,5 @@
 ; A row of jumps right after the end of a routine, for others to call: each is a piece by itself, and they are too short today.
-; expect: code 13 of 30, constants as code 0 of 0, halves 0 right 0 wrong, rows 0 right 0 wrong, follows 2 of 10, wrong 0, runs 3 of 3
-; should be: code 30 of 30, follows 10 of 10
+; expect: code 30 of 30, constants as code 0 of 0, halves 0 right 0 wrong, rows 0 right 0 wrong, follows 10 of 10, wrong 0, runs 5 of 5
         .code
         jsr     first
         lda     $80

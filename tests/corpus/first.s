@@ -1,5 +1,6 @@
 ; Halves of the first address of the image: a program that starts itself again.
 ; expect: code 24 of 24, constants as code 0 of 1, halves 1 right 0 wrong, rows 0 right 0 wrong, follows 6 of 6, wrong 0, runs 3 of 3
+; start: $1003
         .code
 start:  inc     count
         lda     count

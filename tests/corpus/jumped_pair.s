@@ -1,6 +1,5 @@
 ; Two loads that are no address: the second is jumped to, with another number in the first register.
-; expect: code 29 of 29, constants as code 0 of 0, halves 0 right 1 wrong, rows 0 right 0 wrong, follows 6 of 6, wrong 2, runs 0 of 5
-; should be: halves 0 right 0 wrong, wrong 0
+; expect: code 29 of 29, constants as code 0 of 0, halves 0 right 0 wrong, rows 0 right 0 wrong, follows 6 of 6, wrong 0, runs 5 of 5
         .code
         jmp     begin
 both:   ldx     #$10

@@ -1,6 +1,5 @@
 ; Registers of the machine that lie right after the image are taken for its variables today.
-; expect: code 12 of 12, constants as code 0 of 116, halves 0 right 0 wrong, rows 0 right 0 wrong, follows 0 of 0, wrong 6
-; should be: wrong 0
+; expect: code 12 of 12, constants as code 0 of 116, halves 0 right 0 wrong, rows 0 right 0 wrong, follows 0 of 0, wrong 0
 ; start: $CF80
         .code
         lda     #$00

@@ -1,6 +1,5 @@
 ; The 65C02: a jump through a table of addresses, of which one routine branches to the other: no row is proposed today.
-; expect: code 16 of 16, constants as code 0 of 7, halves 0 right 0 wrong, rows 0 right 0 wrong, follows 2 of 6, wrong 0, runs 2 of 3
-; should be: rows 1 right 0 wrong, follows 6 of 6
+; expect: code 16 of 16, constants as code 0 of 7, halves 0 right 0 wrong, rows 1 right 0 wrong, follows 6 of 6, wrong 0, runs 4 of 4
         .setcpu "65C02"
         .code
         ldx     #$02

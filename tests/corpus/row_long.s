@@ -1,5 +1,5 @@
 ; A number right after a table, which happens to be the address of a routine, is taken for a word of it: nothing tells it apart.
-; expect: code 40 of 40, constants as code 0 of 7, halves 0 right 0 wrong, rows 0 right 1 wrong, follows 12 of 12, wrong 2, runs 2 of 6
+; expect: code 40 of 40, constants as code 0 of 7, halves 0 right 0 wrong, rows 1 right 0 wrong, follows 12 of 12, wrong 0, runs 6 of 6
         .code
         ldx     #$02
 next:   lda     table,x

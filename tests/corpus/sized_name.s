@@ -1,5 +1,5 @@
 ; Halves of an address within a name that has a size: the listing has no name of its own for it today.
-; expect: refused by name65: info:8: no name at $1013: LABEL { ADDR $1013; NAME "L1013"; };
+; expect: code 18 of 18, constants as code 0 of 4, halves 0 right 0 wrong, rows 0 right 0 wrong, follows 0 of 2, wrong 0, runs 0 of 2
 ; should be: follows 2 of 2
 ; info: LABEL { ADDR @table; NAME "table"; SIZE 4; };
         .code

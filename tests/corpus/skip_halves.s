@@ -1,6 +1,5 @@
 ; Half of an address in an instruction that the byte $2C hides: the listing has no number there to name.
-; expect: refused by name65: info:8: no number stands alone for what is at $1010
-; should be: wrong 0
+; expect: code 65 of 65, constants as code 0 of 8, halves 0 right 0 wrong, rows 0 right 0 wrong, follows 6 of 9, wrong 0, runs 0 of 6
         .code
         ldx     #$FF
         txs

@@ -1,6 +1,5 @@
 ; Two loads that are no address: the high half of one, and an index that begins at 0.
-; expect: code 55 of 55, constants as code 0 of 6, halves 0 right 1 wrong, rows 0 right 0 wrong, follows 3 of 4, wrong 1, runs 2 of 5
-; should be: wrong 0
+; expect: code 55 of 55, constants as code 0 of 6, halves 0 right 0 wrong, rows 0 right 0 wrong, follows 2 of 4, wrong 0, runs 0 of 5
         .code
         ldx     #$FF
         txs

@@ -1,6 +1,5 @@
 ; A jump into the zero page, where another program has left a routine: what leads to it is not found today.
-; expect: code 30 of 37, constants as code 0 of 2, halves 2 right 0 wrong, rows 0 right 0 wrong, follows 4 of 4, wrong 0, runs 3 of 3
-; should be: code 37 of 37
+; expect: code 37 of 37, constants as code 0 of 2, halves 2 right 0 wrong, rows 0 right 0 wrong, follows 4 of 4, wrong 0, runs 4 of 4
         .code
         lda     #$4C
         sta     $90

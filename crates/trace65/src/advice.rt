@@ -7,10 +7,14 @@ use reach65::rules::bytes::ends;
 use reach65::rules::entries::entries_of;
 use reach65::rules::ground::Ground;
 use reach65::rules::growth::follow;
-use reach65::rules::halves::{Pair, halves_of};
+use reach65::rules::halves::{Halves, Pair, halves_of};
 use reach65::rules::labels::labels_of;
+use reach65::rules::loads::mark_loaded;
+use reach65::rules::orphans::mark_orphans;
+use reach65::rules::readers::tables_of;
 use reach65::rules::rows::mark_rows;
 use reach65::rules::survey::Survey;
+use reach65::rules::tables::{Split, mark_tables};
 use reach65::rules::variables::variables_of;
 use reach65::rules::vectors::mark_vectors;
 use std::alloc::{AllocError, Global};
@@ -38,6 +42,10 @@ pub struct Advice<'a, 'f, 'm> {
     pub ground: Ground<'a>,
     /// The addresses in halves.
     pub pairs: Vec<Pair>,
+    /// Those that may be one.
+    pub likely: Vec<Pair>,
+    /// The tables of halves.
+    pub splits: Vec<Split>,
     /// The variables right after the image.
     pub variables: Vec<u16>,
     /// The addresses that get labels.
@@ -100,18 +108,42 @@ impl<'a, 'f, 'm: 'a> Advice<'a, 'f, 'm> {
         } = reach;
         let image = flow.map().image();
         let survey = Survey::of(alloc, flow, reached, code)?;
-        let mut ground = Ground::of(alloc, image, taken, survey.texts.copy(alloc)?)?;
+        let said = said_places(alloc, flow.tags())?;
+        let mut ground = Ground::of(
+            alloc,
+            image,
+            taken,
+            said.copy(alloc)?,
+            survey.texts.copy(alloc)?,
+        )?;
         mark_vectors(&mut ground.words, image, reached, taken);
+        let tables = tables_of(alloc, flow, reached)?;
+        let splits = mark_tables(alloc, &mut ground, &survey, &tables)?;
         mark_rows(&mut ground, &survey);
-        let pairs = halves_of(alloc, flow, &survey, said_places(alloc, flow.tags())?)?;
-        let variables = variables_of(alloc, image, &survey.operands)?;
-        let labels = labels_of(alloc, flow.map().info(), &pairs, &variables)?;
+        let Halves {
+            sure: pairs,
+            likely,
+        } = halves_of(alloc, flow, &survey, said)?;
+        mark_loaded(&mut ground, flow, &survey);
+        mark_orphans(alloc, &mut ground, &survey, &pairs)?;
+        let variables = variables_of(alloc, flow.map(), &survey)?;
+        let mut others = Vec::from_slice(alloc, &variables)?;
+        for split in &splits {
+            for index in 0..split.count {
+                if let Some(address) = split.table.entry(image, index) {
+                    others.push(address)?;
+                }
+            }
+        }
+        let labels = labels_of(alloc, flow.map().info(), &pairs, &others)?;
         Ok(Advice {
             flow,
             taken,
             survey,
             ground,
             pairs,
+            likely,
+            splits,
             variables,
             labels,
         })

@@ -7,6 +7,7 @@ pub mod misplaced;
 pub mod moves;
 pub mod picture;
 pub mod ranges;
+pub mod tables;
 
 use crate::advice::Advice;
 use info65::RangeSpec;
@@ -26,7 +27,10 @@ pub fn put_text(
     ranges::put_ranges(out, advice, ranges)?;
     labels::put_labels(out, &advice.labels)?;
     moves::put_pairs(out, advice)?;
+    moves::put_splits(out, advice)?;
     moves::put_after(out, advice)?;
+    moves::put_likely(out, advice)?;
+    tables::put_pointers(out, advice)?;
     likely::put_words(out, advice)?;
     calls::put_calls(out, alloc, advice)
 }

@@ -16,14 +16,17 @@ pub struct Ground<'i> {
     pub returns: Marks,
     /// A text begins there that is known: it ends with a zero byte.
     pub texts: Marks,
+    /// It is one half of an address in a table of halves.
+    pub numbers: Marks,
 }
 
 impl<'i> Ground<'i> {
-    /// Returns an image without words, in which these texts are known to begin. Fails only if an allocation failed.
+    /// Returns an image without words, of which these bytes are halves of addresses, and texts are known to begin here. Fails only if an allocation failed.
     pub fn of(
         alloc: Global,
         image: &'i Image,
         taken: &'i Marks,
+        numbers: Marks,
         texts: Marks,
     ) -> Result<Ground<'i>, AllocError> {
         Ok(Ground {
@@ -32,6 +35,7 @@ impl<'i> Ground<'i> {
             words: Marks::none(alloc)?,
             returns: Marks::none(alloc)?,
             texts,
+            numbers,
         })
     }
 
@@ -40,9 +44,12 @@ impl<'i> Ground<'i> {
         is_inside(self.image, at) && !self.taken.get_at(at)
     }
 
-    /// Returns whether it is such an address, of no word.
+    /// Returns whether it is such an address, of no word and no half.
     pub fn is_plain(&self, at: usize) -> bool {
-        self.is_free(at) && !self.words.get_at(at) && !self.returns.get_at(at)
+        self.is_free(at)
+            && !self.words.get_at(at)
+            && !self.returns.get_at(at)
+            && !self.numbers.get_at(at)
     }
 
     /// Returns the word at the address, low byte first, if both bytes are plain.

@@ -3,7 +3,8 @@
 use crate::flow::Flow;
 use crate::rules::entries::pointers_of;
 use crate::rules::halves::{Pair, is_load, put_pairs_at};
-use crate::rules::search::Search;
+use crate::rules::readers::tables_of;
+use crate::rules::search::{Least, Search};
 use crate::rules::sound::has_code;
 use crate::rules::step::step_at;
 use crate::rules::words::Words;
@@ -19,21 +20,32 @@ const LEAST: usize = 4;
 /// How often the image is searched for rows of words. Most images have none that leads on after the first time.
 const SCANS: usize = 8;
 
+/// How many short pieces of code may stand one behind the other.
+const PIECES: usize = 8;
+
+/// An address that may begin code, and whether it is one right behind what is known.
+#[derive(Clone, Copy, PartialEq, Eq, PartialOrd, Ord)]
+struct Candidate {
+    address: u16,
+    behind: bool,
+}
+
 /// Adds an address that may begin code, unless a reached instruction has it: it would share a byte with that.
 fn put_candidate(
-    found: &mut Vec<u16>,
+    found: &mut Vec<Candidate>,
     search: &Search<'_, '_, '_>,
     address: u16,
+    behind: bool,
 ) -> Result<(), AllocError> {
     if !has_code(search.flow, &search.marks, address) && !search.marks.get(address) {
-        found.push(address)?;
+        found.push(Candidate { address, behind })?;
     }
     Ok(())
 }
 
 /// Adds the addresses that a reached instruction gives: the one behind it and its text, and those that it begins to load in halves.
 fn put_candidates_of(
-    found: &mut Vec<u16>,
+    found: &mut Vec<Candidate>,
     pairs: &mut Vec<Pair>,
     search: &Search<'_, '_, '_>,
     reason: u16,
@@ -45,34 +57,112 @@ fn put_candidates_of(
         pairs.clear();
         put_pairs_at(pairs, search.flow, &search.marks, reason)?;
         for pair in pairs.as_slice() {
-            put_candidate(found, search, pair.address)?;
+            put_candidate(found, search, pair.address, false)?;
         }
     }
     if let Some(end) = step.end
         && let Ok(address) = u16::try_from(end)
     {
-        put_candidate(found, search, address)?;
+        put_candidate(found, search, address, true)?;
     }
     Ok(())
 }
 
-/// Lets the sound beginnings join that these reached instructions give, in the order of their addresses. Returns what is reached from them.
+/// Where the piece of code ends that begins at the address: after the first instruction behind which code does not go on.
+fn piece_end(search: &Search<'_, '_, '_>, address: u16) -> Option<u16> {
+    let mut at = address;
+    for _ in 0..ADDRESSES {
+        let step = step_at(search.flow, at)?;
+        let end = u16::try_from(step.end?).ok()?;
+        if step.next.is_none() || has_code(search.flow, &search.marks, end) {
+            return Some(end);
+        }
+        at = end;
+    }
+    None
+}
+
+/// The beginnings of short pieces of code from the address on, one behind the other, each up to where code does not go on, if the last is
+/// a sound beginning by itself, or goes up to reached code.
+fn chain_of(
+    alloc: Global,
+    search: &mut Search<'_, '_, '_>,
+    from: u16,
+) -> Result<Vec<u16>, AllocError> {
+    let mut pieces = Vec::new(alloc);
+    let mut at = from;
+    for _ in 0..PIECES {
+        if search.marks.get(at) {
+            return Ok(if 3 <= at.saturating_sub(from) {
+                pieces
+            } else {
+                Vec::new(alloc)
+            });
+        }
+        if has_code(search.flow, &search.marks, at) || !search.would_join(at, Least::Count(1))? {
+            break;
+        }
+        pieces.push(at)?;
+        if search.would_join(at, Least::Behind(LEAST))? {
+            return Ok(pieces);
+        }
+        match piece_end(search, at) {
+            Some(end) => at = end,
+            None => break,
+        }
+    }
+    pieces.clear();
+    Ok(pieces)
+}
+
+/// Lets a candidate join, if it is a sound beginning, or one of short pieces. Adds what is reached from it to `fresh`.
+fn join_candidate(
+    alloc: Global,
+    search: &mut Search<'_, '_, '_>,
+    fresh: &mut Vec<u16>,
+    candidate: Candidate,
+) -> Result<(), AllocError> {
+    if search.marks.get(candidate.address) || search.is_tired() {
+        return Ok(());
+    }
+    let least = if candidate.behind {
+        Least::Behind(LEAST)
+    } else {
+        Least::Count(LEAST)
+    };
+    if search.join(candidate.address, least)? {
+        return fresh.extend_from_slice(search.added.as_slice());
+    }
+    if candidate.behind {
+        for &piece in &chain_of(alloc, search, candidate.address)? {
+            if !search.marks.get(piece) && search.join(piece, Least::Count(1))? {
+                fresh.extend_from_slice(search.added.as_slice())?;
+            }
+        }
+    }
+    Ok(())
+}
+
+/// Lets the sound beginnings join that these reached instructions give, and those right behind rows, in the order of their addresses. Returns
+/// what is reached from them.
 fn join_candidates(
     alloc: Global,
     search: &mut Search<'_, '_, '_>,
     reasons: &[u16],
+    behind: &[u16],
 ) -> Result<Vec<u16>, AllocError> {
     let mut candidates = Vec::new(alloc);
     let mut pairs = Vec::new(alloc);
     for &reason in reasons {
         put_candidates_of(&mut candidates, &mut pairs, search, reason)?;
     }
+    for &address in behind {
+        put_candidate(&mut candidates, search, address, true)?;
+    }
     candidates.sort()?;
     let mut fresh = Vec::new(alloc);
-    for &address in &candidates {
-        if !search.marks.get(address) && search.join(address, LEAST)? {
-            fresh.extend_from_slice(search.added.as_slice())?;
-        }
+    for &candidate in &candidates {
+        join_candidate(alloc, search, &mut fresh, candidate)?;
     }
     Ok(fresh)
 }
@@ -85,9 +175,46 @@ fn grow(alloc: Global, search: &mut Search<'_, '_, '_>, fresh: Vec<u16>) -> Resu
         if fresh.is_empty() {
             return Ok(());
         }
-        fresh = join_candidates(alloc, search, &fresh)?;
+        fresh = join_candidates(alloc, search, &fresh, &[])?;
     }
     Ok(())
+}
+
+/// Lets the sound beginnings join to which the entries of tables lead that reached code reads, up to one that leads to no code. Returns what is
+/// reached from them.
+fn join_tables(alloc: Global, search: &mut Search<'_, '_, '_>) -> Result<Vec<u16>, AllocError> {
+    let mut fresh = Vec::new(alloc);
+    let image = search.flow.map().image();
+    for &table in &tables_of(alloc, search.flow, &search.marks)? {
+        if !table.is_code {
+            continue;
+        }
+        for index in 0..table.most() {
+            let (low, high) = table.places(index);
+            let Some(to) = table.entry(image, index) else {
+                break;
+            };
+            if is_code_at(search, low) || is_code_at(search, high) {
+                break;
+            }
+            if search.marks.get(to) {
+                continue;
+            }
+            if !search.join(to, Least::Count(IN_TABLE))? {
+                break;
+            }
+            fresh.extend_from_slice(search.added.as_slice())?;
+        }
+    }
+    Ok(fresh)
+}
+
+/// Whether a reached instruction has the address.
+fn is_code_at(search: &Search<'_, '_, '_>, at: usize) -> bool {
+    match u16::try_from(at) {
+        Ok(address) => has_code(search.flow, &search.marks, address),
+        Err(_) => true,
+    }
 }
 
 /// Returns the entries, and then those that join: the sound beginnings among what the tables of the information file refer to, those
@@ -97,14 +224,25 @@ pub fn follow(alloc: Global, flow: &Flow<'_, '_>, entries: &[u16]) -> Result<Vec
     let mut search = Search::from(alloc, flow, entries)?;
     let mut fresh = Vec::from_slice(alloc, search.added.as_slice())?;
     for &address in &pointers_of(alloc, flow.map())? {
-        if search.join(address, IN_TABLE)? {
+        if search.join(address, Least::Count(1))? {
+            fresh.extend_from_slice(search.added.as_slice())?;
+        }
+    }
+    let info = flow.map().info();
+    for k in 0..info.given_count() {
+        let address = info.given(k).address;
+        if search.join(address, Least::Count(LEAST))? {
             fresh.extend_from_slice(search.added.as_slice())?;
         }
     }
     grow(alloc, &mut search, fresh)?;
     let words = Words::of(alloc, flow, &search.marks)?;
     for _scan in 0..SCANS {
-        let fresh = words.join_rows(alloc, &mut search)?;
+        let mut fresh = join_tables(alloc, &mut search)?;
+        fresh.extend_from_slice(&words.join_rows(alloc, &mut search)?)?;
+        let behind = words.behind_rows(alloc, &search)?;
+        let more = join_candidates(alloc, &mut search, &[], &behind)?;
+        fresh.extend_from_slice(&more)?;
         if fresh.is_empty() {
             break;
         }

@@ -2,11 +2,15 @@
 
 use crate::flow::Flow;
 use crate::rules::bytes::{byte, ends};
+use crate::rules::sound::is_overlapped;
 use crate::rules::step::{Step, step_at};
 use crate::rules::survey::Survey;
 use isa65::{Mnemonic, Mode, Op};
 use map65::{Image, Marks};
 use std::alloc::{AllocError, Global};
+
+/// How many instructions may stand between two stores through a pointer.
+const BETWEEN: usize = 8;
 
 /// Two immediates that form an address.
 #[derive(Clone, Copy, Debug, PartialEq, Eq)]
@@ -173,39 +177,159 @@ pub fn put_pairs_at(
     Ok(())
 }
 
+/// Adds the pair that is stored through a pointer, of which the first load is at the address: `lda #`, `sta (p),y`, and the same again after one
+/// `iny` or `dey`, with other instructions between them.
+fn put_by_pointer(
+    found: &mut Vec<Pair>,
+    flow: &Flow<'_, '_>,
+    marks: &Marks,
+    address: u16,
+) -> Result<(), AllocError> {
+    let image = flow.map().image();
+    let at = usize::from(address);
+    if load_at(flow, marks, at) != Some(Register::A) {
+        return Ok(());
+    }
+    let Some(pointer) = stored_through(flow, marks, at + 2) else {
+        return Ok(());
+    };
+    let mut then = at + 4;
+    let mut up = 0u8;
+    let mut down = 0u8;
+    for _ in 0..BETWEEN {
+        let Some(step) = marked_at(flow, marks, then) else {
+            return Ok(());
+        };
+        match step.op.mnemonic {
+            Mnemonic::Iny => up = up.saturating_add(1),
+            Mnemonic::Dey => down = down.saturating_add(1),
+            _ => {}
+        }
+        if load_at(flow, marks, then) == Some(Register::A) {
+            if stored_through(flow, marks, then.saturating_add(2)) == Some(pointer) {
+                if up == down.saturating_add(1) {
+                    put_joined(
+                        found,
+                        image,
+                        7,
+                        at.saturating_add(1),
+                        then.saturating_add(1),
+                    )?;
+                } else if down == up.saturating_add(1) {
+                    put_joined(
+                        found,
+                        image,
+                        7,
+                        then.saturating_add(1),
+                        at.saturating_add(1),
+                    )?;
+                }
+            }
+            return Ok(());
+        }
+        if step.goal.is_some() || step.next.is_none() {
+            return Ok(());
+        }
+        then = then.saturating_add(step.len());
+    }
+    Ok(())
+}
+
+/// The pointer in the zero page through which the marked instruction of the address stores A.
+fn stored_through(flow: &Flow<'_, '_>, marks: &Marks, at: usize) -> Option<u8> {
+    let step = marked_at(flow, marks, at)?;
+    if step.op.mnemonic == Mnemonic::Sta && step.op.mode == Mode::Indy {
+        byte(flow.map().image(), at.saturating_add(1))
+    } else {
+        None
+    }
+}
+
+/// Whether code from elsewhere enters between the two loads, or an instruction between them shares a byte with another one.
+fn is_broken(flow: &Flow<'_, '_>, survey: &Survey<'_>, pair: Pair) -> bool {
+    let first = pair.low.min(pair.high).saturating_sub(1);
+    let second = pair.low.max(pair.high).saturating_sub(1);
+    for at in first..second.saturating_add(1) {
+        let inside = at != first && survey.goals.get(at);
+        if survey.reached.get(at) && (inside || is_overlapped(flow, survey.reached, at)) {
+            return true;
+        }
+    }
+    false
+}
+
+/// Whether a pair is sure to be meant as an address: no name with a SIZE covers it from before, its low half is not zero, its high half is not in A
+/// if the low one is in X or Y, and nothing breaks it.
+fn is_sure(flow: &Flow<'_, '_>, survey: &Survey<'_>, pair: Pair) -> bool {
+    let named = match flow.map().info().covering(pair.address) {
+        Some(name) => name.address == pair.address,
+        None => true,
+    };
+    named
+        && pair.address % 256 != 0
+        && pair.rank != 4
+        && pair.rank != 5
+        && !(pair.rank == 6 && pair.low < pair.high)
+        && !is_broken(flow, survey, pair)
+}
+
+/// The pairs that are an address, and those that may be one.
+#[derive(Drop)]
+pub struct Halves {
+    pub sure: Vec<Pair>,
+    pub likely: Vec<Pair>,
+}
+
+/// The pairs of immediates in reached code.
+fn pairs_of(alloc: Global, flow: &Flow<'_, '_>, reached: &Marks) -> Result<Vec<Pair>, AllocError> {
+    let mut pairs = Vec::new(alloc);
+    let (start, end) = ends(flow.map().image());
+    for at in start..end {
+        if let Ok(address) = u16::try_from(at)
+            && reached.get(address)
+        {
+            put_pairs_at(&mut pairs, flow, reached, address)?;
+            put_by_pointer(&mut pairs, flow, reached, address)?;
+        }
+    }
+    Ok(pairs)
+}
+
 /// Returns each pair of immediates in reached code that is an address, by the places of their low bytes: no reached instruction has that
-/// address, or a routine begins there; each byte is in one pair, of two the likelier; and none is at a place that `said` has. Fails only
-/// if an allocation failed.
+/// address, or a routine begins there; each byte is in one pair, of two the likelier; and none is at a place that `said` has. A pair that is not
+/// sure is only likely. Fails only if an allocation failed.
 pub fn halves_of(
     alloc: Global,
     flow: &Flow<'_, '_>,
     survey: &Survey<'_>,
     said: Marks,
-) -> Result<Vec<Pair>, AllocError> {
-    let mut pairs = Vec::new(alloc);
-    let (start, end) = ends(flow.map().image());
-    for at in start..end {
-        if let Ok(address) = u16::try_from(at)
-            && survey.reached.get(address)
-        {
-            put_pairs_at(&mut pairs, flow, survey.reached, address)?;
-        }
-    }
+) -> Result<Halves, AllocError> {
+    let pairs = pairs_of(alloc, flow, survey.reached)?;
     let mut used = said;
-    let mut kept = Vec::new(alloc);
-    for rank in 0..7u8 {
-        for &pair in pairs.as_slice() {
-            if pair.rank == rank
-                && survey.is_likely(pair.address)
-                && !used.get(pair.low)
-                && !used.get(pair.high)
-            {
+    let mut sure = Vec::new(alloc);
+    let mut likely = Vec::new(alloc);
+    for is_last in [false, true] {
+        for rank in 0..8u8 {
+            for &pair in pairs.as_slice() {
+                if pair.rank != rank
+                    || used.get(pair.low)
+                    || used.get(pair.high)
+                    || !survey.is_likely(pair.address)
+                    || is_sure(flow, survey, pair) == is_last
+                {
+                    continue;
+                }
                 used.set(pair.low);
                 used.set(pair.high);
-                kept.push(pair)?;
+                if is_last {
+                    likely.push(pair)?;
+                } else {
+                    sure.push(pair)?;
+                }
             }
         }
     }
-    kept.sort_by_key(|pair| pair.low)?;
-    Ok(kept)
+    sure.sort_by_key(|pair| pair.low)?;
+    likely.sort_by_key(|pair| pair.low)?;
+    Ok(Halves { sure, likely })
 }

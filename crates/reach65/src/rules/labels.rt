@@ -4,15 +4,15 @@ use crate::rules::halves::Pair;
 use info65::Info;
 use std::alloc::{AllocError, Global};
 
-/// Returns the addresses that get labels, in order: those of the pairs, and the variables, but for those that a name of the information
+/// Returns the addresses that get labels, in order: those of the pairs, and the others, but for those that a name of the information
 /// file covers. Fails only if an allocation failed.
 pub fn labels_of(
     alloc: Global,
     info: &Info,
     pairs: &[Pair],
-    variables: &[u16],
+    others: &[u16],
 ) -> Result<Vec<u16>, AllocError> {
-    let mut wanted = Vec::from_slice(alloc, variables)?;
+    let mut wanted = Vec::from_slice(alloc, others)?;
     for pair in pairs {
         wanted.push(pair.address)?;
     }

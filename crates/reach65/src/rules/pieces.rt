@@ -46,8 +46,12 @@ fn with(after: Chars, alphabet: Alphabet, byte: u8) -> Chars {
 }
 
 /// How many characters they have, if they are a text, else 0.
-fn text_len(chars: Chars) -> u32 {
-    if chars.are_text() { chars.count } else { 0 }
+fn text_len(chars: Chars, alphabet: Alphabet) -> u32 {
+    if chars.are_text(alphabet) {
+        chars.count
+    } else {
+        0
+    }
 }
 
 impl Tails {
@@ -69,8 +73,12 @@ impl Tails {
 
     /// The longest text of them, if there is one.
     fn longest(self) -> Begins {
-        let one = text_len(self.ascii).max(text_len(self.high));
-        match one.max(text_len(self.petscii)) {
+        let ascii = text_len(self.ascii, Alphabet::Ascii);
+        let high = text_len(self.high, Alphabet::High);
+        match ascii
+            .max(high)
+            .max(text_len(self.petscii, Alphabet::Petscii))
+        {
             0 => Begins::Nothing,
             count => Begins::Text(count),
         }
@@ -185,6 +193,10 @@ impl<'g, 'i> Pieces<'g, 'i> {
         if ground.returns.get(first) {
             let end = self.end_of(at, |a| ground.is_free(a) && ground.returns.get_at(a));
             return (RangeType::RtsTable, end);
+        }
+        if ground.numbers.get(first) {
+            let end = self.end_of(at, |a| ground.is_free(a) && ground.numbers.get_at(a));
+            return (RangeType::ByteTable, end);
         }
         match self.begins_at(at) {
             Begins::Filler => {

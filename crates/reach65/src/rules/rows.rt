@@ -3,6 +3,7 @@
 use crate::rules::bytes::ends;
 use crate::rules::ground::Ground;
 use crate::rules::survey::Survey;
+use crate::rules::words::ROW;
 
 /// How far a row reaches, which has two different words at least: each word, and this much more, is the address of a routine.
 fn row_end(
@@ -25,7 +26,7 @@ fn row_end(
             _ => break,
         }
     }
-    if from.saturating_add(4) <= at {
+    if from.saturating_add(2 * ROW) <= at {
         at
     } else {
         from

@@ -2,7 +2,7 @@
 
 use crate::flow::{Flow, is_last};
 use crate::rules::step::{Step, step_at};
-use isa65::{Mnemonic, OperandKind, Row};
+use isa65::{Mnemonic, Mode, OperandKind, Row};
 use map65::Marks;
 
 /// Whether an instruction begins at the address, if there is one.
@@ -21,28 +21,38 @@ fn is_branch(step: Step) -> bool {
     }
 }
 
-/// Whether the instruction leads to another one by its operand, or a jump leaves the image, but not for the zero page.
-fn leads_well(flow: &Flow<'_, '_>, step: Step) -> bool {
+/// Whether code may stand at an address below $0100 outside the image: it has a name, or the image stores to it.
+fn is_filled(flow: &Flow<'_, '_>, stored: &Marks, to: u16) -> bool {
+    stored.get(to) || flow.map().info().covering(to).is_some()
+}
+
+/// Whether the instruction leads to another one by its operand, or a jump leaves the image. One to $0000 is filled in at run time, and the
+/// zero page has code only where it is filled.
+fn leads_well(flow: &Flow<'_, '_>, stored: &Marks, step: Step) -> bool {
     let Some(to) = step.to else {
         return !is_branch(step);
     };
-    match step.goal {
-        Some(goal) => begins(flow, Some(goal)),
-        None => !is_branch(step) && 0x100 <= to,
+    if step.goal.is_some() {
+        return begins(flow, step.goal);
     }
+    !is_branch(step)
+        && (0x100 <= to
+            || (to == 0 && step.op.mnemonic == Mnemonic::Jmp)
+            || is_filled(flow, stored, to))
 }
 
-/// Returns whether the instruction is no `brk`, and instructions begin where it leads.
-pub fn is_fine(flow: &Flow<'_, '_>, step: Step) -> bool {
+/// Returns whether the instruction is no `brk`, and instructions begin where it leads. `stored` has the addresses of the zero page that the
+/// image stores to.
+pub fn is_fine(flow: &Flow<'_, '_>, stored: &Marks, step: Step) -> bool {
     step.op.mnemonic != Mnemonic::Brk
         && (is_last(step.op.mnemonic) || begins(flow, step.next))
-        && leads_well(flow, step)
+        && leads_well(flow, stored, step)
 }
 
-/// The length of the instruction that begins at the address, and 0 if none does.
-fn len_at(flow: &Flow<'_, '_>, address: u16) -> u16 {
+/// Returns the length of the instruction that begins at the address, and 0 if none does.
+pub fn len_at(flow: &Flow<'_, '_>, address: u16) -> usize {
     match flow.instruction_at(address) {
-        Some(op) => u16::from(op.mode.len()),
+        Some(op) => usize::from(op.mode.len()),
         None => 0,
     }
 }
@@ -50,24 +60,50 @@ fn len_at(flow: &Flow<'_, '_>, address: u16) -> u16 {
 /// Whether the marked instruction this many bytes before the address has the address.
 fn reaches(flow: &Flow<'_, '_>, marks: &Marks, address: u16, distance: u16) -> bool {
     match address.checked_sub(distance) {
-        Some(at) => marks.get(at) && distance < len_at(flow, at),
+        Some(at) => marks.get(at) && usize::from(distance) < len_at(flow, at),
         None => false,
     }
 }
 
 /// Returns whether a marked instruction has the address. An instruction has at most three bytes.
 pub fn has_code(flow: &Flow<'_, '_>, marks: &Marks, address: u16) -> bool {
-    reaches(flow, marks, address, 0)
-        || reaches(flow, marks, address, 1)
-        || reaches(flow, marks, address, 2)
+    reaches(flow, marks, address, 0) || is_overlapped(flow, marks, address)
 }
 
-/// Returns whether the instruction of the address shares no byte with another one that is marked.
+/// Returns whether a marked instruction before the address has it.
+pub fn is_overlapped(flow: &Flow<'_, '_>, marks: &Marks, address: u16) -> bool {
+    reaches(flow, marks, address, 1) || reaches(flow, marks, address, 2)
+}
+
+/// Whether the operand of a `bit` at the first address is an instruction at the second one, which ends where the `bit` ends: `.byte $2C` skips
+/// that instruction.
+fn hides(flow: &Flow<'_, '_>, outer: u16, inner: u16) -> bool {
+    match flow.instruction_at(outer) {
+        Some(op) => {
+            op.mnemonic == Mnemonic::Bit
+                && (op.mode == Mode::Abs || op.mode == Mode::Zp)
+                && len_at(flow, inner).saturating_add(1) == usize::from(op.mode.len())
+        }
+        None => false,
+    }
+}
+
+/// Returns whether the instruction of the address shares no byte with another one that is marked, but for one in the operand of a `bit`.
 pub fn is_apart(flow: &Flow<'_, '_>, marks: &Marks, address: u16) -> bool {
-    let at = usize::from(address);
     let len = len_at(flow, address);
-    !(1 < len && marks.get_at(at + 1))
-        && !(2 < len && marks.get_at(at + 2))
-        && !reaches(flow, marks, address, 1)
-        && !reaches(flow, marks, address, 2)
+    let at = usize::from(address);
+    if 2 < len && marks.get_at(at + 2) || reaches(flow, marks, address, 2) {
+        return false;
+    }
+    if let Some(inner) = address.checked_add(1)
+        && 1 < len
+        && marks.get(inner)
+        && !hides(flow, address, inner)
+    {
+        return false;
+    }
+    match address.checked_sub(1) {
+        Some(outer) => !reaches(flow, marks, address, 1) || hides(flow, outer, address),
+        None => true,
+    }
 }

@@ -16,12 +16,35 @@ pub struct Survey<'r> {
     pub code: &'r Marks,
     /// One goes on to it: it leads there as the next one, or branches there.
     pub gone_on: Marks,
+    /// One goes to it by its operand.
+    pub goals: Marks,
     /// One calls it.
     pub called: Marks,
-    /// One has it as its absolute operand.
+    /// One has it as its absolute operand, and does not go there.
     pub operands: Marks,
+    /// One stores to it, or changes it.
+    pub written: Marks,
     /// A text behind a call begins there that ends with a zero byte.
     pub texts: Marks,
+}
+
+/// Whether an instruction stores to its operand, or changes it.
+fn writes(mnemonic: Mnemonic) -> bool {
+    matches!(
+        mnemonic,
+        Mnemonic::Sta
+            | Mnemonic::Stx
+            | Mnemonic::Sty
+            | Mnemonic::Stz
+            | Mnemonic::Inc
+            | Mnemonic::Dec
+            | Mnemonic::Asl
+            | Mnemonic::Lsr
+            | Mnemonic::Rol
+            | Mnemonic::Ror
+            | Mnemonic::Trb
+            | Mnemonic::Tsb
+    )
 }
 
 /// Marks the address, if there is one.
@@ -43,8 +66,10 @@ impl<'r> Survey<'r> {
             reached,
             code,
             gone_on: Marks::none(alloc)?,
+            goals: Marks::none(alloc)?,
             called: Marks::none(alloc)?,
             operands: Marks::none(alloc)?,
+            written: Marks::none(alloc)?,
             texts: Marks::none(alloc)?,
         };
         let (start, end) = ends(flow.map().image());
@@ -62,13 +87,19 @@ impl<'r> Survey<'r> {
     /// Marks what the instruction does.
     fn put(&mut self, step: Step) {
         set_some(&mut self.gone_on, step.next);
+        set_some(&mut self.goals, step.goal);
         if step.op.mnemonic == Mnemonic::Jsr {
             set_some(&mut self.called, step.goal);
         }
         if !is_jump(step.op.mnemonic) {
             set_some(&mut self.gone_on, step.goal);
         }
-        set_some(&mut self.operands, step.operand);
+        if step.to.is_none() {
+            set_some(&mut self.operands, step.operand);
+        }
+        if writes(step.op.mnemonic) {
+            set_some(&mut self.written, step.operand);
+        }
         set_some(&mut self.texts, step.text);
     }
 

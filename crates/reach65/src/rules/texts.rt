@@ -1,5 +1,8 @@
 //! Which bytes are a text, in three alphabets.
 
+use crate::rules::bytes::{byte, ends};
+use map65::Image;
+
 /// What bytes stand for as characters.
 #[derive(Clone, Copy, Debug, PartialEq, Eq)]
 pub enum Alphabet {
@@ -10,6 +13,9 @@ pub enum Alphabet {
     /// PETSCII of the Commodore machines, with capitals from $C1 to $DA.
     Petscii,
 }
+
+/// The alphabets, from the one that is preferred on.
+pub const ALPHABETS: [Alphabet; 3] = [Alphabet::Ascii, Alphabet::High, Alphabet::Petscii];
 
 impl Alphabet {
     /// Returns whether the byte is a character.
@@ -39,7 +45,7 @@ impl Alphabet {
             }
             chars = chars.with(self, byte);
         }
-        chars.are_text()
+        chars.are_text(self)
     }
 
     /// Returns what a character is in ASCII.
@@ -80,8 +86,27 @@ impl Chars {
         }
     }
 
-    /// Returns whether they are a text: there are five at least, and half of them are letters or blanks.
-    pub fn are_text(self) -> bool {
-        5 <= self.count && self.count <= self.letters.saturating_mul(2)
+    /// Returns whether they are a text of the alphabet: there are five at least, or eight with the high bit set, and half of them are letters
+    /// or blanks.
+    pub fn are_text(self, alphabet: Alphabet) -> bool {
+        let least = if alphabet == Alphabet::High { 8 } else { 5 };
+        least <= self.count && self.count <= self.letters.saturating_mul(2)
+    }
+}
+
+/// Returns how many characters of the alphabet stand at the address and after it, if they are a text, else 0.
+pub fn text_len(image: &Image, alphabet: Alphabet, from: usize) -> usize {
+    let mut chars = Chars::none();
+    let (_, end) = ends(image);
+    for at in from..end {
+        match byte(image, at) {
+            Some(byte) if alphabet.is_char(byte) => chars = chars.with(alphabet, byte),
+            _ => break,
+        }
+    }
+    if chars.are_text(alphabet) {
+        chars.count as usize
+    } else {
+        0
     }
 }

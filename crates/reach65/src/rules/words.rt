@@ -1,14 +1,17 @@
 //! Words that stand in rows and lead to code.
 
 use crate::flow::{Flow, is_last};
-use crate::rules::bytes::{ends, word};
+use crate::rules::bytes::{byte, ends, word};
 use crate::rules::growth::IN_TABLE;
-use crate::rules::search::Search;
+use crate::rules::search::{Least, Search};
 use crate::rules::sound::has_code;
 use crate::rules::step::{Step, step_at};
 use isa65::Mnemonic;
 use map65::{Image, Marks};
 use std::alloc::{AllocError, Global};
+
+/// How many words a row has at least.
+pub const ROW: usize = 3;
 
 /// Marks: of what the ranges of the information file have, of what no reached instruction had when the search for rows began, and of where
 /// code may begin.
@@ -62,7 +65,7 @@ fn begins_code(
     if search.marks.get(address) {
         return Ok(is_entered(search, less, address));
     }
-    search.would_join(address, IN_TABLE)
+    search.would_join(address, Least::Count(IN_TABLE))
 }
 
 impl<'i> Words<'i> {
@@ -128,32 +131,44 @@ impl<'i> Words<'i> {
         }
     }
 
-    /// Lets the address of a word join, if it and the word beside lead to different addresses where code begins. Returns whether it is
-    /// reached, and adds what is reached from it to `fresh`.
-    fn join_word(
+    /// Whether a jump or a call may stand right before the word of the address, or has its first byte: then it is rather a part of that.
+    fn is_operand(&self, at: usize) -> bool {
+        for back in 0..3usize {
+            let place = at.saturating_sub(back);
+            if let Some(0x20 | 0x4C) = byte(self.image, place)
+                && let Some(to) = word(self.image, place.saturating_add(1))
+                && self.hopeful.get(to)
+            {
+                return true;
+            }
+        }
+        false
+    }
+
+    /// Whether a row begins at the address: three different words lead to code, and no jump or call has the first one.
+    fn begins_row(
         &self,
         search: &mut Search<'_, '_, '_>,
-        fresh: &mut Vec<u16>,
         less: u16,
         at: usize,
-        beside: usize,
     ) -> Result<bool, AllocError> {
-        let Some(address) = self.target(search, less, at) else {
+        let (one, two, three) = (
+            self.target(search, less, at),
+            self.target(search, less, at.saturating_add(2)),
+            self.target(search, less, at.saturating_add(4)),
+        );
+        let (Some(one), Some(two), Some(three)) = (one, two, three) else {
             return Ok(false);
         };
-        let Some(other) = self.target(search, less, beside) else {
-            return Ok(false);
-        };
-        if address == other {
-            return Ok(false);
-        }
-        if !search.marks.get(address)
-            && begins_code(search, less, other)?
-            && search.join(address, IN_TABLE)?
-        {
-            fresh.extend_from_slice(search.added.as_slice())?;
-        }
-        Ok(search.marks.get(address))
+        Ok(
+            one != two
+                && one != three
+                && two != three
+                && !self.is_operand(at)
+                && begins_code(search, less, one)?
+                && begins_code(search, less, two)?
+                && begins_code(search, less, three)?,
+        )
     }
 
     /// Whether the word at the address may lead to code, itself or as one less, and is not followed by the same.
@@ -170,6 +185,34 @@ impl<'i> Words<'i> {
             && (self.hopeful.get_at(to) || self.hopeful.get_at(to.saturating_add(1)))
     }
 
+    /// Lets the sound beginnings among the words of a row join, up to one that leads to no code. Adds what is reached from them to `fresh`, and
+    /// marks where the words begin.
+    fn join_row(
+        &self,
+        search: &mut Search<'_, '_, '_>,
+        fresh: &mut Vec<u16>,
+        rows: &mut Marks,
+        less: u16,
+        from: usize,
+    ) -> Result<(), AllocError> {
+        let (_, end) = ends(self.image);
+        let mut at = from;
+        for _ in from..end {
+            let Some(to) = self.target(search, less, at) else {
+                break;
+            };
+            if !search.marks.get(to) {
+                if !search.join(to, Least::Count(IN_TABLE))? {
+                    break;
+                }
+                fresh.extend_from_slice(search.added.as_slice())?;
+            }
+            rows.set_span(at, at.saturating_add(1));
+            at = at.saturating_add(2);
+        }
+        Ok(())
+    }
+
     /// Lets the sound beginnings among the words of rows join. Returns what is reached from them.
     pub fn join_rows(
         &self,
@@ -178,17 +221,47 @@ impl<'i> Words<'i> {
     ) -> Result<Vec<u16>, AllocError> {
         let mut fresh = Vec::new(alloc);
         let (start, end) = ends(self.image);
-        for at in start..end {
-            if !self.is_worth(at) {
-                continue;
-            }
-            let beside = at.saturating_add(2);
-            for less in [0u16, 1] {
-                if self.join_word(search, &mut fresh, less, beside, at)? {
-                    self.join_word(search, &mut fresh, less, at, beside)?;
+        for less in [0u16, 1] {
+            let mut rows = Marks::none(alloc)?;
+            for at in start..end {
+                if self.is_worth(at) && !rows.get_at(at) && self.begins_row(search, less, at)? {
+                    self.join_row(search, &mut fresh, &mut rows, less, at)?;
                 }
             }
         }
         Ok(fresh)
+    }
+
+    /// Whether a word at the address leads to reached code, this much after it.
+    fn leads(&self, search: &Search<'_, '_, '_>, less: u16, at: usize) -> bool {
+        match self.target(search, less, at) {
+            Some(to) => search.marks.get(to) && is_entered(search, less, to),
+            None => false,
+        }
+    }
+
+    /// Returns the addresses right behind rows of words that lead to reached code. Fails only if an allocation failed.
+    pub fn behind_rows(
+        &self,
+        alloc: Global,
+        search: &Search<'_, '_, '_>,
+    ) -> Result<Vec<u16>, AllocError> {
+        let mut found = Vec::new(alloc);
+        let (start, end) = ends(self.image);
+        for at in start..end {
+            if !self.is_worth(at) {
+                continue;
+            }
+            for less in [0u16, 1] {
+                if self.leads(search, less, at)
+                    && self.leads(search, less, at.saturating_add(2))
+                    && !self.leads(search, less, at.saturating_add(4))
+                    && let Ok(address) = u16::try_from(at.saturating_add(4))
+                {
+                    found.push(address)?;
+                }
+            }
+        }
+        Ok(found)
     }
 }

@@ -34,6 +34,29 @@ pub fn put_pairs(out: &mut Vec<u8>, advice: &Advice<'_, '_, '_>) -> Result<(), A
     Ok(())
 }
 
+/// Adds a comment for each pair that may be an address.
+pub fn put_likely(out: &mut Vec<u8>, advice: &Advice<'_, '_, '_>) -> Result<(), AllocError> {
+    for pair in &advice.likely {
+        put_address(out, b"# the bytes at $", usize::from(pair.low))?;
+        put_address(out, b" and $", usize::from(pair.high))?;
+        put_address(out, b" are $", usize::from(pair.address))?;
+        put_name(out, advice, pair.address)?;
+        out.extend_from_slice(b": HALVES?\n")?;
+    }
+    Ok(())
+}
+
+/// Adds a line for each two tables of halves.
+pub fn put_splits(out: &mut Vec<u8>, advice: &Advice<'_, '_, '_>) -> Result<(), AllocError> {
+    for split in &advice.splits {
+        put_address(out, b"#: HALVES { LOW $", usize::from(split.table.low))?;
+        put_address(out, b"; HIGH $", usize::from(split.table.high))?;
+        put_decimal(out, b"; SIZE ", split.count)?;
+        out.extend_from_slice(b"; };\n")?;
+    }
+    Ok(())
+}
+
 /// Adds the line of what lies after the image, up to the greatest address of the pairs and the variables, if one lies there, and unless the
 /// file says it.
 pub fn put_after(out: &mut Vec<u8>, advice: &Advice<'_, '_, '_>) -> Result<(), AllocError> {

@@ -1,0 +1,77 @@
+//! Routines to which nothing leads but a word of data.
+
+use crate::rules::bytes::{ends, word};
+use crate::rules::ground::Ground;
+use crate::rules::halves::Pair;
+use crate::rules::survey::Survey;
+use map65::Marks;
+use std::alloc::{AllocError, Global};
+
+/// How many words may have the address of one routine.
+const MOST: usize = 2;
+
+/// Marks the address, and the one after it.
+fn set_two(marks: &mut Marks, address: u16) {
+    marks.set(address);
+    marks.set(address.saturating_add(1));
+}
+
+/// The addresses to which something refers: an operand, a half, a word of a row, or the code before it.
+fn referred(
+    alloc: Global,
+    ground: &Ground<'_>,
+    survey: &Survey<'_>,
+    pairs: &[Pair],
+) -> Result<Marks, AllocError> {
+    let mut marks = survey.operands.copy(alloc)?;
+    for pair in pairs {
+        set_two(&mut marks, pair.address);
+    }
+    let (start, end) = ends(ground.image);
+    for at in start..end {
+        if let Ok(address) = u16::try_from(at) {
+            if survey.gone_on.get(address) || survey.goals.get(address) {
+                marks.set(address);
+            }
+            if (ground.words.get(address) || ground.returns.get(address))
+                && let Some(word) = word(ground.image, at)
+            {
+                set_two(&mut marks, word);
+            }
+        }
+    }
+    Ok(marks)
+}
+
+/// Marks the words of data that are the address of a reached routine to which nothing else refers, where two words at most are it. Fails only if an
+/// allocation failed.
+pub fn mark_orphans(
+    alloc: Global,
+    ground: &mut Ground<'_>,
+    survey: &Survey<'_>,
+    pairs: &[Pair],
+) -> Result<(), AllocError> {
+    let referred = referred(alloc, ground, survey, pairs)?;
+    let (start, end) = ends(ground.image);
+    let mut found = Vec::new(alloc);
+    for at in start..end {
+        if let Some(word) = ground.word(at)
+            && usize::from(word) != start
+            && survey.reached.get(word)
+            && survey.code.get(word)
+            && !referred.get(word)
+            && let Ok(address) = u16::try_from(at)
+        {
+            found.push((word, address))?;
+        }
+    }
+    found.sort()?;
+    for &(word, address) in &found {
+        let count = found.iter().filter(|other| other.0 == word).count();
+        let plain = ground.word(usize::from(address)).is_some();
+        if count <= MOST && plain {
+            set_two(&mut ground.words, address);
+        }
+    }
+    Ok(())
+}

@@ -1,0 +1,194 @@
+//! Tables by the instructions that read them.
+
+use crate::flow::Flow;
+use crate::rules::bytes::{byte, ends};
+use crate::rules::step::{Step, step_at};
+use isa65::{Mnemonic, Mode};
+use map65::{Image, Marks};
+use std::alloc::{AllocError, Global};
+
+/// The most entries of a table that an index of a byte reaches.
+const MOST: usize = 256;
+
+/// A table of addresses that reached code reads: where its low and its high bytes begin, how much less they are than the addresses, and whether code
+/// begins there.
+#[derive(Clone, Copy)]
+pub struct Table {
+    pub low: u16,
+    pub high: u16,
+    pub less: u16,
+    pub is_code: bool,
+}
+
+impl Table {
+    /// Returns whether the low and the high bytes stand in words, and not in two tables.
+    pub fn has_words(&self) -> bool {
+        usize::from(self.high) == usize::from(self.low) + 1
+    }
+
+    /// Returns the places of the low and the high byte of an entry.
+    pub fn places(&self, index: usize) -> (usize, usize) {
+        let step = if self.has_words() { 2 } else { 1 };
+        let offset = index.min(MOST) * step;
+        (
+            usize::from(self.low) + offset,
+            usize::from(self.high) + offset,
+        )
+    }
+
+    /// Returns the address of an entry, if its bytes lie in the image.
+    pub fn entry(&self, image: &Image, index: usize) -> Option<u16> {
+        let (low, high) = self.places(index);
+        let word = u16::from_le_bytes([byte(image, low)?, byte(image, high)?]);
+        word.checked_add(self.less)
+    }
+
+    /// Returns how many entries it may have: the two tables of halves do not meet.
+    pub fn most(&self) -> usize {
+        let apart = usize::from(self.low.max(self.high) - self.low.min(self.high));
+        if self.has_words() {
+            MOST
+        } else {
+            apart.min(MOST)
+        }
+    }
+}
+
+/// The reached instruction at the address.
+fn reached_at(flow: &Flow<'_, '_>, reached: &Marks, at: usize) -> Option<Step> {
+    let address = u16::try_from(at).ok()?;
+    if reached.get(address) {
+        step_at(flow, address)
+    } else {
+        None
+    }
+}
+
+/// The address from which the instruction loads a register with an index.
+fn indexed(step: Step) -> Option<u16> {
+    match (step.op.mnemonic, step.op.mode) {
+        (Mnemonic::Lda | Mnemonic::Ldx | Mnemonic::Ldy, Mode::Absx | Mode::Absy) => step.operand,
+        _ => None,
+    }
+}
+
+/// The address to which the instruction stores a register.
+fn stored_to(image: &Image, step: Step, at: usize) -> Option<u16> {
+    match (step.op.mnemonic, step.op.mode) {
+        (Mnemonic::Sta | Mnemonic::Stx | Mnemonic::Sty, Mode::Abs) => step.operand,
+        (Mnemonic::Sta | Mnemonic::Stx | Mnemonic::Sty, Mode::Zp) => {
+            Some(u16::from(byte(image, at.saturating_add(1))?))
+        }
+        _ => None,
+    }
+}
+
+/// What reached code does with pointers: marks of those through which it jumps, and of those through which it loads and stores.
+#[derive(Drop)]
+struct Pointers {
+    jumps: Marks,
+    others: Marks,
+}
+
+/// Finds the pointers of reached code. The operand of a jump or a call is one too: other code may store to it.
+fn pointers_of(
+    alloc: Global,
+    flow: &Flow<'_, '_>,
+    reached: &Marks,
+) -> Result<Pointers, AllocError> {
+    let mut pointers = Pointers {
+        jumps: Marks::none(alloc)?,
+        others: Marks::none(alloc)?,
+    };
+    let image = flow.map().image();
+    let (start, end) = ends(image);
+    for at in start..end {
+        let Some(step) = reached_at(flow, reached, at) else {
+            continue;
+        };
+        match (step.op.mode, step.operand) {
+            (Mode::Ind, Some(pointer)) => pointers.jumps.set(pointer),
+            (Mode::Indx | Mode::Indy | Mode::Zpind, _) => {
+                if let Some(pointer) = byte(image, at.saturating_add(1)) {
+                    pointers.others.set(u16::from(pointer));
+                }
+            }
+            (Mode::Abs, Some(_)) if step.to.is_some() => {
+                if let Ok(operand) = u16::try_from(at.saturating_add(1)) {
+                    pointers.jumps.set(operand);
+                }
+            }
+            _ => {}
+        }
+    }
+    Ok(pointers)
+}
+
+/// The table that the instructions from the address on read: two loads with an index, each pushed or stored to one byte of a pointer.
+fn table_at(flow: &Flow<'_, '_>, reached: &Marks, pointers: &Pointers, at: usize) -> Option<Table> {
+    let image = flow.map().image();
+    let first = reached_at(flow, reached, at)?;
+    if first.op.mode == Mode::Absindx {
+        let low = first.operand?;
+        return Some(Table {
+            low,
+            high: low.checked_add(1)?,
+            less: 0,
+            is_code: true,
+        });
+    }
+    let one = indexed(first)?;
+    let place = at.saturating_add(first.len());
+    let keeps = reached_at(flow, reached, place)?;
+    let then = place.saturating_add(keeps.len());
+    let second = reached_at(flow, reached, then)?;
+    let other = indexed(second)?;
+    let other_place = then.saturating_add(second.len());
+    let keeps_other = reached_at(flow, reached, other_place)?;
+    if keeps.op.mnemonic == Mnemonic::Pha && keeps_other.op.mnemonic == Mnemonic::Pha {
+        return Some(Table {
+            low: other,
+            high: one,
+            less: 1,
+            is_code: true,
+        });
+    }
+    let to = stored_to(image, keeps, place)?;
+    let other_to = stored_to(image, keeps_other, other_place)?;
+    let pointer = to.min(other_to);
+    if to.max(other_to) - pointer != 1 {
+        return None;
+    }
+    let is_code = pointers.jumps.get(pointer);
+    if !is_code && !pointers.others.get(pointer) {
+        return None;
+    }
+    let (low, high) = if to < other_to {
+        (one, other)
+    } else {
+        (other, one)
+    };
+    Some(Table {
+        low,
+        high,
+        less: 0,
+        is_code,
+    })
+}
+
+/// Returns the tables that reached code reads. Fails only if an allocation failed.
+pub fn tables_of(
+    alloc: Global,
+    flow: &Flow<'_, '_>,
+    reached: &Marks,
+) -> Result<Vec<Table>, AllocError> {
+    let mut found = Vec::new(alloc);
+    let pointers = pointers_of(alloc, flow, reached)?;
+    let (start, end) = ends(flow.map().image());
+    for at in start..end {
+        if let Some(table) = table_at(flow, reached, &pointers, at) {
+            found.push(table)?;
+        }
+    }
+    Ok(found)
+}

@@ -1,0 +1,72 @@
+//! The words and halves of tables that reached code reads.
+
+use crate::rules::bytes::ends;
+use crate::rules::ground::Ground;
+use crate::rules::readers::Table;
+use crate::rules::survey::Survey;
+use std::alloc::{AllocError, Global};
+
+/// Two tables of halves: where the low and the high bytes begin, and how many there are of each.
+#[derive(Clone, Copy)]
+pub struct Split {
+    pub table: Table,
+    pub count: usize,
+}
+
+/// Whether the entry of the table is an address of the image: one where code begins, or, for a table of data, one that no code has.
+fn is_entry(ground: &Ground<'_>, survey: &Survey<'_>, table: Table, index: usize) -> bool {
+    let (low, high) = table.places(index);
+    let (start, end) = ends(ground.image);
+    let Some(address) = table.entry(ground.image, index) else {
+        return false;
+    };
+    let inside = start <= usize::from(address) && usize::from(address) < end;
+    let fits = if table.is_code {
+        survey.reached.get(address) && survey.code.get(address)
+    } else {
+        !survey.code.get(address)
+    };
+    ground.is_plain(low) && ground.is_plain(high) && inside && fits
+}
+
+/// How many entries the table has: up to one that is none, or at which another table begins.
+fn entry_count(ground: &Ground<'_>, survey: &Survey<'_>, table: Table) -> usize {
+    let mut count = 0;
+    for index in 0..table.most() {
+        let (low, high) = table.places(index);
+        let begins = 0 < index && (survey.operands.get_at(low) || survey.operands.get_at(high));
+        if begins || !is_entry(ground, survey, table, index) {
+            break;
+        }
+        count = index + 1;
+    }
+    count
+}
+
+/// Marks the words of the tables, and returns the tables of halves whose entries are addresses. Fails only if an allocation failed.
+pub fn mark_tables(
+    alloc: Global,
+    ground: &mut Ground<'_>,
+    survey: &Survey<'_>,
+    tables: &[Table],
+) -> Result<Vec<Split>, AllocError> {
+    let mut splits = Vec::new(alloc);
+    for &table in tables {
+        let count = entry_count(ground, survey, table);
+        let (low, high) = table.places(0);
+        let (low_end, high_end) = (low.saturating_add(count), high.saturating_add(count));
+        if table.has_words() {
+            let marks = if table.less == 0 {
+                &mut ground.words
+            } else {
+                &mut ground.returns
+            };
+            marks.set_span(low, low_end.saturating_add(count));
+        } else if table.less == 0 && 1 < count {
+            ground.numbers.set_span(low, low_end);
+            ground.numbers.set_span(high, high_end);
+            splits.push(Split { table, count })?;
+        }
+    }
+    Ok(splits)
+}
