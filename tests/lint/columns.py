@@ -17,12 +17,11 @@ WIDER = {
     "map65": 4,
     "usage65": 1,
     "da65": 12,
-    "reach65": 4,
     "files65": 2,
     "da65_cli": 2,
     "as65": 11,
-    "trace65": 7,
-    "name65": 3,
+    "trace65": 2,
+    "name65": 2,
 }
 
 SCRIPTS = ("Makefile", ".ci/run", "tests/*.sh", "tests/*.py", "tests/corpus/*", "tests/shim.c")

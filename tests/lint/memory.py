@@ -38,7 +38,7 @@ name65 assembled 2
 relist Failure::from 2
 stmt65 AsmFault::from 1
 stmt65 Symbols::define 2
-trace65 failure_of 2
+trace65 failure_of 4
 usage65 RequestFault::from 3
 usage65 UsageFault::from 2
 usage65 UsageFault::of_words 2
