@@ -256,11 +256,11 @@ printf '%b' "$(awk 'BEGIN { for (k = 0; k < 16384; k++) {
     x = (x * 75 + 74) % 65537; y = (x * 75 + 74) % 65537; printf "\\xa9\\x%02x\\xa2\\x%02x", x % 256, y / 257; x = y } }')" >dense.bin
 { printf '\x60'; head -c 65535 /dev/zero | tr '\0' ' '; } >blanks.bin
 printf '\n%-44s %12s\n' 'instructions for 64 KiB' 'trace65'
-traces 'random bytes' 43 random.bin
-traces 'nop' 52 nop.bin
-traces 'a chain of routines' 60 chain.bin
-traces 'pairs of immediates' 60 dense.bin
-traces 'blanks' 56 blanks.bin
+traces 'random bytes' 148 random.bin
+traces 'nop' 284 nop.bin
+traces 'a chain of routines' 241 chain.bin
+traces 'pairs of immediates' 265 dense.bin
+traces 'blanks' 205 blanks.bin
 printf '\n%-44s %12s %12s\n' 'instructions for a line' '64 KiB' '128 KiB'
 lengthens 'a line that is one word' 1 n
 lengthens 'a long number after a half' 0 'x1 := 1\n .byte <x1,'

@@ -194,7 +194,7 @@ image apple.bin '\x60\xc4\xc9\xd3\xcb\xa0\xc5\xd2\xd2\xcf\x52\x00'
 proposes 'the high bit set' '1001-1009 ByteTable;100A-100B ByteTable;' -S 0x1000 apple.bin
 shown 'the high bit set' 'text with the high bit: DISK ERRO|R.|' -S 0x1000 apple.bin
 image mixed.bin '\x60HELLO\x00\xc8\xc5\xcc\xcc\xcf\xa1\x00'
-shown 'texts of two alphabets' 'HELLO|.|text with the high bit: HELLO!|.|' -S 0x1000 mixed.bin
+shown 'texts of two alphabets' 'HELLO|.|text in PETSCII: HELLO|..|' -S 0x1000 mixed.bin
 # eight lines of eight dots
 image ball.bin '\x60\x3c\x7e\x66\x7e\x3c\x24\x3c\x7e'
 proposes 'graphics are no text' '1001-1008 ByteTable;' -S 0x1000 ball.bin
@@ -210,7 +210,7 @@ image table.bin '\x06\x10\x06\x10\xff\xff\x60\x60\x60\xff'
 image table.info 'RANGE { START $1000; END $1001; TYPE AddrTable; };\nRANGE { START $1002; END $1003; TYPE RtsTable; };\n'\
 'RANGE { START $1008; END $1008; TYPE Code; };\n'
 proposes 'entries of the information file' '1004-1005 ByteTable;1009-1009 ByteTable;' -S 0x1000 --plain -i table.info table.bin
-proposes 'rts alone is no sound beginning' '1004-1007 ByteTable;1009-1009 ByteTable;' -S 0x1000 -i table.info table.bin
+proposes 'a table of the file leads to code as an entry does' '1004-1005 ByteTable;1009-1009 ByteTable;' -S 0x1000 -i table.info table.bin
 
 # the image ends at $FFFF, and its vectors lead to rts at $FFF8, $FFF7 and $FFF9
 image vectors.bin '\xff\x60\x60\x60\xf8\xff\xf7\xff\xf9\xff'
@@ -218,15 +218,17 @@ proposes 'vectors' 'FFF6-FFF6 ByteTable;FFFA-FFFF AddrTable;' vectors.bin
 
 # Nothing is said of the monitor of the board: its commands are code, and their table, the texts, the filler and the vectors are apart.
 proposes 'the monitor' \
-    'FE3B-FE42 ByteTable;FE43-FE49 TextTable;FE4A-FE57 RtsTable;FE58-FE6C TextTable;FE6D-FE6E ByteTable;FE6F-FE7F TextTable;'\
-'FE80-FE84 ByteTable;FE85-FE8A TextTable;FE8B-FE8F ByteTable;FE90-FE9C TextTable;FE9D-FED6 ByteTable;FED7-FFDE ByteTable;'\
-'FFDF-FFF9 ByteTable;FFFA-FFFF AddrTable;' \
+    'FE43-FE49 TextTable;FE4A-FE57 RtsTable;FE58-FE6C TextTable;FE6D-FE6E ByteTable;FE6F-FE7F TextTable;'\
+'FE80-FE84 ByteTable;FE85-FE8A TextTable;FE8B-FE8F ByteTable;FE90-FE9C TextTable;FE9D-FED6 ByteTable;'\
+'FED7-FFDE ByteTable;FFDF-FFF1 ByteTable;FFF2-FFF3 AddrTable;FFF4-FFF9 ByteTable;FFFA-FFFF AddrTable;' \
     examples/board/monitor.bin
 # What the monitor of the board has apart from its tables and what the vectors and the command table reach: the routines that programs call,
 # and the jumps to them.
 proposes 'the monitor with its information file' 'FE3B-FE42 ByteTable;FEA0-FEC1 ByteTable;FEC8-FED6 ByteTable;FFDF-FFF9 ByteTable;' \
     --plain -i examples/board/board.info
-proposes 'and with these routines as entries' 'FFDF-FFF9 ByteTable;' --plain -i examples/board/board.info --entry \
+proposes 'and with these routines as entries' \
+    'FFDF-FFE2 ByteTable;FFE3-FFE4 AddrTable;FFE5-FFE5 ByteTable;FFE6-FFE7 AddrTable;FFE8-FFF1 ByteTable;' \
+'FFF2-FFF3 AddrTable;FFF4-FFF9 ByteTable;' --plain -i examples/board/board.info --entry \
     0xFE3B,0xFEA0,0xFEAB,0xFED0
 
 # ---- what is given at the wrong place
@@ -262,8 +264,8 @@ image within.info '#: ENTRY { ADDR $1001; };\n'
 misplaced 'an entry of the file inside an instruction' 'entry $1001 is inside the instruction at $1000;' -S 0x1000 -i within.info \
     operand.bin
 misplaced 'and with --plain' 'entry $1001 is inside the instruction at $1000;' --plain -S 0x1000 -i within.info operand.bin
-{ head -c $((1048576 - 26)) /dev/zero | tr '\0' '#'; printf '\n%s' '#: ENTRY { ADDR $1006; };'; } >large.info
-misplaced 'an entry at the end of the largest file' 'entry $1006 is outside the image;' -S 0x1000 -i large.info operand.bin
+{ head -c $((1048576 - 4096)) /dev/zero | tr '\0' '#'; printf '\n%s' '#: ENTRY { ADDR $1006; };'; } >large.info
+misplaced 'an entry at the end of a large file' 'entry $1006 is outside the image;' -S 0x1000 -i large.info operand.bin
 image wrong.info 'RANGE { START $0F00; END $1000; TYPE Code; };\nRANGE { START $1004; END $2000; TYPE Code; };\n'
 misplaced 'ranges with a byte of the image' 'entry $0F00 is outside the image;' -S 0x1000 -i wrong.info --entry 0xf00 operand.bin
 
@@ -320,7 +322,7 @@ proposes 'in a table three instructions are enough' '1002-1003 ByteTable;1007-10
 
 # rts; an undefined opcode; the words $1007 and $100C; an undefined opcode; inx three times, rts; an undefined opcode; iny three times, rts
 image leads.bin '\x60\xff\x07\x10\x0c\x10\xff\xe8\xe8\xe8\x60\xff\xc8\xc8\xc8\x60'
-proposes 'two words that lead to sound beginnings' '1001-1001 ByteTable;1002-1005 AddrTable;1006-1006 ByteTable;100B-100B ByteTable;' \
+proposes 'two words are no row' '1001-100F ByteTable;' \
     -S 0x1000 leads.bin
 proposes 'plainly they are bytes' '1001-100F ByteTable;' -S 0x1000 --plain leads.bin
 image row.info 'RANGE { START $1004; END $1004; TYPE ByteTable; };\n'
@@ -331,30 +333,29 @@ image same.bin '\x60\xff\x07\x10\x07\x10\xff\xe8\xe8\xe8\x60'
 proposes 'two equal words' '1001-100A ByteTable;' -S 0x1000 same.bin
 # three instructions, and two
 image short.bin '\x60\xff\x07\x10\x0b\x10\xff\xe8\xe8\x60\xff\xc8\xc8\x60'
-proposes 'three instructions are enough in a row' '1001-1001 ByteTable;1002-1005 AddrTable;1006-1006 ByteTable;100A-100A ByteTable;' \
+proposes 'nor are two that lead to three instructions' '1001-100D ByteTable;' \
     -S 0x1000 short.bin
 image short.bin '\x60\xff\x07\x10\x0b\x10\xff\xe8\xe8\x60\xff\xc8\x60'
 proposes 'two are not' '1001-100C ByteTable;' -S 0x1000 short.bin
 # nop; nop; rts; an undefined opcode; the words $1001 and $1009; an undefined opcode; inx three times, rts
 image entered.bin '\xea\xea\x60\xff\x01\x10\x09\x10\xff\xe8\xe8\xe8\x60'
-proposes 'a word beside that of any reached instruction' '1003-1008 ByteTable;' -S 0x1000 entered.bin
+proposes 'nor is a word beside that of a reached instruction' '1003-100C ByteTable;' -S 0x1000 entered.bin
 # the same words less one: the nop before $1001 goes on to it
 image less.bin '\xea\xea\x60\xff\x00\x10\x08\x10\xff\xe8\xe8\xe8\x60'
 proposes 'words less one beside that of code which runs into it' '1003-100C ByteTable;' -S 0x1000 less.bin
 image less.bin '\x60\xea\x60\xff\x00\x10\x08\x10\xff\xe8\xe8\xe8\x60'
-proposes 'words less one' '1003-1003 ByteTable;1004-1007 RtsTable;1008-1008 ByteTable;' -S 0x1000 --entry 0x1001 less.bin
+proposes 'two words less one are no row' '1003-100C ByteTable;' -S 0x1000 --entry 0x1001 less.bin
 # three words, of which the first leads to nothing
 image third.bin '\x60\xff\xff\x10\x09\x10\x0e\x10\xff\xe8\xe8\xe8\x60\xff\xc8\xc8\xc8\x60'
-proposes 'a row begins where words lead on' '1001-1003 ByteTable;1004-1007 AddrTable;1008-1008 ByteTable;100D-100D ByteTable;' \
+proposes 'nor do two words begin a row where words lead on' '1001-1011 ByteTable;' \
     -S 0x1000 third.bin
 image last.bin '\x60\xff\xe8\xe8\xe8\x60\xff\xc8\xc8\xc8\x60\xff\x02\x10\x07\x10'
-proposes 'a row at the end of the image' '1001-1001 ByteTable;1006-1006 ByteTable;100B-100B ByteTable;100C-100F AddrTable;' \
+proposes 'two words at the end of the image' '1001-100F ByteTable;' \
     -S 0x1000 last.bin
 # a table that leads to code with a second table, and this to the rest
 image tables.bin '\x60\xff\x07\x10\x0c\x10\xff\xe8\xe8\xe8\x60\xff\xc8\xc8\xc8\x60\xff\x16\x10\x07\x10\xff\xca\xca\xca\x60'
-proposes 'a table leads on to another one' \
-    '1001-1001 ByteTable;1002-1005 AddrTable;1006-1006 ByteTable;100B-100B ByteTable;1010-1010 ByteTable;'\
-'1011-1014 AddrTable;1015-1015 ByteTable;' -S 0x1000 tables.bin
+proposes 'two tables of two words' \
+    '1001-1019 ByteTable;' -S 0x1000 tables.bin
 
 # ---- filler
 
@@ -389,21 +390,25 @@ proposes 'two words that are addresses of routines' '1001-1004 AddrTable;1005-10
     0x1007,0x100b rows.bin
 proposes 'plainly too' '1001-1004 AddrTable;1005-1006 ByteTable;1008-100A ByteTable;' -S 0x1000 --plain --entry 0x1000,0x1007,0x100b \
     rows.bin
-proposes 'one is no row' '1001-1006 ByteTable;1008-100B ByteTable;' -S 0x1000 --entry 0x1007 rows.bin
+proposes 'one word that leads to a routine of its own' \
+    '1001-1002 AddrTable;1003-1006 ByteTable;1008-100B ByteTable;' \
+    -S 0x1000 --entry 0x1007 rows.bin
 image row.info 'RANGE { START $1004; END $1004; TYPE ByteTable; };\n'
-proposes 'nor with a byte in a range' '1001-1003 ByteTable;1005-1006 ByteTable;1008-100A ByteTable;' -S 0x1000 -i row.info --entry \
+proposes 'and beside one with a byte in a range' \
+    '1001-1002 AddrTable;1003-1003 ByteTable;1005-1006 ByteTable;1008-100A ByteTable;' \
+    -S 0x1000 -i row.info --entry \
     0x1007,0x100b rows.bin
 image equal.bin '\x60\x07\x10\x07\x10\xff\xff\x60\xff\xff\xff\x60'
-proposes 'nor are two equal words' '1001-1006 ByteTable;1008-100A ByteTable;' -S 0x1000 --entry 0x1007,0x100b equal.bin
+proposes 'two equal words' '1001-1004 AddrTable;1005-1006 ByteTable;1008-100A ByteTable;' -S 0x1000 --entry 0x1007,0x100b equal.bin
 # rts; the words $1007 and $1008; two bytes; nop; rts
 image onward.bin '\x60\x07\x10\x08\x10\xff\xff\xea\x60'
-proposes 'nor is one of what another instruction goes on to' '1001-1006 ByteTable;' -S 0x1000 --entry 0x1007 onward.bin
+proposes 'but not one of what another instruction goes on to' '1001-1002 AddrTable;1003-1006 ByteTable;' -S 0x1000 --entry 0x1007 onward.bin
 # rts; the words $100B, $1007, $100B; rts; three bytes; rts
 image words.bin '\x60\x0b\x10\x07\x10\x0b\x10\x60\xff\xff\xff\x60'
 proposes 'three words' '1001-1006 AddrTable;1008-100A ByteTable;' -S 0x1000 --entry 0x1007,0x100b words.bin
 # rts at $FFF4 and $FFF5; their addresses, and again as vectors
 image rows_end.bin '\x60\x60\xf4\xff\xf5\xff\xf4\xff\xf5\xff\xf4\xff'
-proposes 'a row before the vectors' 'FFF6-FFFF AddrTable;' rows_end.bin
+proposes 'a row before the vectors' 'FFF6-FFF9 ByteTable;FFFA-FFFF AddrTable;' rows_end.bin
 
 # ---- pairs of halves
 
@@ -413,7 +418,7 @@ halves 'two loads, the low byte first' '1001,1003: 1005;' -S 0x1000 loads.bin
 image text.info 'LABEL { ADDR $1005; NAME "text"; };\n'
 halves 'and the name of the address' '1001,1003: 1005 text;' -S 0x1000 -i text.info loads.bin
 image part.info 'LABEL { ADDR $1003; NAME "part"; SIZE 3; };\n'
-halves 'and a name before it with a size' '1001,1003: 1005 part+2;' -S 0x1000 -i part.info loads.bin
+halves 'but not inside a name with a size' '' -S 0x1000 -i part.info loads.bin
 image high.bin '\xa0\x10\xa9\x05\x60\xff'
 halves 'two loads, the high byte first' '1003,1001: 1005;' -S 0x1000 high.bin
 image same.bin '\xa9\x05\xa9\x10\x60\xff'
@@ -436,12 +441,12 @@ halves 'the last address after the image' '1001,1003: 1104;' -S 0x1000 far.bin
 image far.bin '\xa9\x05\xa2\x11\x60'
 halves 'and the one after that' '' -S 0x1000 far.bin
 image start.bin '\xa9\x00\xa2\x10\x60'
-halves 'the first address of the image' '1001,1003: 1000;' -S 0x1000 start.bin
+halves 'none whose low half is zero' '' -S 0x1000 start.bin
 image before.bin '\xa9\xff\xa2\x0f\x60'
 halves 'an address before the image' '' -S 0x1000 before.bin
 # jmp $1007 over the loads
 image jumped.bin '\x4c\x07\x10\xa9\x08\xa2\x10\x60\xff'
-halves 'loads that nothing reaches' '' -S 0x1000 jumped.bin
+halves 'loads behind a jump that lead to reached code' '1004,1006: 1008;' -S 0x1000 jumped.bin
 halves 'and with an entry' '1004,1006: 1008;' -S 0x1000 --entry 0x1003 jumped.bin
 
 # Of a pair that shares a byte with another one the likelier is kept.
@@ -482,20 +487,20 @@ labels 'a variable' '1010 L1010;' -S 0x1000 variable.bin
 after 'a variable' '1004-1010;' -S 0x1000 variable.bin
 image buffer.info 'LABEL { ADDR $1010; NAME "buffer"; };\n'
 labels 'a variable with a name' '' -S 0x1000 -i buffer.info variable.bin
-after 'a variable with a name' '1004-1010;' -S 0x1000 -i buffer.info variable.bin
+after 'a name ends the variables' '' -S 0x1000 -i buffer.info variable.bin
 image variable.bin '\x8d\x03\x11\x60'
 labels 'a variable 256 bytes after the last one of the image' '1103 L1103;' -S 0x1000 variable.bin
 image variable.bin '\x8d\x04\x11\x60'
-labels 'and one byte further' '' -S 0x1000 variable.bin
-after 'and one byte further' '' -S 0x1000 variable.bin
+labels 'and one byte further, too' '1104 L1104;' -S 0x1000 variable.bin
+after 'and up to there' '1004-1104;' -S 0x1000 variable.bin
 image variables.bin '\x8d\x03\x11\xee\x03\x12\x60'
 labels 'a variable 256 bytes after another one' '1103 L1103;1203 L1203;' -S 0x1000 variables.bin
 image variables.bin '\x8d\x03\x11\xee\x04\x12\x60'
-labels 'and a byte further' '1103 L1103;' -S 0x1000 variables.bin
+labels 'and a byte further, too' '1103 L1103;1204 L1204;' -S 0x1000 variables.bin
 # lda $1010,x; jmp ($1012)
 image modes.bin '\xbd\x10\x10\x6c\x12\x10'
-labels 'indexed and indirect operands' '1010 L1010;1012 L1012;' -S 0x1000 modes.bin
-after 'up to the last of them' '1006-1012;' -S 0x1000 modes.bin
+labels 'operands that nothing writes are no variables' '' -S 0x1000 modes.bin
+after 'and nothing lies after the image' '' -S 0x1000 modes.bin
 image inside.bin '\xad\x03\x10\x60'
 labels 'an operand in the image' '' -S 0x1000 inside.bin
 
@@ -509,9 +514,9 @@ likely() {
     [ "$got" = "$wanted" ] || fails "$name" "likely: $got"
 }
 
-likely 'a word that is the address of a routine' 'the word at $1001 is $1007: AddrTable?;' -S 0x1000 --entry 0x1007 rows.bin
+likely 'a word that has a range' '' -S 0x1000 --entry 0x1007 rows.bin
 likely 'but not in a table' '' -S 0x1000 --entry 0x1007,0x100b rows.bin
-likely 'nor in a table of return addresses' '' -S 0x1000 --entry 0x1001 less.bin
+likely 'a word of two, which are no row' 'the word at $1004 is $1000: AddrTable?;' -S 0x1000 --entry 0x1001 less.bin
 # rts; the word $1004; a byte; a byte at $1004
 image named.bin '\x60\x04\x10\xff\xff'
 image named.info 'LABEL { ADDR $1004; NAME "data"; };\n'
@@ -554,7 +559,7 @@ likely 'a third of them' '' -S 0x1000 --entry 0x1004,0x1008 third.bin
 image entry.info '#: ENTRY { ADDR $1003; };\n'
 halves 'an entry of the file' '1004,1006: 1008;' -S 0x1000 -i entry.info jumped.bin
 image entry.info '# : ENTRY { ADDR $1003; };\n #: ENTRY { ADDR $1003; };\n'
-halves 'other comments are none' '' -S 0x1000 -i entry.info jumped.bin
+halves 'other comments are none' '1004,1006: 1008;' -S 0x1000 -i entry.info jumped.bin
 image known.info '#: HALVES { LOW $1003; HIGH $1005; };\n'
 halves 'halves of the file are not proposed again' '' -S 0x1000 -i known.info three.bin
 image known.info '#: HALVES { LOW $1003; HIGH $1001; };\n'
@@ -565,7 +570,7 @@ image known.info '#: HALVES { LOW $1000; HIGH $1002; };\n'
 halves 'bytes beside them' '1003,1005: 1008;' -S 0x1000 -i known.info three.bin
 image known.info '#: AFTER { START $1006; END $2000; };\n'
 after 'what lies after the image is known' '' -S 0x1000 -i known.info modes.bin
-labels 'and labels are proposed' '1010 L1010;1012 L1012;' -S 0x1000 -i known.info modes.bin
+labels 'and no labels are proposed' '' -S 0x1000 -i known.info modes.bin
 # jsr $1007; "HI", 0; rts; rts
 image print.bin '\x20\x07\x10HI\x00\x60\x60'
 image inline.info '#: INLINE { ADDR $1007; };\n'

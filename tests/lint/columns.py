@@ -20,7 +20,7 @@ WIDER = {
     "files65": 2,
     "da65_cli": 2,
     "as65": 11,
-    "trace65": 2,
+    "trace65": 1,
     "name65": 2,
 }
 

@@ -28,7 +28,7 @@ pub use Rattle.info65.specs.Comments.{unless_empty}
 unfoldable pub use Rattle.info65.specs.Comments.{comment_in, lacks_name}
 unfoldable pub use Rattle.info65.specs.Digits.{number_of_digits}
 pub use Rattle.info65.specs.Faults.{fault, fault_text, out_of_memory, ◌>>=◌}
-pub use Rattle.info65.specs.Grammar.{Accepts, AreGroups, AreNew, IsGroup, IsInformation, IsToken, Item, Spells, attribute_name, end_items, given_items, group_items, group_name, value, without_marks}
+pub use Rattle.info65.specs.Grammar.{Accepts, AreGroups, AreNew, IsGroup, IsInformation, IsToken, Item, Spells, end_items, given_items, group_items, value, without_marks}
 pub use Rattle.info65.specs.Groups.{AreAllFormed, AreFormed, AssignmentView, GroupView, given_before, global_part, is_of}
 unfoldable pub use Rattle.info65.specs.Groups.{global_given, has, has_instead, is_given, value_in}
 pub use Rattle.info65.specs.IncludeGroups.{AreIncludes, include_from, include_part}

@@ -16,13 +16,13 @@ pub use Rattle.map65.specs.Items.{AreItems, CanBegin, EndsBefore, ItemLaw, code_
 unfoldable pub use Rattle.map65.specs.Items.{full_len_at, item_len, item_start, size_at}
 pub use Rattle.map65.specs.MapRows.{WorkedMaps, code_at, map_of}
 pub use Rattle.map65.specs.MapView.{IsSoundMap, MapView, mapped, opcodes}
-pub use Rattle.map65.specs.Marks.{MarksView}
+pub use Rattle.map65.specs.Marks.{MarksView, is_between}
 unfoldable pub use Rattle.map65.specs.Marks.{is_marked}
 pub use Rattle.map65.specs.Names.{Base, EntryStartLaw, IsHighest, IsInner, IsReferenced, IsUncovered, NameLaw, ReferenceLaw, base_by, base_or, default_base, given_base, kind_by, place_in, refers_by, text_by}
 unfoldable pub use Rattle.map65.specs.Names.{base_at, entry_base, entry_start, has_name, is_referenced, kind_at, place_of, refers, text_at}
 pub use Rattle.map65.specs.Pieces.{AreAlike, AreOnePiece, AreOneRun, AreUnnamed, IsFirst, PieceLaw, RunLaw}
 unfoldable pub use Rattle.map65.specs.Pieces.{are_joined, is_in_run, is_joined, is_own}
-pub use Rattle.map65.specs.Roles.{is_role, is_skip, is_wide, role_of, unit_of}
+pub use Rattle.map65.specs.Roles.{is_skip, is_wide, role_of, unit_of}
 unfoldable pub use Rattle.map65.specs.Roles.{role_at, role_in}
 pub use Rattle.map65.specs.Segments.{borders}
 unfoldable pub use Rattle.map65.specs.Segments.{is_border, segment_at}

@@ -1,7 +1,7 @@
 //! A flag for each address.
 
-ghost use Rattle.std.specs.Prelude.{◌≡◌, ◌&&◌, ◌||◌, ◌==◌, not, min, nat_le, nat_lt, ℕ, IfOk, false};
-ghost use Rattle.map65.specs.Words.{is_marked};
+ghost use Rattle.std.specs.Prelude.{◌≡◌, ◌&&◌, ◌||◌, ◌==◌, not, ℕ, IfOk, false};
+ghost use Rattle.map65.specs.Words.{is_between, is_marked};
 
 use std::alloc::{AllocError, Allocator, Global};
 use std::marker::Model;
@@ -80,7 +80,7 @@ impl<A: Allocator> Marks<A> {
 
     /// Marks the addresses from `from` to before `to`, up to $FFFF.
     pub fn set_span(&mut self, from: usize, to: usize)
-        ensures { (a : ℕ) → is_marked self.new a ≡ (is_marked self.old a || (nat_le from a && nat_lt a (min to 65536))) }
+        ensures { (a : ℕ) → is_marked self.new a ≡ (is_marked self.old a || is_between from to a) }
     {
         'span: for at in from..to.min(65_536) {
             self.set(at as u16);

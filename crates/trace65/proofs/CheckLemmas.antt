@@ -2,7 +2,8 @@
 use Rattle.std.proofs.Common.{◌≡◌, ◌∙◌, ◌<◌, ◌+◌, ℕ, List, [], ◌∷◌, ◌++◌, get_or, length, take, ap, subst, sym, refl, arith, rules}
 use Rattle.std.proofs.lemmas.List.{append-nil, take_more}
 use Rattle.info65.specs.Words.{InfoView, NameView, blank_name, default_label, name_at}
-use Rattle.trace65.specs.Check.{AreMerged, Says, given, label, none}
+use Rattle.trace65.specs.Check.{given, label, none}
+use Rattle.trace65.specs.Words.{AreMerged, Says}
 
 -- one name more, which the base gives
 pub given_last : (n : NameView) {names : List NameView} {labels : List ℕ} {all : List NameView}

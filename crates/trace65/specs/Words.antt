@@ -3,6 +3,6 @@ pub use Rattle.trace65.specs.Command.{app, this_program}
 pub use Rattle.trace65.specs.Request.{addresses_in, asked_of, entries_given, options_with, parts_of}
 unfoldable pub use Rattle.trace65.specs.Request.{asked, asked_in, entries_in, traced_in}
 pub use Rattle.trace65.specs.Check.{AreMerged, Explains, Says}
-pub use Rattle.trace65.specs.Unshown.{lacks_item, unshown_items, unshown_lines}
+pub use Rattle.trace65.specs.Unshown.{unshown_items, unshown_lines}
 unfoldable pub use Rattle.trace65.specs.Unshown.{is_unshown, unshown_in, unshown_item}
-pub use Rattle.trace65.specs.Report.{AreFindings, Begins, HaveTheRest, IsAccepted, IsReadBack, IsWritten, after_file, flow_of, proposals, written}
+pub use Rattle.trace65.specs.Report.{AreFindings, Begins, HaveTheRest, IsAccepted, IsReadBack, IsWritten, flow_of, written}

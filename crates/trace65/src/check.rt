@@ -3,7 +3,7 @@
 ghost use Rattle.std.specs.Prelude.{◌≡◌, ◌≢◌, ◌++◌, IfErr, IfOk, IsTrue, Ok};
 ghost use Rattle.files65.specs.declared.failure.Failure.TheVariants.{Memory, Own};
 ghost use Rattle.info65.specs.Words.{default_label, given_seen, information, name_seen, segment_seen, segments_seen};
-ghost use Rattle.trace65.specs.Check.{AreMerged, Explains, Says};
+ghost use Rattle.trace65.specs.Words.{AreMerged, Explains, Says};
 
 use crate::failure::{Failure, Refused};
 use info65::{

@@ -80,7 +80,7 @@ fn ranges_by(
     taken: &Marks,
     pieces: &Pieces<'_, '_>,
 ) -> Result<Vec<RangeSpec>, AllocError>
-    ensures cover { IfOk result (λ ranges. HaveAllFree image.now (is_marked taken.now) ranges.items) }
+    ensures cover { IfOk result (λ list. HaveAllFree image.now (is_marked taken.now) list.items) }
     ensures inside { IfOk result (λ ranges. LieIn image.now ranges.items) }
     ensures apart { IfOk result (λ ranges. AreInOrder ranges.items) }
 {
@@ -94,7 +94,8 @@ fn propose_from<'a>(
     given: &[u16],
     reach: Reach<'a>,
 ) -> Result<Proposals, AllocError>
-    ensures cover { IfOk result (λ p. HaveAllFree flow.entry.now.map.image (is_marked reach.entry.taken.now) p.ranges.items) }
+    ensures cover { IfOk result (λ p.
+        HaveAllFree flow.entry.now.map.image (is_marked reach.entry.taken.now) p.ranges.items) }
     ensures inside { IfOk result (λ p. LieIn flow.entry.now.map.image p.ranges.items) }
     ensures apart { IfOk result (λ p. AreInOrder p.ranges.items) }
 {

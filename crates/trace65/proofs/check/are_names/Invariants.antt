@@ -1,5 +1,5 @@
 use Rattle.std.proofs.Common.{◌≤◌, length, take}
-use Rattle.trace65.specs.Check.{AreMerged}
+use Rattle.trace65.specs.Words.{AreMerged}
 use Rattle.trace65.proofs.check.are_names.Given as goal
 
 abbrev pub invariant-names : goal.invariant-names
