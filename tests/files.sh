@@ -45,7 +45,7 @@ printf 'v2 := $1008\n' >two.good
 printf '%s\n' '; da65 listing' '' '        .setcpu "6502"' '' 'v1              := $1007' 'v2              := $1008' '' \
     '        lda     v1' '        lda     v2' '        rts' >listing.good
 printf '%s\n' '# a character for 64 bytes: # code that is reached, + partly,' '# r in a range of the information file, . neither' \
-    '# $1000 #' '# 7 bytes of code that is reached, 0 in ranges, 0 in neither' '#: AFTER { START $1007; END $1008; };' >report.good
+    '# $1000 #' '# 7 bytes of code that is reached, 0 in ranges, 0 in neither' >report.good
 printf '$1006: EA -> 60, line 10: rts\n' >differences.good
 
 declare -A name
@@ -196,7 +196,10 @@ unusable_input() {
     [ $options = few ] || return
     begin
     [ $input != image ] || inform 0
-    sizes "$limit"
+    # What trace65 finds comes after its information file, and both together have that limit.
+    local most=$limit
+    [ "$tool $input" != 'trace65 info' ] || most=$((limit - 4096))
+    sizes "$most"
     go
     says "$input as large as it may be" $fine ''
     begin
@@ -690,7 +693,7 @@ calls_and_memory() {
     each_write
     [ $options = all ] || return
     counts da65 8 9 8 182808 190
-    counts trace65 8 22 1 2506159 181
+    counts trace65 8 22 1 2506159 215
     counts as65 6 4 1 56076 88
     counts compare 6 10 1 1710374 125
     counts name65 6 18 1 569668 127
