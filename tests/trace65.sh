@@ -227,7 +227,7 @@ proposes 'the monitor' \
 proposes 'the monitor with its information file' 'FE3B-FE42 ByteTable;FEA0-FEC1 ByteTable;FEC8-FED6 ByteTable;FFDF-FFF9 ByteTable;' \
     --plain -i examples/board/board.info
 proposes 'and with these routines as entries' \
-    'FFDF-FFE2 ByteTable;FFE3-FFE4 AddrTable;FFE5-FFE5 ByteTable;FFE6-FFE7 AddrTable;FFE8-FFF1 ByteTable;' \
+    'FFDF-FFE2 ByteTable;FFE3-FFE4 AddrTable;FFE5-FFE5 ByteTable;FFE6-FFE7 AddrTable;FFE8-FFF1 ByteTable;'\
 'FFF2-FFF3 AddrTable;FFF4-FFF9 ByteTable;' --plain -i examples/board/board.info --entry \
     0xFE3B,0xFEA0,0xFEAB,0xFED0
 
