@@ -1,6 +1,5 @@
-; An address to which a number is added, half by half, is not found today.
-; expect: code 20 of 20, constants as code 0 of 4, halves 0 right 0 wrong, rows 0 right 0 wrong, follows 0 of 2, wrong 0, runs 0 of 2
-; should be: follows 2 of 2
+; An address to which a number is added, half by half.
+; expect: code 20 of 20, constants as code 0 of 4, halves 1 right 0 wrong, rows 0 right 0 wrong, follows 2 of 2, wrong 0, runs 2 of 2
         .code
         lda     #$02
         clc

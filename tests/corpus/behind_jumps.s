@@ -1,4 +1,4 @@
-; A row of jumps right after the end of a routine, for others to call: each is a piece by itself, and they are too short today.
+; A row of jumps right after the end of a routine, for others to call: each is a piece by itself.
 ; expect: code 30 of 30, constants as code 0 of 0, halves 0 right 0 wrong, rows 0 right 0 wrong, follows 10 of 10, wrong 0, runs 5 of 5
         .code
         jsr     first

@@ -1,4 +1,4 @@
-; Words in a row that are addresses of texts are not found today.
+; Words in a row that are addresses of texts, which code reads through a pointer.
 ; expect: code 59 of 59, constants as code 0 of 17, halves 0 right 0 wrong, rows 1 right 0 wrong, follows 10 of 10, wrong 0, runs 5 of 5
         .code
         ldx     #$FF

@@ -1,4 +1,4 @@
-; Registers of the machine that lie right after the image are taken for its variables today.
+; Registers of the machine that lie right after the image are none of its variables.
 ; expect: code 12 of 12, constants as code 0 of 116, halves 0 right 0 wrong, rows 0 right 0 wrong, follows 0 of 0, wrong 0
 ; start: $CF80
         .code

@@ -1,4 +1,4 @@
-; The byte $2C in code that only halves lead to: instructions that share bytes are no sound beginning today.
+; The byte $2C in code that only halves lead to.
 ; expect: code 23 of 23, constants as code 0 of 1, halves 1 right 0 wrong, rows 0 right 0 wrong, follows 2 of 2, wrong 0, runs 3 of 3
         .code
         lda     #<routine

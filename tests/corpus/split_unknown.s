@@ -1,4 +1,4 @@
-; A table of low halves and one of high halves, of which nothing is said, are not found today.
+; A table of low halves and one of high halves, of which nothing is said.
 ; expect: code 47 of 47, constants as code 0 of 6, halves 0 right 0 wrong, rows 0 right 0 wrong, follows 12 of 12, wrong 0, runs 7 of 7
         .code
         ldx     #$02

@@ -1,4 +1,4 @@
-; A jump into the zero page, where another program has left a routine: what leads to it is not found today.
+; A jump into the zero page, to which the program has copied a routine.
 ; expect: code 37 of 37, constants as code 0 of 2, halves 2 right 0 wrong, rows 0 right 0 wrong, follows 4 of 4, wrong 0, runs 4 of 4
         .code
         lda     #$4C

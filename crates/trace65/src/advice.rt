@@ -6,20 +6,25 @@ use reach65::Flow;
 use reach65::rules::bytes::ends;
 use reach65::rules::entries::entries_of;
 use reach65::rules::ground::Ground;
-use reach65::rules::growth::follow;
+use reach65::rules::growth::{Followed, follow};
 use reach65::rules::halves::{Halves, Pair, halves_of};
 use reach65::rules::labels::labels_of;
 use reach65::rules::loads::mark_loaded;
+use reach65::rules::obstacles::Stops;
 use reach65::rules::orphans::mark_orphans;
 use reach65::rules::readers::tables_of;
 use reach65::rules::rows::mark_rows;
+use reach65::rules::step::Steps;
 use reach65::rules::survey::Survey;
 use reach65::rules::tables::{Split, mark_tables};
 use reach65::rules::variables::variables_of;
 use reach65::rules::vectors::mark_vectors;
 use std::alloc::{AllocError, Global};
 
-/// Marks of what is reached in an image.
+/// How far behind the image and its variables an address in halves may lie.
+const PAGE: usize = 256;
+
+/// Marks of what is reached in an image, and what kept more from being reached.
 #[derive(Clone, Copy)]
 pub struct Reach<'a> {
     /// A reached instruction begins at the address.
@@ -28,14 +33,18 @@ pub struct Reach<'a> {
     pub code: &'a Marks,
     /// One has it, or a range of the information file.
     pub taken: &'a Marks,
+    pub stops: &'a Stops,
 }
 
 /// What is found of an image.
 #[derive(Drop)]
 pub struct Advice<'a, 'f, 'm> {
     pub flow: &'a Flow<'f, 'm>,
+    pub steps: &'a Steps<'f, 'm>,
     /// What the ranges of the information file and reached instructions have.
     pub taken: &'a Marks,
+    /// What keeps bytes from being code.
+    pub stops: &'a Stops,
     /// What reached instructions do with addresses.
     pub survey: Survey<'a>,
     /// What nothing speaks for, with the words among it.
@@ -67,15 +76,18 @@ pub fn given_entries(alloc: Global, given: &[u16], tags: &[Tag]) -> Result<Vec<u
 /// them. Fails only if an allocation failed.
 pub fn entries(
     alloc: Global,
-    flow: &Flow<'_, '_>,
+    steps: &Steps<'_, '_>,
     given: &[u16],
     plain: bool,
-) -> Result<Vec<u16>, AllocError> {
-    let entries = entries_of(alloc, flow.map(), given, plain)?;
+) -> Result<Followed, AllocError> {
+    let entries = entries_of(alloc, steps.map(), given, plain)?;
     if plain {
-        return Ok(entries);
+        return Ok(Followed {
+            entries,
+            stops: Stops::none(alloc)?,
+        });
     }
-    follow(alloc, flow, &entries)
+    follow(alloc, steps, &entries)
 }
 
 /// The places of the bytes that groups HALVES of the information file have.
@@ -99,15 +111,17 @@ impl<'a, 'f, 'm: 'a> Advice<'a, 'f, 'm> {
     pub fn of(
         alloc: Global,
         flow: &'a Flow<'f, 'm>,
+        steps: &'a Steps<'f, 'm>,
         reach: Reach<'a>,
     ) -> Result<Advice<'a, 'f, 'm>, AllocError> {
         let Reach {
             reached,
             code,
             taken,
+            stops,
         } = reach;
         let image = flow.map().image();
-        let survey = Survey::of(alloc, flow, reached, code)?;
+        let survey = Survey::of(alloc, steps, reached, code)?;
         let said = said_places(alloc, flow.tags())?;
         let mut ground = Ground::of(
             alloc,
@@ -116,17 +130,22 @@ impl<'a, 'f, 'm: 'a> Advice<'a, 'f, 'm> {
             said.copy(alloc)?,
             survey.texts.copy(alloc)?,
         )?;
-        mark_vectors(&mut ground.words, image, reached, taken);
-        let tables = tables_of(alloc, flow, reached)?;
+        mark_vectors(&mut ground, reached);
+        let tables = tables_of(alloc, steps, reached)?;
         let splits = mark_tables(alloc, &mut ground, &survey, &tables)?;
         mark_rows(&mut ground, &survey);
+        let variables = variables_of(alloc, flow.map(), &survey)?;
+        let (_, end) = ends(image);
+        let behind = match variables.last() {
+            Some(&last) => usize::from(last),
+            None => end,
+        };
         let Halves {
             sure: pairs,
             likely,
-        } = halves_of(alloc, flow, &survey, said)?;
-        mark_loaded(&mut ground, flow, &survey);
+        } = halves_of(alloc, steps, &survey, said, behind.saturating_add(PAGE))?;
+        mark_loaded(&mut ground, steps, &survey);
         mark_orphans(alloc, &mut ground, &survey, &pairs)?;
-        let variables = variables_of(alloc, flow.map(), &survey)?;
         let mut others = Vec::from_slice(alloc, &variables)?;
         for split in &splits {
             for index in 0..split.count {
@@ -138,7 +157,9 @@ impl<'a, 'f, 'm: 'a> Advice<'a, 'f, 'm> {
         let labels = labels_of(alloc, flow.map().info(), &pairs, &others)?;
         Ok(Advice {
             flow,
+            steps,
             taken,
+            stops,
             survey,
             ground,
             pairs,

@@ -14,7 +14,10 @@ use crate::text::put_text;
 use crate::unshown::{put_unshown, unshown_of};
 use info65::{Info, Options, RangeSpec, Tag};
 use map65::{Image, Map, Marks};
+use reach65::rules::growth::Followed;
+use reach65::rules::obstacles::Stops;
 use reach65::rules::pieces::Pieces;
+use reach65::rules::step::Steps;
 use reach65::{Flow, code_of, ranges_of, reached, taken_of};
 use std::alloc::{AllocError, Global};
 
@@ -51,18 +54,22 @@ pub struct Report {
     pub text: Vec<u8>,
 }
 
-/// The entries that are given, and then all entries.
+/// The entries that are given, and then all entries; and what kept others from joining them.
 fn all_entries(
     alloc: Global,
-    flow: &Flow<'_, '_>,
+    steps: &Steps<'_, '_>,
     tracing: &Tracing,
     given: &[u16],
-) -> Result<Vec<u16>, AllocError>
-    ensures { IfOk result (λ all. Begins all.items tracing.now.entries.items) }
+) -> Result<Followed, AllocError>
+    ensures { IfOk result (λ all. Begins all.entries.items tracing.now.entries.items) }
 {
     let mut all = Vec::from_slice(alloc, &tracing.entries)?;
-    all.extend_from_slice(&entries(alloc, flow, given, tracing.plain)?)?;
-    Ok(all)
+    let Followed { entries, stops } = entries(alloc, steps, given, tracing.plain)?;
+    all.extend_from_slice(&entries)?;
+    Ok(Followed {
+        entries: all,
+        stops,
+    })
 }
 
 /// What is proposed of an image.
@@ -88,9 +95,10 @@ fn ranges_by(
 }
 
 /// Looks at an image of which this is reached. Fails only if an allocation failed.
-fn propose_from<'a>(
+fn propose_from<'a, 'f, 'm>(
     alloc: Global,
-    flow: &'a Flow<'_, '_>,
+    flow: &'a Flow<'f, 'm>,
+    steps: &'a Steps<'f, 'm>,
     given: &[u16],
     reach: Reach<'a>,
 ) -> Result<Proposals, AllocError>
@@ -99,7 +107,7 @@ fn propose_from<'a>(
     ensures inside { IfOk result (λ p. LieIn flow.entry.now.map.image p.ranges.items) }
     ensures apart { IfOk result (λ p. AreInOrder p.ranges.items) }
 {
-    let advice = Advice::of(alloc, flow, reach)?;
+    let advice = Advice::of(alloc, flow, steps, reach)?;
     let pieces = Pieces::of(alloc, &advice.ground)?;
     let ranges = ranges_by(alloc, flow.map().image(), reach.taken, &pieces)?;
     let mut text = Vec::new(alloc);
@@ -113,11 +121,13 @@ fn propose_from<'a>(
 }
 
 /// Looks at an image of which these instructions are reached. Fails only if an allocation failed.
-fn propose(
+fn propose<'f, 'm>(
     alloc: Global,
-    flow: &Flow<'_, '_>,
+    flow: &Flow<'f, 'm>,
+    steps: &Steps<'f, 'm>,
     given: &[u16],
     reached: &Marks,
+    stops: &Stops,
 ) -> Result<Proposals, AllocError>
     ensures cover { IfOk result (λ p. HaveTheRest flow.now.map reached.now p.ranges.items) }
     ensures inside { IfOk result (λ p. LieIn flow.now.map.image p.ranges.items) }
@@ -129,8 +139,9 @@ fn propose(
         reached,
         code: &code,
         taken: &taken,
+        stops,
     };
-    propose_from(alloc, flow, given, reach)
+    propose_from(alloc, flow, steps, given, reach)
 }
 
 /// Looks at an image. Fails only if an allocation failed.
@@ -138,13 +149,14 @@ fn find(alloc: Global, flow: &Flow<'_, '_>, tracing: &Tracing) -> Result<Finding
     ensures { IfOk result (AreFindings flow.now tracing.now) }
 {
     let given = given_entries(alloc, &tracing.entries, flow.tags())?;
-    let entries = all_entries(alloc, flow, tracing, &given)?;
+    let steps = Steps::of(alloc, flow)?;
+    let Followed { entries, stops } = all_entries(alloc, &steps, tracing, &given)?;
     let reached = reached(alloc, flow, &entries)?;
     let Proposals {
         ranges,
         labels,
         text,
-    } = propose(alloc, flow, &given, &reached)?;
+    } = propose(alloc, flow, &steps, &given, &reached, &stops)?;
     Ok(Findings {
         entries,
         reached,

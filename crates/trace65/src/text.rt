@@ -7,6 +7,7 @@ pub mod misplaced;
 pub mod moves;
 pub mod picture;
 pub mod ranges;
+pub mod stops;
 pub mod tables;
 
 use crate::advice::Advice;
@@ -32,5 +33,6 @@ pub fn put_text(
     moves::put_likely(out, advice)?;
     tables::put_pointers(out, advice)?;
     likely::put_words(out, advice)?;
-    calls::put_calls(out, alloc, advice)
+    calls::put_calls(out, alloc, advice)?;
+    stops::put_stops(out, advice)
 }

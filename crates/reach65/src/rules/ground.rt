@@ -1,7 +1,7 @@
 //! The addresses of an image that nothing speaks for, and the words among them that are addresses.
 
-use crate::rules::bytes::word;
-use map65::{Image, Marks, is_inside};
+use crate::rules::bytes::{ends, word};
+use map65::{ADDRESSES, Image, Marks, is_inside};
 use std::alloc::{AllocError, Global};
 
 /// An image, and marks of its addresses.
@@ -18,10 +18,20 @@ pub struct Ground<'i> {
     pub texts: Marks,
     /// It is one half of an address in a table of halves.
     pub numbers: Marks,
+    /// It is in the image, and none of these has it, but a text may.
+    plain: Marks,
+}
+
+/// Clears the marks of the addresses from one to before another.
+fn clear_span(marks: &mut Marks, from: usize, to: usize) {
+    for at in from..to.min(ADDRESSES) {
+        marks.clear(at as u16);
+    }
 }
 
 impl<'i> Ground<'i> {
-    /// Returns an image without words, of which these bytes are halves of addresses, and texts are known to begin here. Fails only if an allocation failed.
+    /// Returns an image without words, of which these bytes are halves of addresses, and texts are known to begin here. Fails only if an
+    /// allocation failed.
     pub fn of(
         alloc: Global,
         image: &'i Image,
@@ -29,6 +39,13 @@ impl<'i> Ground<'i> {
         numbers: Marks,
         texts: Marks,
     ) -> Result<Ground<'i>, AllocError> {
+        let mut plain = Marks::none(alloc)?;
+        let (start, end) = ends(image);
+        for at in start..end {
+            if !taken.get_at(at) && !numbers.get_at(at) {
+                plain.set_span(at, at.saturating_add(1));
+            }
+        }
         Ok(Ground {
             image,
             taken,
@@ -36,7 +53,24 @@ impl<'i> Ground<'i> {
             returns: Marks::none(alloc)?,
             texts,
             numbers,
+            plain,
         })
+    }
+
+    /// Marks the addresses from one to before another as those of words that are addresses, or addresses less one.
+    pub fn put_words(&mut self, less: u16, from: usize, to: usize) {
+        if less == 0 {
+            self.words.set_span(from, to);
+        } else {
+            self.returns.set_span(from, to);
+        }
+        clear_span(&mut self.plain, from, to);
+    }
+
+    /// Marks the addresses from one to before another as halves of addresses.
+    pub fn put_numbers(&mut self, from: usize, to: usize) {
+        self.numbers.set_span(from, to);
+        clear_span(&mut self.plain, from, to);
     }
 
     /// Returns whether the address, which may lie past $FFFF, is one of the image that nothing speaks for.
@@ -46,16 +80,12 @@ impl<'i> Ground<'i> {
 
     /// Returns whether it is such an address, of no word and no half.
     pub fn is_plain(&self, at: usize) -> bool {
-        self.is_free(at)
-            && !self.words.get_at(at)
-            && !self.returns.get_at(at)
-            && !self.numbers.get_at(at)
+        self.plain.get_at(at)
     }
 
     /// Returns the word at the address, low byte first, if both bytes are plain.
     pub fn word(&self, at: usize) -> Option<u16> {
-        let after = at.checked_add(1)?;
-        if self.is_plain(at) && self.is_plain(after) {
+        if self.plain.get_at(at) && self.plain.get_at(at.checked_add(1)?) {
             word(self.image, at)
         } else {
             None

@@ -1,12 +1,12 @@
 //! Which other addresses join the entries.
 
-use crate::flow::Flow;
 use crate::rules::entries::pointers_of;
 use crate::rules::halves::{Pair, is_load, put_pairs_at};
+use crate::rules::jumps::join_jumps;
+use crate::rules::obstacles::{Stops, worst_of};
 use crate::rules::readers::tables_of;
 use crate::rules::search::{Least, Search};
-use crate::rules::sound::has_code;
-use crate::rules::step::step_at;
+use crate::rules::step::Steps;
 use crate::rules::words::Words;
 use map65::ADDRESSES;
 use std::alloc::{AllocError, Global};
@@ -37,7 +37,7 @@ fn put_candidate(
     address: u16,
     behind: bool,
 ) -> Result<(), AllocError> {
-    if !has_code(search.flow, &search.marks, address) && !search.marks.get(address) {
+    if !search.code.get(address) && !search.marks.get(address) {
         found.push(Candidate { address, behind })?;
     }
     Ok(())
@@ -50,14 +50,16 @@ fn put_candidates_of(
     search: &Search<'_, '_, '_>,
     reason: u16,
 ) -> Result<(), AllocError> {
-    let Some(step) = step_at(search.flow, reason) else {
+    let Some(step) = search.steps.at(reason) else {
         return Ok(());
     };
     if is_load(step.op) {
         pairs.clear();
-        put_pairs_at(pairs, search.flow, &search.marks, reason)?;
+        put_pairs_at(pairs, search.steps, &search.marks, reason)?;
         for pair in pairs.as_slice() {
-            put_candidate(found, search, pair.address, false)?;
+            if pair.is_plausible() {
+                put_candidate(found, search, pair.address, false)?;
+            }
         }
     }
     if let Some(end) = step.end
@@ -72,9 +74,9 @@ fn put_candidates_of(
 fn piece_end(search: &Search<'_, '_, '_>, address: u16) -> Option<u16> {
     let mut at = address;
     for _ in 0..ADDRESSES {
-        let step = step_at(search.flow, at)?;
+        let step = search.steps.at(at)?;
         let end = u16::try_from(step.end?).ok()?;
-        if step.next.is_none() || has_code(search.flow, &search.marks, end) {
+        if step.next.is_none() || search.code.get(end) {
             return Some(end);
         }
         at = end;
@@ -99,7 +101,7 @@ fn chain_of(
                 Vec::new(alloc)
             });
         }
-        if has_code(search.flow, &search.marks, at) || !search.would_join(at, Least::Count(1))? {
+        if search.code.get(at) || !search.would_join(at, Least::Count(1))? {
             break;
         }
         pieces.push(at)?;
@@ -184,8 +186,8 @@ fn grow(alloc: Global, search: &mut Search<'_, '_, '_>, fresh: Vec<u16>) -> Resu
 /// reached from them.
 fn join_tables(alloc: Global, search: &mut Search<'_, '_, '_>) -> Result<Vec<u16>, AllocError> {
     let mut fresh = Vec::new(alloc);
-    let image = search.flow.map().image();
-    for &table in &tables_of(alloc, search.flow, &search.marks)? {
+    let image = search.steps.image();
+    for &table in &tables_of(alloc, search.steps, &search.marks)? {
         if !table.is_code {
             continue;
         }
@@ -194,7 +196,7 @@ fn join_tables(alloc: Global, search: &mut Search<'_, '_, '_>) -> Result<Vec<u16
             let Some(to) = table.entry(image, index) else {
                 break;
             };
-            if is_code_at(search, low) || is_code_at(search, high) {
+            if search.code.get_at(low) || search.code.get_at(high) {
                 break;
             }
             if search.marks.get(to) {
@@ -209,26 +211,30 @@ fn join_tables(alloc: Global, search: &mut Search<'_, '_, '_>) -> Result<Vec<u16
     Ok(fresh)
 }
 
-/// Whether a reached instruction has the address.
-fn is_code_at(search: &Search<'_, '_, '_>, at: usize) -> bool {
-    match u16::try_from(at) {
-        Ok(address) => has_code(search.flow, &search.marks, address),
-        Err(_) => true,
-    }
+/// The entries with those that join, and what kept others from joining.
+#[derive(Drop)]
+pub struct Followed {
+    pub entries: Vec<u16>,
+    pub stops: Stops,
 }
 
 /// Returns the entries, and then those that join: the sound beginnings among what the tables of the information file refer to, those
-/// right behind a reached instruction and its text, those whose address reached code has in halves, and those among the words of rows. The
+/// right behind a reached instruction and its text, those whose address reached code has in halves, those to which tables that it reads
+/// lead, and those among the words of rows and in rows of jumps. The
 /// time grows with the number of addresses that are reached. Fails only if an allocation failed.
-pub fn follow(alloc: Global, flow: &Flow<'_, '_>, entries: &[u16]) -> Result<Vec<u16>, AllocError> {
-    let mut search = Search::from(alloc, flow, entries)?;
+pub fn follow(
+    alloc: Global,
+    steps: &Steps<'_, '_>,
+    entries: &[u16],
+) -> Result<Followed, AllocError> {
+    let mut search = Search::from(alloc, steps, entries)?;
     let mut fresh = Vec::from_slice(alloc, search.added.as_slice())?;
-    for &address in &pointers_of(alloc, flow.map())? {
+    for &address in &pointers_of(alloc, steps.map())? {
         if search.join(address, Least::Count(1))? {
             fresh.extend_from_slice(search.added.as_slice())?;
         }
     }
-    let info = flow.map().info();
+    let info = steps.map().info();
     for k in 0..info.given_count() {
         let address = info.given(k).address;
         if search.join(address, Least::Count(LEAST))? {
@@ -236,10 +242,11 @@ pub fn follow(alloc: Global, flow: &Flow<'_, '_>, entries: &[u16]) -> Result<Vec
         }
     }
     grow(alloc, &mut search, fresh)?;
-    let words = Words::of(alloc, flow, &search.marks)?;
+    let words = Words::of(alloc, &search)?;
     for _scan in 0..SCANS {
         let mut fresh = join_tables(alloc, &mut search)?;
         fresh.extend_from_slice(&words.join_rows(alloc, &mut search)?)?;
+        fresh.extend_from_slice(&join_jumps(alloc, &mut search)?)?;
         let behind = words.behind_rows(alloc, &search)?;
         let more = join_candidates(alloc, &mut search, &[], &behind)?;
         fresh.extend_from_slice(&more)?;
@@ -248,5 +255,10 @@ pub fn follow(alloc: Global, flow: &Flow<'_, '_>, entries: &[u16]) -> Result<Vec
         }
         grow(alloc, &mut search, fresh)?;
     }
-    Ok(search.entries)
+    let obstacles = worst_of(alloc, &search.obstacles)?;
+    let Search { entries, calls, .. } = search;
+    Ok(Followed {
+        entries,
+        stops: Stops { obstacles, calls },
+    })
 }

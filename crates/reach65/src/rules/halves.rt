@@ -1,9 +1,8 @@
 //! Addresses that code loads in halves.
 
-use crate::flow::Flow;
-use crate::rules::bytes::{byte, ends};
+use crate::rules::bytes::{address, byte, ends};
 use crate::rules::sound::is_overlapped;
-use crate::rules::step::{Step, step_at};
+use crate::rules::step::Steps;
 use crate::rules::survey::Survey;
 use isa65::{Mnemonic, Mode, Op};
 use map65::{Image, Marks};
@@ -22,8 +21,19 @@ pub struct Pair {
     /// The address that they form.
     pub address: u16,
     /// How likely it is meant, if other pairs have one of its bytes: of two the one of the lower rank is likelier. It is 0 for bytes
-    /// that are stored to neighbours, and 1 to 6 by the registers otherwise.
+    /// that are stored to neighbours, 1 to 6 by the registers, 7 through a pointer, and 8 for bytes that are added.
     rank: u8,
+}
+
+impl Pair {
+    /// Returns whether it is an address more often than two numbers: its low half is not zero, its high half is not in A if the low one is in X or
+    /// Y, and it is not in Y and then X.
+    pub fn is_plausible(&self) -> bool {
+        self.address % 256 != 0
+            && self.rank != 4
+            && self.rank != 5
+            && !(self.rank == 6 && self.low < self.high)
+    }
 }
 
 /// A register that an immediate can be loaded into.
@@ -59,26 +69,16 @@ fn stored(op: Op) -> Option<Register> {
     }
 }
 
-/// The marked instruction that begins at the address.
-fn marked_at(flow: &Flow<'_, '_>, marks: &Marks, at: usize) -> Option<Step> {
-    let address = u16::try_from(at).ok()?;
-    if marks.get(address) {
-        step_at(flow, address)
-    } else {
-        None
-    }
-}
-
 /// The register that the marked instruction of the address loads with an immediate.
-fn load_at(flow: &Flow<'_, '_>, marks: &Marks, at: usize) -> Option<Register> {
-    loaded(marked_at(flow, marks, at)?.op)
+fn load_at(steps: &Steps<'_, '_>, marks: &Marks, at: usize) -> Option<Register> {
+    loaded(steps.marked(marks, at)?.op)
 }
 
 /// The register that the marked instruction of the address stores, the address that it stores it to, and the one after the instruction.
-fn store_at(flow: &Flow<'_, '_>, marks: &Marks, at: usize) -> Option<(Register, usize, usize)> {
-    let step = marked_at(flow, marks, at)?;
+fn store_at(steps: &Steps<'_, '_>, marks: &Marks, at: usize) -> Option<(Register, usize, usize)> {
+    let step = steps.marked(marks, at)?;
     let register = stored(step.op)?;
-    let image = flow.map().image();
+    let image = steps.image();
     let low = byte(image, at.saturating_add(1))?;
     let to = match step.op.mode {
         Mode::Zp => u16::from(low),
@@ -88,7 +88,7 @@ fn store_at(flow: &Flow<'_, '_>, marks: &Marks, at: usize) -> Option<(Register, 
     Some((register, usize::from(to), at.saturating_add(step.len())))
 }
 
-/// Adds the pair of this rank with its bytes at these places, if they form an address of the image, or one of the 256 after it.
+/// Adds the pair of this rank with its bytes at these places, if they form an address that does not lie before the image.
 fn put_joined(
     found: &mut Vec<Pair>,
     image: &Image,
@@ -103,8 +103,7 @@ fn put_joined(
         return Ok(());
     };
     let address = u16::from_le_bytes([low_byte, high_byte]);
-    let (start, end) = ends(image);
-    if start <= usize::from(address) && usize::from(address) < end.saturating_add(256) {
+    if image.start() <= address {
         found.push(Pair {
             low,
             high,
@@ -131,17 +130,17 @@ fn rank_of(low: Register, high: Register) -> u8 {
 /// a load and a store, and the same again of the same register and to a neighbour.
 pub fn put_pairs_at(
     found: &mut Vec<Pair>,
-    flow: &Flow<'_, '_>,
+    steps: &Steps<'_, '_>,
     marks: &Marks,
     address: u16,
 ) -> Result<(), AllocError> {
-    let image = flow.map().image();
+    let image = steps.image();
     let at = usize::from(address);
     let place = at.saturating_add(1);
-    let Some(first) = load_at(flow, marks, at) else {
+    let Some(first) = load_at(steps, marks, at) else {
         return Ok(());
     };
-    if let Some(second) = load_at(flow, marks, at.saturating_add(2))
+    if let Some(second) = load_at(steps, marks, at.saturating_add(2))
         && first != second
     {
         put_joined(
@@ -159,13 +158,13 @@ pub fn put_pairs_at(
             place,
         )?;
     }
-    let Some((register, to, then)) = store_at(flow, marks, at.saturating_add(2)) else {
+    let Some((register, to, then)) = store_at(steps, marks, at.saturating_add(2)) else {
         return Ok(());
     };
-    let Some((other, other_to, _)) = store_at(flow, marks, then.saturating_add(2)) else {
+    let Some((other, other_to, _)) = store_at(steps, marks, then.saturating_add(2)) else {
         return Ok(());
     };
-    if register != first || other != first || load_at(flow, marks, then) != Some(first) {
+    if register != first || other != first || load_at(steps, marks, then) != Some(first) {
         return Ok(());
     }
     let other_place = then.saturating_add(1);
@@ -178,26 +177,28 @@ pub fn put_pairs_at(
 }
 
 /// Adds the pair that is stored through a pointer, of which the first load is at the address: `lda #`, `sta (p),y`, and the same again after one
-/// `iny` or `dey`, with other instructions between them.
+/// `iny` or `dey`, with other instructions between them. A `ldy #` may stand before the first store.
 fn put_by_pointer(
     found: &mut Vec<Pair>,
-    flow: &Flow<'_, '_>,
+    steps: &Steps<'_, '_>,
     marks: &Marks,
-    address: u16,
+    at: usize,
 ) -> Result<(), AllocError> {
-    let image = flow.map().image();
-    let at = usize::from(address);
-    if load_at(flow, marks, at) != Some(Register::A) {
+    if load_at(steps, marks, at) != Some(Register::A) {
         return Ok(());
     }
-    let Some(pointer) = stored_through(flow, marks, at + 2) else {
+    let mut store = at.saturating_add(2);
+    if load_at(steps, marks, store) == Some(Register::Y) {
+        store = store.saturating_add(2);
+    }
+    let Some(pointer) = stored_through(steps, marks, store) else {
         return Ok(());
     };
-    let mut then = at + 4;
+    let mut then = store.saturating_add(2);
     let mut up = 0u8;
     let mut down = 0u8;
     for _ in 0..BETWEEN {
-        let Some(step) = marked_at(flow, marks, then) else {
+        let Some(step) = steps.marked(marks, then) else {
             return Ok(());
         };
         match step.op.mnemonic {
@@ -205,29 +206,17 @@ fn put_by_pointer(
             Mnemonic::Dey => down = down.saturating_add(1),
             _ => {}
         }
-        if load_at(flow, marks, then) == Some(Register::A) {
-            if stored_through(flow, marks, then.saturating_add(2)) == Some(pointer) {
-                if up == down.saturating_add(1) {
-                    put_joined(
-                        found,
-                        image,
-                        7,
-                        at.saturating_add(1),
-                        then.saturating_add(1),
-                    )?;
-                } else if down == up.saturating_add(1) {
-                    put_joined(
-                        found,
-                        image,
-                        7,
-                        then.saturating_add(1),
-                        at.saturating_add(1),
-                    )?;
-                }
+        if load_at(steps, marks, then) == Some(Register::A) {
+            let again = stored_through(steps, marks, then.saturating_add(2)) == Some(pointer);
+            let (one, other) = (at.saturating_add(1), then.saturating_add(1));
+            if again && up == down.saturating_add(1) {
+                put_joined(found, steps.image(), 7, one, other)?;
+            } else if again && down == up.saturating_add(1) {
+                put_joined(found, steps.image(), 7, other, one)?;
             }
             return Ok(());
         }
-        if step.goal.is_some() || step.next.is_none() {
+        if step.op.mnemonic == Mnemonic::Jsr || step.next.is_none() {
             return Ok(());
         }
         then = then.saturating_add(step.len());
@@ -235,42 +224,90 @@ fn put_by_pointer(
     Ok(())
 }
 
+/// Adds the pair that is added to a number, of which the first half is at the address: `clc`, `adc #`, and `adc #` again, with one instruction
+/// between them that takes the low half away, and one that brings the high half of the number.
+fn put_added(
+    found: &mut Vec<Pair>,
+    steps: &Steps<'_, '_>,
+    marks: &Marks,
+    at: usize,
+) -> Result<(), AllocError> {
+    let place = at.saturating_add(1);
+    if !adds(steps, marks, place) {
+        return Ok(());
+    }
+    let mut then = at.saturating_add(3);
+    for _ in 0..2 {
+        match steps.marked(marks, then) {
+            Some(step) if keeps_carry(step.op) => then = then.saturating_add(step.len()),
+            _ => return Ok(()),
+        }
+    }
+    if adds(steps, marks, then) {
+        put_joined(
+            found,
+            steps.image(),
+            8,
+            place.saturating_add(1),
+            then.saturating_add(1),
+        )?;
+    }
+    Ok(())
+}
+
+/// Whether the marked instruction of the address adds an immediate.
+fn adds(steps: &Steps<'_, '_>, marks: &Marks, at: usize) -> bool {
+    match steps.marked(marks, at) {
+        Some(step) => step.op.mnemonic == Mnemonic::Adc && step.op.mode == Mode::Imm,
+        None => false,
+    }
+}
+
+/// Whether the instruction moves a byte, and leaves the carry.
+fn keeps_carry(op: Op) -> bool {
+    matches!(
+        op.mnemonic,
+        Mnemonic::Sta
+            | Mnemonic::Tax
+            | Mnemonic::Tay
+            | Mnemonic::Pha
+            | Mnemonic::Lda
+            | Mnemonic::Txa
+            | Mnemonic::Tya
+            | Mnemonic::Pla
+    )
+}
+
 /// The pointer in the zero page through which the marked instruction of the address stores A.
-fn stored_through(flow: &Flow<'_, '_>, marks: &Marks, at: usize) -> Option<u8> {
-    let step = marked_at(flow, marks, at)?;
+fn stored_through(steps: &Steps<'_, '_>, marks: &Marks, at: usize) -> Option<u8> {
+    let step = steps.marked(marks, at)?;
     if step.op.mnemonic == Mnemonic::Sta && step.op.mode == Mode::Indy {
-        byte(flow.map().image(), at.saturating_add(1))
+        byte(steps.image(), at.saturating_add(1))
     } else {
         None
     }
 }
 
 /// Whether code from elsewhere enters between the two loads, or an instruction between them shares a byte with another one.
-fn is_broken(flow: &Flow<'_, '_>, survey: &Survey<'_>, pair: Pair) -> bool {
+fn is_broken(steps: &Steps<'_, '_>, survey: &Survey<'_>, pair: Pair) -> bool {
     let first = pair.low.min(pair.high).saturating_sub(1);
     let second = pair.low.max(pair.high).saturating_sub(1);
     for at in first..second.saturating_add(1) {
         let inside = at != first && survey.goals.get(at);
-        if survey.reached.get(at) && (inside || is_overlapped(flow, survey.reached, at)) {
+        if survey.reached.get(at) && (inside || is_overlapped(steps, survey.reached, at)) {
             return true;
         }
     }
     false
 }
 
-/// Whether a pair is sure to be meant as an address: no name with a SIZE covers it from before, its low half is not zero, its high half is not in A
-/// if the low one is in X or Y, and nothing breaks it.
-fn is_sure(flow: &Flow<'_, '_>, survey: &Survey<'_>, pair: Pair) -> bool {
-    let named = match flow.map().info().covering(pair.address) {
+/// Whether a pair is sure to be meant as an address: no name with a SIZE covers it from before, and nothing breaks it.
+fn is_sure(steps: &Steps<'_, '_>, survey: &Survey<'_>, pair: Pair) -> bool {
+    let named = match steps.map().info().covering(pair.address) {
         Some(name) => name.address == pair.address,
         None => true,
     };
-    named
-        && pair.address % 256 != 0
-        && pair.rank != 4
-        && pair.rank != 5
-        && !(pair.rank == 6 && pair.low < pair.high)
-        && !is_broken(flow, survey, pair)
+    named && pair.is_plausible() && !is_broken(steps, survey, pair)
 }
 
 /// The pairs that are an address, and those that may be one.
@@ -280,52 +317,69 @@ pub struct Halves {
     pub likely: Vec<Pair>,
 }
 
-/// The pairs of immediates in reached code.
-fn pairs_of(alloc: Global, flow: &Flow<'_, '_>, reached: &Marks) -> Result<Vec<Pair>, AllocError> {
+/// The pairs of immediates in reached code that may be an address before `limit`, from the lowest rank on.
+fn pairs_of(
+    alloc: Global,
+    steps: &Steps<'_, '_>,
+    survey: &Survey<'_>,
+    limit: usize,
+) -> Result<Vec<Pair>, AllocError> {
+    let reached = survey.reached;
     let mut pairs = Vec::new(alloc);
-    let (start, end) = ends(flow.map().image());
+    let mut here = Vec::new(alloc);
+    let (start, end) = ends(steps.image());
     for at in start..end {
-        if let Ok(address) = u16::try_from(at)
-            && reached.get(address)
+        let Some(step) = steps.marked(reached, at) else {
+            continue;
+        };
+        here.clear();
+        if step.op.mnemonic == Mnemonic::Clc {
+            put_added(&mut here, steps, reached, at)?;
+        }
+        if is_load(step.op)
+            && let Some(address) = address(at)
         {
-            put_pairs_at(&mut pairs, flow, reached, address)?;
-            put_by_pointer(&mut pairs, flow, reached, address)?;
+            put_pairs_at(&mut here, steps, reached, address)?;
+            put_by_pointer(&mut here, steps, reached, at)?;
+        }
+        for &pair in here.as_slice() {
+            if usize::from(pair.address) < limit && survey.is_likely(pair.address) {
+                pairs.push(pair)?;
+            }
         }
     }
+    pairs.sort_by_key(|pair| pair.rank)?;
     Ok(pairs)
 }
 
 /// Returns each pair of immediates in reached code that is an address, by the places of their low bytes: no reached instruction has that
-/// address, or a routine begins there; each byte is in one pair, of two the likelier; and none is at a place that `said` has. A pair that is not
-/// sure is only likely. Fails only if an allocation failed.
+/// address, or a routine begins there; it lies before `limit`; each byte is in one pair, of two the likelier; and none is at a place that `said`
+/// has. A pair that is not sure is only likely. Fails only if an allocation failed.
 pub fn halves_of(
     alloc: Global,
-    flow: &Flow<'_, '_>,
+    steps: &Steps<'_, '_>,
     survey: &Survey<'_>,
     said: Marks,
+    limit: usize,
 ) -> Result<Halves, AllocError> {
-    let pairs = pairs_of(alloc, flow, survey.reached)?;
+    let pairs = pairs_of(alloc, steps, survey, limit)?;
     let mut used = said;
     let mut sure = Vec::new(alloc);
     let mut likely = Vec::new(alloc);
     for is_last in [false, true] {
-        for rank in 0..8u8 {
-            for &pair in pairs.as_slice() {
-                if pair.rank != rank
-                    || used.get(pair.low)
-                    || used.get(pair.high)
-                    || !survey.is_likely(pair.address)
-                    || is_sure(flow, survey, pair) == is_last
-                {
-                    continue;
-                }
-                used.set(pair.low);
-                used.set(pair.high);
-                if is_last {
-                    likely.push(pair)?;
-                } else {
-                    sure.push(pair)?;
-                }
+        for &pair in pairs.as_slice() {
+            if used.get(pair.low)
+                || used.get(pair.high)
+                || is_sure(steps, survey, pair) == is_last
+            {
+                continue;
+            }
+            used.set(pair.low);
+            used.set(pair.high);
+            if is_last {
+                likely.push(pair)?;
+            } else {
+                sure.push(pair)?;
             }
         }
     }

@@ -60,17 +60,19 @@ pub fn mark_orphans(
             && survey.reached.get(word)
             && survey.code.get(word)
             && !referred.get(word)
-            && let Ok(address) = u16::try_from(at)
         {
-            found.push((word, address))?;
+            found.push((word, at))?;
         }
     }
     found.sort()?;
-    for &(word, address) in &found {
-        let count = found.iter().filter(|other| other.0 == word).count();
-        let plain = ground.word(usize::from(address)).is_some();
-        if count <= MOST && plain {
-            set_two(&mut ground.words, address);
+    for same in found.as_slice().chunk_by(|one, other| one.0 == other.0) {
+        if MOST < same.len() {
+            continue;
+        }
+        for &(_, at) in same {
+            if ground.word(at).is_some() {
+                ground.put_words(0, at, at.saturating_add(2));
+            }
         }
     }
     Ok(())

@@ -1,8 +1,7 @@
 //! Tables by the instructions that read them.
 
-use crate::flow::Flow;
-use crate::rules::bytes::{byte, ends};
-use crate::rules::step::{Step, step_at};
+use crate::rules::bytes::{address, byte, ends};
+use crate::rules::step::{Step, Steps};
 use isa65::{Mnemonic, Mode};
 use map65::{Image, Marks};
 use std::alloc::{AllocError, Global};
@@ -54,18 +53,8 @@ impl Table {
     }
 }
 
-/// The reached instruction at the address.
-fn reached_at(flow: &Flow<'_, '_>, reached: &Marks, at: usize) -> Option<Step> {
-    let address = u16::try_from(at).ok()?;
-    if reached.get(address) {
-        step_at(flow, address)
-    } else {
-        None
-    }
-}
-
 /// The address from which the instruction loads a register with an index.
-fn indexed(step: Step) -> Option<u16> {
+fn indexed(step: &Step) -> Option<u16> {
     match (step.op.mnemonic, step.op.mode) {
         (Mnemonic::Lda | Mnemonic::Ldx | Mnemonic::Ldy, Mode::Absx | Mode::Absy) => step.operand,
         _ => None,
@@ -73,7 +62,7 @@ fn indexed(step: Step) -> Option<u16> {
 }
 
 /// The address to which the instruction stores a register.
-fn stored_to(image: &Image, step: Step, at: usize) -> Option<u16> {
+fn stored_to(image: &Image, step: &Step, at: usize) -> Option<u16> {
     match (step.op.mnemonic, step.op.mode) {
         (Mnemonic::Sta | Mnemonic::Stx | Mnemonic::Sty, Mode::Abs) => step.operand,
         (Mnemonic::Sta | Mnemonic::Stx | Mnemonic::Sty, Mode::Zp) => {
@@ -83,27 +72,29 @@ fn stored_to(image: &Image, step: Step, at: usize) -> Option<u16> {
     }
 }
 
-/// What reached code does with pointers: marks of those through which it jumps, and of those through which it loads and stores.
+/// What reached code does with pointers.
 #[derive(Drop)]
 struct Pointers {
+    /// It jumps through the pointer.
     jumps: Marks,
+    /// It loads or stores through it.
     others: Marks,
 }
 
 /// Finds the pointers of reached code. The operand of a jump or a call is one too: other code may store to it.
 fn pointers_of(
     alloc: Global,
-    flow: &Flow<'_, '_>,
+    steps: &Steps<'_, '_>,
     reached: &Marks,
 ) -> Result<Pointers, AllocError> {
     let mut pointers = Pointers {
         jumps: Marks::none(alloc)?,
         others: Marks::none(alloc)?,
     };
-    let image = flow.map().image();
+    let image = steps.image();
     let (start, end) = ends(image);
     for at in start..end {
-        let Some(step) = reached_at(flow, reached, at) else {
+        let Some(step) = steps.marked(reached, at) else {
             continue;
         };
         match (step.op.mode, step.operand) {
@@ -114,7 +105,7 @@ fn pointers_of(
                 }
             }
             (Mode::Abs, Some(_)) if step.to.is_some() => {
-                if let Ok(operand) = u16::try_from(at.saturating_add(1)) {
+                if let Some(operand) = address(at.saturating_add(1)) {
                     pointers.jumps.set(operand);
                 }
             }
@@ -124,10 +115,33 @@ fn pointers_of(
     Ok(pointers)
 }
 
+/// Where reached instructions begin that load with an index, or jump through a table.
+fn readers_of(
+    alloc: Global,
+    steps: &Steps<'_, '_>,
+    reached: &Marks,
+) -> Result<Vec<usize>, AllocError> {
+    let mut found = Vec::new(alloc);
+    let (start, end) = ends(steps.image());
+    for at in start..end {
+        if let Some(step) = steps.marked(reached, at)
+            && matches!(step.op.mode, Mode::Absx | Mode::Absy | Mode::Absindx)
+        {
+            found.push(at)?;
+        }
+    }
+    Ok(found)
+}
+
 /// The table that the instructions from the address on read: two loads with an index, each pushed or stored to one byte of a pointer.
-fn table_at(flow: &Flow<'_, '_>, reached: &Marks, pointers: &Pointers, at: usize) -> Option<Table> {
-    let image = flow.map().image();
-    let first = reached_at(flow, reached, at)?;
+fn table_at(
+    steps: &Steps<'_, '_>,
+    reached: &Marks,
+    pointers: &Pointers,
+    at: usize,
+) -> Option<Table> {
+    let image = steps.image();
+    let first = steps.marked(reached, at)?;
     if first.op.mode == Mode::Absindx {
         let low = first.operand?;
         return Some(Table {
@@ -139,12 +153,12 @@ fn table_at(flow: &Flow<'_, '_>, reached: &Marks, pointers: &Pointers, at: usize
     }
     let one = indexed(first)?;
     let place = at.saturating_add(first.len());
-    let keeps = reached_at(flow, reached, place)?;
+    let keeps = steps.marked(reached, place)?;
     let then = place.saturating_add(keeps.len());
-    let second = reached_at(flow, reached, then)?;
+    let second = steps.marked(reached, then)?;
     let other = indexed(second)?;
     let other_place = then.saturating_add(second.len());
-    let keeps_other = reached_at(flow, reached, other_place)?;
+    let keeps_other = steps.marked(reached, other_place)?;
     if keeps.op.mnemonic == Mnemonic::Pha && keeps_other.op.mnemonic == Mnemonic::Pha {
         return Some(Table {
             low: other,
@@ -179,14 +193,17 @@ fn table_at(flow: &Flow<'_, '_>, reached: &Marks, pointers: &Pointers, at: usize
 /// Returns the tables that reached code reads. Fails only if an allocation failed.
 pub fn tables_of(
     alloc: Global,
-    flow: &Flow<'_, '_>,
+    steps: &Steps<'_, '_>,
     reached: &Marks,
 ) -> Result<Vec<Table>, AllocError> {
     let mut found = Vec::new(alloc);
-    let pointers = pointers_of(alloc, flow, reached)?;
-    let (start, end) = ends(flow.map().image());
-    for at in start..end {
-        if let Some(table) = table_at(flow, reached, &pointers, at) {
+    let readers = readers_of(alloc, steps, reached)?;
+    if readers.is_empty() {
+        return Ok(found);
+    }
+    let pointers = pointers_of(alloc, steps, reached)?;
+    for &at in &readers {
+        if let Some(table) = table_at(steps, reached, &pointers, at) {
             found.push(table)?;
         }
     }

@@ -5,26 +5,26 @@ use crate::rules::ground::Ground;
 use crate::rules::survey::Survey;
 use crate::rules::words::ROW;
 
-/// How far a row reaches, which has two different words at least: each word, and this much more, is the address of a routine.
-fn row_end(
-    ground: &Ground<'_>,
-    survey: &Survey<'_>,
-    less: usize,
-    from: usize,
-    end: usize,
-) -> usize {
-    let first = ground.word(from);
-    if first == ground.word(from.saturating_add(2)) {
+/// Whether the word at the address, and this much more, is the address of a routine.
+fn leads(ground: &Ground<'_>, survey: &Survey<'_>, less: u16, at: usize) -> bool {
+    match ground.word(at) {
+        Some(word) => survey.is_routine(usize::from(word).saturating_add(usize::from(less))),
+        None => false,
+    }
+}
+
+/// How far a row reaches that begins with such a word, which has three words at least, and first two different ones: each word, and this much more, is the address of a
+/// routine.
+fn row_end(ground: &Ground<'_>, survey: &Survey<'_>, less: u16, from: usize, end: usize) -> usize {
+    if ground.word(from) == ground.word(from.saturating_add(2)) {
         return from;
     }
-    let mut at = from;
+    let mut at = from.saturating_add(2);
     for _ in from..end {
-        match ground.word(at) {
-            Some(word) if survey.is_routine(usize::from(word).saturating_add(less)) => {
-                at = at.saturating_add(2);
-            }
-            _ => break,
+        if !leads(ground, survey, less, at) {
+            break;
         }
+        at = at.saturating_add(2);
     }
     if from.saturating_add(2 * ROW) <= at {
         at
@@ -37,12 +37,14 @@ fn row_end(
 pub fn mark_rows(ground: &mut Ground<'_>, survey: &Survey<'_>) {
     let (start, end) = ends(ground.image);
     for at in start..end {
-        let words = row_end(ground, survey, 0, at, end);
-        if at < words {
-            ground.words.set_span(at, words);
-        } else {
-            let returns = row_end(ground, survey, 1, at, end);
-            ground.returns.set_span(at, returns);
+        let Some(word) = ground.word(at) else {
+            continue;
+        };
+        for less in [0u16, 1] {
+            if survey.is_routine(usize::from(word).saturating_add(usize::from(less))) {
+                let row = row_end(ground, survey, less, at, end);
+                ground.put_words(less, at, row);
+            }
         }
     }
 }

@@ -1,10 +1,11 @@
 //! The search for code, with trials: an entry joins if all that is reached from it reads as code, else all is as before.
 
-use crate::flow::Flow;
 use crate::rules::bytes::{byte, ends, word};
-use crate::rules::sound::{is_apart, is_fine, len_at};
-use crate::rules::step::step_at;
+use crate::rules::obstacles::{Obstacle, obstacle_of};
+use crate::rules::sound::{is_apart, is_fine};
+use crate::rules::step::Steps;
 use crate::rules::texts::{ALPHABETS, text_len};
+use isa65::Mnemonic;
 use map65::{ADDRESSES, Image, Marks, is_inside};
 use std::alloc::{AllocError, Global};
 
@@ -12,12 +13,18 @@ use std::alloc::{AllocError, Global};
 /// the time in proportion to the image, whatever that has.
 const PATIENCE: usize = 0x1_0000;
 
+/// How many bytes behind what was added may belong to a text that it begins with.
+const MARGIN: usize = 16;
+
+/// How many bytes a word has. Before the code to which a word leads it is rather data than an instruction.
+const WORD: usize = 2;
+
 /// What a sound beginning has at least.
 #[derive(Clone, Copy)]
 pub enum Least {
     /// This many instructions.
     Count(usize),
-    /// This many, or it leads to reached code.
+    /// This many, or more bytes than a word, and it leads to reached code.
     Behind(usize),
 }
 
@@ -26,9 +33,11 @@ pub enum Least {
 /// each is looked at once.
 #[derive(Drop)]
 pub struct Search<'a, 'f, 'm> {
-    pub flow: &'a Flow<'f, 'm>,
+    pub steps: &'a Steps<'f, 'm>,
     pub entries: Vec<u16>,
     pub marks: Marks,
+    /// What the instructions have that have joined.
+    pub code: Marks,
     todo: Vec<u16>,
     pub added: Vec<u16>,
     /// Those that were marked since the last trial began.
@@ -38,6 +47,12 @@ pub struct Search<'a, 'f, 'm> {
     /// The addresses of the zero page that the image stores to.
     stored: Marks,
     wasted: usize,
+    /// Where the last trial could not go on.
+    stopped: Option<u16>,
+    /// Where trials could not go on, and how many bytes they had read.
+    pub obstacles: Vec<Obstacle>,
+    /// The calls that they had read.
+    pub calls: Marks,
 }
 
 /// Marks the addresses of the zero page that instructions store to, if the bytes of the image are instructions.
@@ -59,24 +74,29 @@ impl<'a, 'f, 'm> Search<'a, 'f, 'm> {
     /// Returns the search of all that is reached from the entries. Fails only if an allocation failed.
     pub fn from(
         alloc: Global,
-        flow: &'a Flow<'f, 'm>,
+        steps: &'a Steps<'f, 'm>,
         entries: &[u16],
     ) -> Result<Search<'a, 'f, 'm>, AllocError> {
         let mut search = Search {
-            flow,
+            steps,
             entries: Vec::new(alloc),
             marks: Marks::none(alloc)?,
+            code: Marks::none(alloc)?,
             todo: Vec::new(alloc),
             added: Vec::new(alloc),
             fresh: Marks::none(alloc)?,
             meets: false,
-            stored: stored_marks(alloc, flow.map().image())?,
+            stored: stored_marks(alloc, steps.image())?,
             wasted: 0,
+            stopped: None,
+            obstacles: Vec::new(alloc),
+            calls: Marks::none(alloc)?,
         };
         for &entry in entries {
             search.put_entry(entry)?;
         }
         search.run(false)?;
+        search.keep();
         Ok(search)
     }
 
@@ -99,7 +119,7 @@ impl<'a, 'f, 'm> Search<'a, 'f, 'm> {
     /// Adds an address to the entries, and marks it if it lies in the image.
     fn put_entry(&mut self, address: u16) -> Result<(), AllocError> {
         self.entries.push(address)?;
-        if is_inside(self.flow.map().image(), usize::from(address)) {
+        if is_inside(self.steps.image(), usize::from(address)) {
             self.put(Some(address))?;
         }
         Ok(())
@@ -111,12 +131,16 @@ impl<'a, 'f, 'm> Search<'a, 'f, 'm> {
             let Some(address) = self.todo.pop() else {
                 return Ok(true);
             };
-            match step_at(self.flow, address) {
-                Some(step) if !fine || is_fine(self.flow, &self.stored, step) => {
+            let steps = self.steps;
+            match steps.at(address) {
+                Some(step) if !fine || is_fine(steps, &self.stored, step) => {
                     self.put(step.next)?;
                     self.put(step.goal)?;
                 }
-                _ if fine => return Ok(false),
+                _ if fine => {
+                    self.stopped = Some(obstacle_of(steps, address));
+                    return Ok(false);
+                }
                 _ => {}
             }
         }
@@ -127,20 +151,34 @@ impl<'a, 'f, 'm> Search<'a, 'f, 'm> {
     fn is_sound(&self, least: Least) -> bool {
         let enough = match least {
             Least::Count(least) => least <= self.added.len(),
-            Least::Behind(least) => self.meets || least <= self.added.len(),
+            Least::Behind(least) => {
+                least <= self.added.len() || (self.meets && self.has_bytes(WORD + 1))
+            }
         };
         enough
             && !self.is_filled_jump()
             && self
                 .added
                 .iter()
-                .all(|&address| is_apart(self.flow, &self.marks, address))
+                .all(|&address| is_apart(self.steps, &self.marks, address))
+    }
+
+    /// Whether what was added has so many bytes at least.
+    fn has_bytes(&self, least: usize) -> bool {
+        let mut count = 0usize;
+        for &address in self.added.as_slice() {
+            count = count.saturating_add(self.steps.len_at(address));
+            if least <= count {
+                return true;
+            }
+        }
+        false
     }
 
     /// Whether no more was added than a jump to $0000, which is filled in at run time.
     fn is_filled_jump(&self) -> bool {
         match self.added.as_slice() {
-            [only] => match step_at(self.flow, *only) {
+            [only] => match self.steps.at(*only) {
                 Some(step) => step.to == Some(0),
                 None => false,
             },
@@ -150,17 +188,18 @@ impl<'a, 'f, 'm> Search<'a, 'f, 'm> {
 
     /// Whether the bytes from the address on that were added begin with a text that is half of them at least.
     fn is_text(&self, address: u16) -> bool {
-        let image = self.flow.map().image();
+        let image = self.steps.image();
         let mut at = usize::from(address);
         for _ in 0..ADDRESSES {
             match u16::try_from(at) {
-                Ok(here) if self.fresh.get(here) => at = at.saturating_add(len_at(self.flow, here)),
+                Ok(here) if self.fresh.get(here) => at = at.saturating_add(self.steps.len_at(here)),
                 _ => break,
             }
         }
         let run = at.saturating_sub(usize::from(address));
         ALPHABETS.iter().any(|&alphabet| {
-            let len = text_len(image, alphabet, usize::from(address));
+            let most = run.saturating_add(MARGIN);
+            let len = text_len(image, alphabet, usize::from(address), most);
             0 < len && run <= len.saturating_mul(2)
         })
     }
@@ -172,8 +211,36 @@ impl<'a, 'f, 'm> Search<'a, 'f, 'm> {
         }
         self.added.clear();
         self.meets = false;
+        self.stopped = None;
         self.put_entry(address)?;
         Ok(self.run(true)? && self.is_sound(least) && !self.is_text(address))
+    }
+
+    /// Keeps where the trial could not go on, if it could not, and the calls that it had read.
+    fn put_obstacle(&mut self) -> Result<(), AllocError> {
+        let Some(address) = self.stopped else {
+            return Ok(());
+        };
+        let mut bytes = 0usize;
+        for &at in self.added.as_slice() {
+            if let Some(step) = self.steps.at(at) {
+                bytes = bytes.saturating_add(step.len());
+                if step.op.mnemonic == Mnemonic::Jsr {
+                    self.calls.set(at);
+                }
+            }
+        }
+        self.obstacles.push(Obstacle { address, bytes })?;
+        Ok(())
+    }
+
+    /// Marks what the instructions have that were added.
+    fn keep(&mut self) {
+        for &address in self.added.as_slice() {
+            let at = usize::from(address);
+            let len = self.steps.len_at(address);
+            self.code.set_span(at, at.saturating_add(len));
+        }
     }
 
     /// Takes the last entry back, and what was added since.
@@ -198,7 +265,10 @@ impl<'a, 'f, 'm> Search<'a, 'f, 'm> {
             return Ok(false);
         }
         let joins = self.tries(address, least)?;
-        if !joins {
+        if joins {
+            self.keep();
+        } else {
+            self.put_obstacle()?;
             self.undo();
         }
         Ok(joins)

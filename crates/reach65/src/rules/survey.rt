@@ -1,8 +1,7 @@
 //! What reached code does with addresses.
 
-use crate::flow::Flow;
 use crate::rules::bytes::ends;
-use crate::rules::step::{Step, step_at};
+use crate::rules::step::{Step, Steps};
 use isa65::Mnemonic;
 use map65::{Marks, is_jump};
 use std::alloc::{AllocError, Global};
@@ -58,7 +57,7 @@ impl<'r> Survey<'r> {
     /// Looks at the reached instructions. Fails only if an allocation failed.
     pub fn of(
         alloc: Global,
-        flow: &Flow<'_, '_>,
+        steps: &Steps<'_, '_>,
         reached: &'r Marks,
         code: &'r Marks,
     ) -> Result<Survey<'r>, AllocError> {
@@ -72,12 +71,9 @@ impl<'r> Survey<'r> {
             written: Marks::none(alloc)?,
             texts: Marks::none(alloc)?,
         };
-        let (start, end) = ends(flow.map().image());
+        let (start, end) = ends(steps.image());
         for at in start..end {
-            if let Ok(address) = u16::try_from(at)
-                && reached.get(address)
-                && let Some(step) = step_at(flow, address)
-            {
+            if let Some(step) = steps.marked(reached, at) {
                 survey.put(step);
             }
         }
@@ -85,7 +81,7 @@ impl<'r> Survey<'r> {
     }
 
     /// Marks what the instruction does.
-    fn put(&mut self, step: Step) {
+    fn put(&mut self, step: &Step) {
         set_some(&mut self.gone_on, step.next);
         set_some(&mut self.goals, step.goal);
         if step.op.mnemonic == Mnemonic::Jsr {

@@ -56,15 +56,10 @@ pub fn mark_tables(
         let (low, high) = table.places(0);
         let (low_end, high_end) = (low.saturating_add(count), high.saturating_add(count));
         if table.has_words() {
-            let marks = if table.less == 0 {
-                &mut ground.words
-            } else {
-                &mut ground.returns
-            };
-            marks.set_span(low, low_end.saturating_add(count));
+            ground.put_words(table.less, low, low_end.saturating_add(count));
         } else if table.less == 0 && 1 < count {
-            ground.numbers.set_span(low, low_end);
-            ground.numbers.set_span(high, high_end);
+            ground.put_numbers(low, low_end);
+            ground.put_numbers(high, high_end);
             splits.push(Split { table, count })?;
         }
     }

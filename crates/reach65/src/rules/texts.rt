@@ -94,11 +94,11 @@ impl Chars {
     }
 }
 
-/// Returns how many characters of the alphabet stand at the address and after it, if they are a text, else 0.
-pub fn text_len(image: &Image, alphabet: Alphabet, from: usize) -> usize {
+/// Returns how many characters of the alphabet stand at the address and after it, of so many bytes at most, if they are a text, else 0.
+pub fn text_len(image: &Image, alphabet: Alphabet, from: usize, most: usize) -> usize {
     let mut chars = Chars::none();
     let (_, end) = ends(image);
-    for at in from..end {
+    for at in from..end.min(from.saturating_add(most)) {
         match byte(image, at) {
             Some(byte) if alphabet.is_char(byte) => chars = chars.with(alphabet, byte),
             _ => break,

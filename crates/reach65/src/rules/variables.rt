@@ -1,8 +1,9 @@
 //! The variables right after an image.
 
-use crate::rules::bytes::ends;
+use crate::rules::bytes::{address, ends};
 use crate::rules::survey::Survey;
-use map65::Map;
+use info65::Info;
+use map65::{ADDRESSES, Map};
 use std::alloc::{AllocError, Global};
 
 /// How far a variable may lie after the one before it.
@@ -10,6 +11,19 @@ const GAP: usize = 4096;
 
 /// Where machines have registers and other ROMs rather than variables.
 const REGISTERS: usize = 0xD000;
+
+/// The first address from this one on that a name covers.
+fn first_named(info: &Info, from: usize) -> usize {
+    let mut first = ADDRESSES;
+    for k in 0..info.given_count() {
+        let name = info.given(k);
+        let at = usize::from(name.address);
+        if from < at.saturating_add(name.size as usize) {
+            first = first.min(at.max(from));
+        }
+    }
+    first
+}
 
 /// Returns the variables right after the image: from its end on the operands, each at most 4,096 bytes after the one before, up to where a name
 /// of the information file covers one, and before $D000. An image that ends in the zero page has none, and one that writes to none of them
@@ -23,11 +37,11 @@ pub fn variables_of(
     let (_, end) = ends(map.image());
     let mut last = end;
     let mut writes = false;
-    for at in end..REGISTERS {
-        let Ok(address) = u16::try_from(at) else {
+    for at in end..first_named(map.info(), end).min(REGISTERS) {
+        let Some(address) = address(at) else {
             break;
         };
-        if last.saturating_add(GAP) < at || map.info().covering(address).is_some() {
+        if last.saturating_add(GAP) < at {
             break;
         }
         if survey.operands.get(address) {

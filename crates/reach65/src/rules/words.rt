@@ -1,26 +1,35 @@
 //! Words that stand in rows and lead to code.
 
-use crate::flow::{Flow, is_last};
-use crate::rules::bytes::{byte, ends, word};
+use crate::flow::is_last;
+use crate::rules::bytes::{address, byte, ends, word};
 use crate::rules::growth::IN_TABLE;
 use crate::rules::search::{Least, Search};
-use crate::rules::sound::has_code;
-use crate::rules::step::{Step, step_at};
+use crate::rules::step::{Step, Steps};
 use isa65::Mnemonic;
-use map65::{Image, Marks};
+use map65::{ADDRESSES, Image, Marks};
 use std::alloc::{AllocError, Global};
 
 /// How many words a row has at least.
 pub const ROW: usize = 3;
 
-/// Marks: of what the ranges of the information file have, of what no reached instruction had when the search for rows began, and of where
-/// code may begin.
+/// Marks of what the ranges of the information file have, and of where code may begin.
 #[derive(Drop)]
 pub struct Words<'i> {
     image: &'i Image,
     given: Marks,
-    free: Marks,
     hopeful: Marks,
+    /// Where words begin that may lead to code.
+    worth: Vec<u16>,
+}
+
+/// Whether the word at the address may lead to code, itself or as one less, and is not followed by the same.
+fn is_worth(image: &Image, hopeful: &Marks, at: usize) -> bool {
+    let Some(one) = word(image, at) else {
+        return false;
+    };
+    let to = usize::from(one);
+    (hopeful.get_at(to) || hopeful.get_at(to.saturating_add(1)))
+        && word(image, at.saturating_add(2)).is_some_and(|other| one != other)
 }
 
 /// Whether code may go on at a later address, if there is one: an earlier one is not known yet.
@@ -32,7 +41,7 @@ fn is_hopeful_after(marks: &Marks, address: u16, later: Option<u16>) -> bool {
 }
 
 /// Whether code may begin with the instruction of the address.
-fn is_hopeful(marks: &Marks, address: u16, step: Step) -> bool {
+fn is_hopeful(marks: &Marks, address: u16, step: &Step) -> bool {
     step.op.mnemonic != Mnemonic::Brk
         && (step.next.is_some() || is_last(step.op.mnemonic))
         && is_hopeful_after(marks, address, step.next)
@@ -42,14 +51,17 @@ fn is_hopeful(marks: &Marks, address: u16, step: Step) -> bool {
 /// Whether a reached instruction, this many bytes before the address, goes on to it.
 fn goes_on_to(search: &Search<'_, '_, '_>, address: u16, distance: u16) -> bool {
     match address.checked_sub(distance) {
-        Some(at) => search.marks.get(at) && search.flow.next_at(at) == Some(address),
+        Some(at) => match search.steps.marked(&search.marks, usize::from(at)) {
+            Some(step) => step.next == Some(address),
+            None => false,
+        },
         None => false,
     }
 }
 
 /// Whether a reached instruction begins at the address. For a word that is one less, none right before it goes on to it, either.
 fn is_entered(search: &Search<'_, '_, '_>, less: u16, address: u16) -> bool {
-    search.flow.instruction_at(address).is_some()
+    search.steps.at(address).is_some()
         && (less == 0
             || !(goes_on_to(search, address, 1)
                 || goes_on_to(search, address, 2)
@@ -71,14 +83,12 @@ fn begins_code(
 impl<'i> Words<'i> {
     /// Looks at an image of which these instructions are reached. What leads to the end of a routine is hopeful, as far as that is known
     /// from the instructions after it: few bytes of data do. That saves trials, and no more.
-    pub fn of<'m: 'i>(
-        alloc: Global,
-        flow: &Flow<'_, 'm>,
-        reached: &Marks,
-    ) -> Result<Words<'i>, AllocError> {
-        let image = flow.map().image();
+    pub fn of<'m: 'i>(alloc: Global, search: &Search<'_, '_, 'm>) -> Result<Words<'i>, AllocError> {
+        let steps = search.steps;
+        let reached = &search.marks;
+        let image = steps.image();
         let mut given = Marks::none(alloc)?;
-        for range in flow.map().info().ranges() {
+        for range in steps.map().info().ranges() {
             given.set_span(usize::from(range.first), usize::from(range.last) + 1);
         }
         let mut free = Marks::none(alloc)?;
@@ -88,11 +98,11 @@ impl<'i> Words<'i> {
             let Ok(address) = u16::try_from(at) else {
                 continue;
             };
-            let is_free = !reached.get(address) && !has_code(flow, reached, address);
+            let is_free = !reached.get(address) && !search.code.get(address);
             if is_free {
                 free.set(address);
             }
-            let is_hopeful = match step_at(flow, address) {
+            let is_hopeful = match steps.at(address) {
                 Some(step) => is_free && is_hopeful(&hopeful, address, step),
                 None => false,
             };
@@ -100,22 +110,26 @@ impl<'i> Words<'i> {
                 hopeful.set(address);
             }
         }
+        let mut worth = Vec::new(alloc);
+        for at in start..end {
+            if free.get_at(at)
+                && is_worth(image, &hopeful, at)
+                && let Some(at) = address(at)
+            {
+                worth.push(at)?;
+            }
+        }
         Ok(Words {
             image,
             given,
-            free,
             hopeful,
+            worth,
         })
     }
 
     /// Whether nothing speaks for the address.
     fn is_open(&self, search: &Search<'_, '_, '_>, at: usize) -> bool {
-        match u16::try_from(at) {
-            Ok(address) => {
-                !self.given.get(address) && !has_code(search.flow, &search.marks, address)
-            }
-            Err(_) => false,
-        }
+        at < ADDRESSES && !self.given.get_at(at) && !search.code.get_at(at)
     }
 
     /// The address to which the word at the address leads, if nothing speaks for its bytes and code may begin there.
@@ -152,12 +166,13 @@ impl<'i> Words<'i> {
         less: u16,
         at: usize,
     ) -> Result<bool, AllocError> {
-        let (one, two, three) = (
-            self.target(search, less, at),
-            self.target(search, less, at.saturating_add(2)),
-            self.target(search, less, at.saturating_add(4)),
-        );
-        let (Some(one), Some(two), Some(three)) = (one, two, three) else {
+        let Some(one) = self.target(search, less, at) else {
+            return Ok(false);
+        };
+        let Some(two) = self.target(search, less, at.saturating_add(2)) else {
+            return Ok(false);
+        };
+        let Some(three) = self.target(search, less, at.saturating_add(4)) else {
             return Ok(false);
         };
         Ok(
@@ -169,20 +184,6 @@ impl<'i> Words<'i> {
                 && begins_code(search, less, two)?
                 && begins_code(search, less, three)?,
         )
-    }
-
-    /// Whether the word at the address may lead to code, itself or as one less, and is not followed by the same.
-    fn is_worth(&self, at: usize) -> bool {
-        let (Some(one), Some(other)) = (
-            word(self.image, at),
-            word(self.image, at.saturating_add(2)),
-        ) else {
-            return false;
-        };
-        let to = usize::from(one);
-        self.free.get_at(at)
-            && one != other
-            && (self.hopeful.get_at(to) || self.hopeful.get_at(to.saturating_add(1)))
     }
 
     /// Lets the sound beginnings among the words of a row join, up to one that leads to no code. Adds what is reached from them to `fresh`, and
@@ -220,12 +221,15 @@ impl<'i> Words<'i> {
         search: &mut Search<'_, '_, '_>,
     ) -> Result<Vec<u16>, AllocError> {
         let mut fresh = Vec::new(alloc);
-        let (start, end) = ends(self.image);
+        if self.worth.is_empty() {
+            return Ok(fresh);
+        }
         for less in [0u16, 1] {
             let mut rows = Marks::none(alloc)?;
-            for at in start..end {
-                if self.is_worth(at) && !rows.get_at(at) && self.begins_row(search, less, at)? {
-                    self.join_row(search, &mut fresh, &mut rows, less, at)?;
+            for &at in &self.worth {
+                let from = usize::from(at);
+                if !rows.get(at) && self.begins_row(search, less, from)? {
+                    self.join_row(search, &mut fresh, &mut rows, less, from)?;
                 }
             }
         }
@@ -234,10 +238,12 @@ impl<'i> Words<'i> {
 
     /// Whether a word at the address leads to reached code, this much after it.
     fn leads(&self, search: &Search<'_, '_, '_>, less: u16, at: usize) -> bool {
-        match self.target(search, less, at) {
-            Some(to) => search.marks.get(to) && is_entered(search, less, to),
-            None => false,
-        }
+        let Some(to) = word(self.image, at).and_then(|word| word.checked_add(less)) else {
+            return false;
+        };
+        search.marks.get(to)
+            && self.target(search, less, at).is_some()
+            && is_entered(search, less, to)
     }
 
     /// Returns the addresses right behind rows of words that lead to reached code. Fails only if an allocation failed.
@@ -247,11 +253,8 @@ impl<'i> Words<'i> {
         search: &Search<'_, '_, '_>,
     ) -> Result<Vec<u16>, AllocError> {
         let mut found = Vec::new(alloc);
-        let (start, end) = ends(self.image);
-        for at in start..end {
-            if !self.is_worth(at) {
-                continue;
-            }
+        for &first in &self.worth {
+            let at = usize::from(first);
             for less in [0u16, 1] {
                 if self.leads(search, less, at)
                     && self.leads(search, less, at.saturating_add(2))

@@ -4,7 +4,7 @@ use crate::advice::Advice;
 use files65::{put_address, put_decimal};
 use isa65::Mnemonic;
 use reach65::inline_of;
-use reach65::rules::step::step_at;
+use reach65::rules::bytes::address;
 use std::alloc::{AllocError, Global};
 
 /// How many instructions after a call are looked at.
@@ -25,7 +25,7 @@ fn fails(advice: &Advice<'_, '_, '_>, from: Option<u16>) -> bool {
         let Some(address) = at else {
             return true;
         };
-        let Some(step) = step_at(advice.flow, address) else {
+        let Some(step) = advice.steps.at(address) else {
             return true;
         };
         if step.next.is_none() {
@@ -36,18 +36,35 @@ fn fails(advice: &Advice<'_, '_, '_>, from: Option<u16>) -> bool {
     false
 }
 
-/// The reached calls of routines of the image: the routine, and whether nothing decodes after the call; by routine.
+/// The call at the address of a routine: one that is reached, or one that was read in a trial that failed, of a routine that is reached or lies
+/// outside the image.
+fn call_at(advice: &Advice<'_, '_, '_>, at: u16) -> Option<(u16, bool)> {
+    let reached = &advice.survey.reached;
+    let is_reached = reached.get(at);
+    if !is_reached && !advice.stops.calls.get(at) {
+        return None;
+    }
+    let step = advice.steps.at(at)?;
+    if step.op.mnemonic != Mnemonic::Jsr {
+        return None;
+    }
+    let routine = step.to?;
+    if is_reached || reached.get(routine) || step.goal.is_none() {
+        Some((routine, fails(advice, step.next)))
+    } else {
+        None
+    }
+}
+
+/// The calls: the routine, and whether nothing decodes after the call; by routine.
 fn calls_of(alloc: Global, advice: &Advice<'_, '_, '_>) -> Result<Vec<(u16, bool)>, AllocError> {
     let mut calls = Vec::new(alloc);
     let (start, end) = advice.ends();
     for at in start..end {
-        if let Ok(address) = u16::try_from(at)
-            && advice.survey.reached.get(address)
-            && let Some(step) = step_at(advice.flow, address)
-            && step.op.mnemonic == Mnemonic::Jsr
-            && let Some(routine) = step.goal
+        if let Some(at) = address(at)
+            && let Some(call) = call_at(advice, at)
         {
-            calls.push((routine, fails(advice, step.next)))?;
+            calls.push(call)?;
         }
     }
     calls.sort_by_key(|call| call.0)?;
@@ -74,7 +91,7 @@ fn put_routine(
     out.extend_from_slice(b" does not decode: INLINE?\n")
 }
 
-/// Adds a comment for each routine of the image after whose calls nothing decodes most often, by address.
+/// Adds a comment for each routine after whose calls nothing decodes most often, by address.
 pub fn put_calls(
     out: &mut Vec<u8>,
     alloc: Global,

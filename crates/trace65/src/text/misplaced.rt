@@ -10,8 +10,7 @@ fn holder_of(advice: &Advice<'_, '_, '_>, address: u16) -> Option<u16> {
     for distance in [1u16, 2] {
         if let Some(first) = address.checked_sub(distance)
             && advice.survey.reached.get(first)
-            && let Some(op) = advice.flow.instruction_at(first)
-            && distance < u16::from(op.mode.len())
+            && usize::from(distance) < advice.steps.len_at(first)
         {
             return Some(first);
         }

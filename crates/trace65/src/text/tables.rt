@@ -6,7 +6,6 @@ use info65::{RangeSpec, RangeType};
 use isa65::Mnemonic;
 use map65::{ADDRESSES, is_inside};
 use reach65::rules::bytes::word;
-use reach65::rules::step::step_at;
 use std::alloc::AllocError;
 
 /// How many addresses of a table get a comment.
@@ -20,7 +19,7 @@ fn put_reason(
 ) -> Result<(), AllocError> {
     let mut at = address;
     for _ in 0..ADDRESSES {
-        let Some(step) = step_at(advice.flow, at) else {
+        let Some(step) = advice.steps.at(at) else {
             return put_address(out, b"undefined opcode at $", usize::from(at));
         };
         if step.op.mnemonic == Mnemonic::Brk {

@@ -1,0 +1,81 @@
+//! Rows of jumps, by which drivers and libraries give their routines.
+
+use crate::rules::bytes::{address, ends};
+use crate::rules::growth::IN_TABLE;
+use crate::rules::search::{Least, Search};
+use crate::rules::step::Steps;
+use isa65::{Mnemonic, Mode};
+use std::alloc::{AllocError, Global};
+
+/// How many jumps a row has at least.
+const ROW: usize = 3;
+
+/// How many bytes a jump has.
+const JUMP: usize = 3;
+
+/// The address of the image to which the bytes at the address jump, if they are a `jmp`.
+fn target(steps: &Steps<'_, '_>, at: usize) -> Option<u16> {
+    let step = steps.at(address(at)?)?;
+    if step.op.mnemonic == Mnemonic::Jmp && step.op.mode == Mode::Abs {
+        step.goal
+    } else {
+        None
+    }
+}
+
+/// How many jumps stand at the address and behind it.
+fn count_at(steps: &Steps<'_, '_>, from: usize, end: usize) -> usize {
+    let mut count = 0usize;
+    for at in (from..end).step_by(JUMP) {
+        if target(steps, at).is_none() {
+            break;
+        }
+        count = count.saturating_add(1);
+    }
+    count
+}
+
+/// Whether three quarters of the jumps of a row lead to code, and one at least is not reached.
+fn is_row(search: &mut Search<'_, '_, '_>, from: usize, count: usize) -> Result<bool, AllocError> {
+    let mut good = 0usize;
+    let mut is_new = false;
+    for index in 0..count {
+        let at = from.saturating_add(index.saturating_mul(JUMP));
+        if let Some(to) = target(search.steps, at) {
+            is_new = is_new || !search.marks.get_at(at);
+            if search.marks.get(to) || search.would_join(to, Least::Count(IN_TABLE))? {
+                good = good.saturating_add(1);
+            }
+        }
+    }
+    Ok(is_new && count.saturating_mul(3) <= good.saturating_mul(4))
+}
+
+/// Lets the jumps of rows join, three at least one behind the other, of which three quarters lead to code. Returns what is reached from them.
+pub fn join_jumps(alloc: Global, search: &mut Search<'_, '_, '_>) -> Result<Vec<u16>, AllocError> {
+    let mut fresh = Vec::new(alloc);
+    let (start, end) = ends(search.steps.image());
+    let mut behind = start;
+    for from in start..end {
+        if from < behind {
+            continue;
+        }
+        let count = count_at(search.steps, from, end);
+        if count < ROW {
+            continue;
+        }
+        behind = from.saturating_add(count.saturating_mul(JUMP));
+        if !is_row(search, from, count)? {
+            continue;
+        }
+        for at in (from..behind).step_by(JUMP) {
+            if let Some(jump) = address(at)
+                && !search.marks.get(jump)
+                && search.join(jump, Least::Count(1))?
+            {
+                fresh.extend_from_slice(search.added.as_slice())?;
+            }
+        }
+    }
+    Ok(fresh)
+}

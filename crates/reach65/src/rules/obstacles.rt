@@ -1,0 +1,76 @@
+//! What keeps bytes from being code: where reading cannot go on that looks like code up to there.
+
+use crate::rules::sound::begins;
+use crate::rules::step::Steps;
+use isa65::Mnemonic;
+use map65::Marks;
+use std::alloc::{AllocError, Global};
+use std::cmp::Reverse;
+
+/// How many bytes have to be read as code before.
+const LEAST: usize = 16;
+
+/// How many obstacles are told.
+const MOST: usize = 3;
+
+/// An address where code cannot go on, and how many bytes read as code before the longest way came there.
+#[derive(Clone, Copy, PartialEq, Eq, PartialOrd, Ord)]
+pub struct Obstacle {
+    pub address: u16,
+    pub bytes: usize,
+}
+
+/// What kept bytes from being code in trials that failed.
+#[derive(Drop)]
+pub struct Stops {
+    /// The three worst obstacles.
+    pub obstacles: Vec<Obstacle>,
+    /// The calls that were read.
+    pub calls: Marks,
+}
+
+impl Stops {
+    /// Returns none. Fails only if an allocation failed.
+    pub fn none(alloc: Global) -> Result<Stops, AllocError> {
+        Ok(Stops {
+            obstacles: Vec::new(alloc),
+            calls: Marks::none(alloc)?,
+        })
+    }
+}
+
+/// Returns where code cannot go on, of an instruction at the address that is not fine: there, behind it, or where it leads.
+pub fn obstacle_of(steps: &Steps<'_, '_>, address: u16) -> u16 {
+    let Some(step) = steps.at(address) else {
+        return address;
+    };
+    if step.op.mnemonic == Mnemonic::Brk {
+        return address;
+    }
+    for lead in [step.next, step.goal] {
+        if let Some(to) = lead
+            && !begins(steps, lead)
+        {
+            return to;
+        }
+    }
+    address
+}
+
+/// Returns those of the obstacles that keep the most bytes from being code, three at most, from the worst on. Fails only if an allocation
+/// failed.
+pub fn worst_of(alloc: Global, obstacles: &[Obstacle]) -> Result<Vec<Obstacle>, AllocError> {
+    let mut by_address = Vec::from_slice(alloc, obstacles)?;
+    by_address.sort_by_key(|obstacle| (obstacle.address, Reverse(obstacle.bytes)))?;
+    let mut found = Vec::new(alloc);
+    let mut last = None;
+    for &obstacle in &by_address {
+        if last != Some(obstacle.address) && LEAST <= obstacle.bytes {
+            found.push(obstacle)?;
+        }
+        last = Some(obstacle.address);
+    }
+    found.sort_by_key(|obstacle| (Reverse(obstacle.bytes), obstacle.address))?;
+    found.truncate(MOST);
+    Ok(found)
+}
