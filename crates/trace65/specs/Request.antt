@@ -1,11 +1,11 @@
 -- What a command line asks for.
-use Rattle.std.specs.Prelude.{◌==◌, ℕ, Bool, List, [], ◌∷◌, Option, Some, None, Result, Ok, codes, if◌then◌else◌, option_map}
+use Rattle.std.specs.Prelude.{◌==◌, ℕ, Bool, false, List, [], ◌∷◌, Option, Some, None, Result, Ok, Err, codes, if◌then◌else◌, option_map}
 use Rattle.std.specs.List.{slice_split}
 use Rattle.std.specs.String.{string_bytes}
 use Rattle.clap.specs.Words.{Row, Text, first_of}
 use Rattle.info65.specs.Words.{OptionsView, no_options}
 use Rattle.isa65.specs.declared.cpu.Cpu.{Cpu}
-use Rattle.usage65.specs.Words.{accepted, address_in, cpu_in, given, is_set, ◌>>=◌}
+use Rattle.usage65.specs.Words.{Refusal, TwoOfStandardInput, accepted, address_in, cpu_in, given, info_named, is_set, is_taken, or_refused, output_named, ◌>>=◌}
 use Rattle.usage65.specs.declared.fault.UsageFault.{UsageFault}
 use Rattle.trace65.specs.Command.{app}
 use Rattle.trace65.specs.declared.request.Request.{Request}
@@ -50,22 +50,41 @@ entries_given (Some text) = entries_in text
 abbrev pub options_with : Option Text → Option Text → Option ℕ → Option Cpu → OptionsView
 options_with info input start cpu = record no_options { info = info; input = input; start = start; cpu = cpu }
 
+-- the name of the image, if there is one: `-` is standard input
+abbrev pub image_named : Option Text → Option Text
+image_named name = info_named name
+
+-- standard input would have to be the image and the information file
+abbrev pub is_twice : Option Text → Option Text → Bool
+is_twice info None = false
+is_twice info (Some image) = is_taken info image
+
+-- standard input can be only one of the inputs
+abbrev pub files_apart : Option Text → Option Text → Asked → Result Asked Refusal
+files_apart info image asked = if is_twice info image then Err TwoOfStandardInput else Ok asked
+
+-- what is to be traced, once the start, the CPU and the entries are known
+abbrev pub traced_with : List Row → Option ℕ → Option Cpu → List ℕ → Result Asked Refusal
+traced_with rows start cpu entries =
+    files_apart (info_named (first_of (codes "info") rows)) (image_named (first_of (codes "image") rows))
+    (AskTrace (options_with (info_named (first_of (codes "info") rows)) (image_named (first_of (codes "image") rows)) start cpu)
+    entries (is_set (codes "plain") rows) (is_set (codes "whole") rows) (output_named (first_of (codes "output") rows)))
+
 -- the image that is to be traced, or the first fault in the order of start, CPU and entries
-unfoldable pub traced_in : List Row → Result Asked UsageFault
-traced_in rows = do
-  start ← given address_in (first_of (codes "start") rows)
-  cpu ← given cpu_in (first_of (codes "cpu") rows)
-  entries ← entries_given (first_of (codes "entry") rows)
-  Ok (AskTrace (options_with (first_of (codes "info") rows) (first_of (codes "image") rows) start cpu)
-      entries (is_set (codes "plain") rows) (is_set (codes "whole") rows) (first_of (codes "output") rows))
+unfoldable pub traced_in : List Row → Result Asked Refusal
+traced_in rows =
+    or_refused (given address_in (first_of (codes "start") rows)) >>= λ start.
+    or_refused (given cpu_in (first_of (codes "cpu") rows)) >>= λ cpu.
+    or_refused (entries_given (first_of (codes "entry") rows)) >>= λ entries.
+    traced_with rows start cpu entries
 
 -- help comes first, then the version; both before the value of any option
-unfoldable pub asked_in : List Row → Result Asked UsageFault
+unfoldable pub asked_in : List Row → Result Asked Refusal
 asked_in rows =
     if is_set (codes "help") rows then Ok AskHelp
     else (if is_set (codes "version") rows then Ok AskVersion
     else traced_in rows)
 
 -- what the words ask for, of which the first is the program's name
-unfoldable pub asked : List Text → Result Asked UsageFault
-asked words = accepted app words >>= asked_in
+unfoldable pub asked : List Text → Result Asked Refusal
+asked words = or_refused (accepted app words) >>= asked_in

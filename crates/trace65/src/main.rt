@@ -10,6 +10,7 @@
 mod advice;
 mod check;
 mod command;
+mod entries;
 mod failure;
 mod information;
 mod report;
@@ -31,7 +32,7 @@ use usage65::{RequestFault, words_of};
 /// What the program's words ask for.
 fn requested(rt: &HostRuntime) -> Result<Request, RequestFault> {
     let words = words_of(rt)?;
-    Ok(request_of(rt.alloc(), &words)?)
+    request_of(rt.alloc(), &words)
 }
 
 /// Writes a text about the program on standard output.

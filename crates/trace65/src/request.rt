@@ -1,18 +1,21 @@
 //! What a command line asks for.
 
-ghost use Rattle.std.specs.Prelude.{◌≡◌, IfOk, map, vec_items};
+ghost use Rattle.std.specs.Prelude.{◌≡◌};
 ghost use Rattle.clap.specs.Words.{found_of, rows_of};
 ghost use Rattle.info65.specs.Words.{name_seen};
-ghost use Rattle.usage65.specs.Values.{Gives};
+ghost use Rattle.usage65.specs.Requests.{Gives};
 ghost use Rattle.usage65.specs.Words.{text_seen, texts_seen};
-ghost use Rattle.trace65.specs.Words.{addresses_in, asked, asked_in, asked_of, entries_given, entries_in, options_with, parts_of, traced_in};
+ghost use Rattle.trace65.specs.Words.{asked, asked_in, asked_of, image_named, is_twice, options_with, traced_in};
 
 use crate::command::this_program;
+use crate::entries::entries_given;
 use clap::ArgMatches;
 use info65::Options;
 use isa65::Cpu;
-use std::alloc::{AllocError, Global};
-use usage65::{UsageFault, address_in, address_of, cpu_of, is_set, owned, text_of};
+use std::alloc::Global;
+use usage65::{
+    RequestFault, address_of, cpu_of, info_named, is_set, is_taken, output_named, owned, text_of,
+};
 
 /// What a command line asks for.
 #[derive(Drop)]
@@ -42,7 +45,7 @@ pub struct Tracing {
 /// Each option and the name of the image may be given once. Help comes first, then the version, both before any value is
 /// looked at. Then the start, the CPU and the entries are read, in this order. `Memory` is returned only if memory ran out.
 #[tactic(auto, unfolding(crate::specs::Request::asked), using(crate::proofs::CommandLemmas::app_is_plain))]
-pub fn request_of(alloc: Global, words: &[String]) -> Result<Request, UsageFault>
+pub fn request_of(alloc: Global, words: &[String]) -> Result<Request, RequestFault>
     ensures { Gives asked_of result (asked (texts_seen words.now)) }
 {
     let matches = this_program().matches(alloc, words)?;
@@ -51,7 +54,7 @@ pub fn request_of(alloc: Global, words: &[String]) -> Result<Request, UsageFault
 
 /// What the matches ask for.
 #[tactic(auto, unfolding(crate::specs::Request::asked_in))]
-fn request_in(alloc: Global, matches: &ArgMatches) -> Result<Request, UsageFault>
+fn request_in(alloc: Global, matches: &ArgMatches) -> Result<Request, RequestFault>
     ensures { Gives asked_of result (asked_in (rows_of (found_of matches.now))) }
 {
     if is_set(matches, "help") {
@@ -80,17 +83,40 @@ fn options_with(
     options
 }
 
+/// The name of the image, if there is one. `-` is standard input.
+fn image_named(name: Option<&str>) -> Option<&str>
+    ensures { text_seen result ≡ image_named (text_seen name.entry) }
+{
+    info_named(name)
+}
+
+/// Whether standard input would have to be the image and the information file.
+fn is_twice(info: Option<&str>, image: Option<&str>) -> bool
+    ensures { result ≡ is_twice (text_seen info.entry) (text_seen image.entry) }
+{
+    match image {
+        Some(image) => is_taken(info, image),
+        None => false,
+    }
+}
+
 /// The image that is to be traced.
 #[tactic(auto, unfolding(crate::specs::Request::traced_in))]
-fn traced_in(alloc: Global, matches: &ArgMatches) -> Result<Request, UsageFault>
+fn traced_in(alloc: Global, matches: &ArgMatches) -> Result<Request, RequestFault>
     ensures { Gives asked_of result (traced_in (rows_of (found_of matches.now))) }
 {
     let start = address_of(matches, "start")?;
     let cpu = cpu_of(matches, "cpu")?;
     let entries = entries_given(alloc, text_of(matches, "entry"))?;
-    let info = owned(alloc, text_of(matches, "info"))?;
-    let input = owned(alloc, text_of(matches, "image"))?;
-    let output = owned(alloc, text_of(matches, "output"))?;
+    let info = info_named(text_of(matches, "info"));
+    let image = image_named(text_of(matches, "image"));
+    if is_twice(info, image) {
+        return Err(RequestFault::StandardTwice);
+    }
+    let output = output_named(text_of(matches, "output"));
+    let info = owned(alloc, info)?;
+    let input = owned(alloc, image)?;
+    let output = owned(alloc, output)?;
     Ok(Request::Trace(Tracing {
         options: options_with(info, input, start, cpu),
         entries,
@@ -98,40 +124,4 @@ fn traced_in(alloc: Global, matches: &ArgMatches) -> Result<Request, UsageFault>
         whole: is_set(matches, "whole"),
         output,
     }))
-}
-
-/// The texts between the commas of a text.
-fn parts_of(alloc: Global, text: &str) -> Result<Vec<&str>, AllocError>
-    ensures { IfOk result (λ parts. map (λ part. part.now) parts.items ≡ parts_of text.now) }
-{
-    text.split(',').collect(alloc)
-}
-
-/// The addresses of these texts.
-fn addresses_in(alloc: Global, texts: &[&str]) -> Result<Vec<u16>, UsageFault>
-    ensures { Gives vec_items result (addresses_in (map (λ text. text.now) texts.now)) }
-{
-    let mut found = Vec::new(alloc);
-    'texts: for text in texts {
-        found.push(address_in(text.as_bytes())?)?;
-    }
-    Ok(found)
-}
-
-/// The addresses of a text, with commas between them.
-#[tactic(auto, unfolding(crate::specs::Request::entries_in))]
-fn entries_in(alloc: Global, text: &str) -> Result<Vec<u16>, UsageFault>
-    ensures { Gives vec_items result (entries_in text.now) }
-{
-    addresses_in(alloc, &parts_of(alloc, text)?)
-}
-
-/// The addresses that are given as entries, if any are.
-fn entries_given(alloc: Global, text: Option<&str>) -> Result<Vec<u16>, UsageFault>
-    ensures { Gives vec_items result (entries_given (text_seen text.entry)) }
-{
-    match text {
-        Some(text) => entries_in(alloc, text),
-        None => Ok(Vec::new(alloc)),
-    }
 }
