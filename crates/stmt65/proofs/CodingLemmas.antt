@@ -5,7 +5,7 @@ use Rattle.std.proofs.lemmas.Bool.{and_parts}
 use Rattle.std.proofs.Math.Bool.{and-true}
 use Rattle.std.proofs.lemmas.List.{append-nil}
 use Rattle.std.proofs.lemmas.List.Folds.{list_all-append}
-use Rattle.stmt65.specs.Words.{Definition, DifferenceValue, Directive, Distance, Entry, Fill, Fixed, Fragment, HalfOf, NameValue, NumberValue, Oversized, Puts, PutsAll, Single, Value, ZeroPage, address_of, apart, below, coding_len, data_fragments, datum_fragments, datum_of, entry_bytes, entry_fragments, entry_in, entry_limit, find_name, fragment_bytes, fragment_fits, fragment_len, held, is_fragment_known, is_known, is_near, value_in, word_in}
+use Rattle.stmt65.specs.Words.{Definition, DifferenceValue, LessValue, Directive, Distance, Entry, Fill, Fixed, Fragment, HalfOf, NameValue, NumberValue, Oversized, Puts, PutsAll, Single, Value, ZeroPage, address_of, apart, below, coding_len, data_fragments, datum_fragments, datum_of, entry_bytes, entry_fragments, entry_in, entry_limit, find_name, fragment_bytes, fragment_fits, fragment_len, held, is_fragment_known, is_known, is_near, value_in, word_in}
 use Rattle.stmt65.specs.declared.source_line.Value.{Value as CodeValue}
 use Rattle.stmt65.specs.declared.source_line.Datum.{Datum as CodeDatum}
 use Rattle.std.proofs.lemmas.List.{drop_more}
@@ -89,6 +89,7 @@ apart_known (Some d) None h = grind (arith)
 value_known : (all : List Definition) (v : Value) → is_some (value_in all v) ≡ true → is_known all v ≡ true
 unfolding value_in is_known
 value_known all (NumberValue n) h = refl
+value_known all (LessValue w n) h = by_option (find_name w all) (λ d e. rw e refl) (λ e. let h' = rw e at h in absurd cc)
 value_known all (DifferenceValue w v) h = apart_known (find_name w all) (find_name v all) h
 value_known all (NameValue w n minus) h = by_option (find_name w all) (λ d e. rw e refl) (λ e. let h' = rw e at h in absurd cc)
 

@@ -7,7 +7,7 @@ use Rattle.std.proofs.lemmas.Bool.{cases_lt, ltb-true}
 use Rattle.std.proofs.lemmas.Bool.Decides.{nat_tests, Decides-at, Decides-like, Decides-ltb, Decides-not, Decides-or, Decides-and}
 use Rattle.std.proofs.lemmas.Option.{same_Some}
 use Rattle.std.proofs.lemmas.List.Folds.{Any-from_list_any, list_any-from_Any, list_all-map, list_all-append}
-use Rattle.stmt65.specs.Words.{AsmFaultKind, Data, Datum, DefinedTwice, Definition, DifferenceValue, Direct, Distance, EntersPast, Entry, Fill, FindsLowest, FindsNone, Fixed, Form, Fragment, HalfDatum, HalfOf, HasFault, HasNoMode, HasRoom, Instr, IsUnknown, LineHasFault, Memory, NameValue, NamesNoCpu, NoSuchForm, NumberDatum, NumberValue, One, Operation, OutOfRange, Oversized, PastEnd, PastStart, Plain, Reserve, Segment, SetCpu, Single, SourceLine, State, StringDatum, Syntax, Test, Undefined, UnknownCpu, Value, ValueDatum, Values, ZeroPage, below, coding, datum_fragments, datum_values, defined_by, entry_in, entry_limit, fault_of, find_name, first_of, form_values, fragment_fits, fragments_of, gap, has_no_form, has_unknown_cpu, is_before, is_fragment_known, is_known, is_out_of_range, is_past_end, is_past_start, is_short, is_twice, is_undefined, next_of, operation_in, operation_values, rank, start_of, tests_of, value_in, ways, word_in}
+use Rattle.stmt65.specs.Words.{AsmFaultKind, Data, Datum, DefinedTwice, Definition, DifferenceValue, LessValue, Direct, Distance, EntersPast, Entry, Fill, FindsLowest, FindsNone, Fixed, Form, Fragment, HalfDatum, HalfOf, HasFault, HasNoMode, HasRoom, Instr, IsUnknown, LineHasFault, Memory, NameValue, NamesNoCpu, NoSuchForm, NumberDatum, NumberValue, One, Operation, OutOfRange, Oversized, PastEnd, PastStart, Plain, Reserve, Segment, SetCpu, Single, SourceLine, State, StringDatum, Syntax, Test, Undefined, UnknownCpu, Value, ValueDatum, Values, ZeroPage, below, coding, datum_fragments, datum_values, defined_by, entry_in, entry_limit, fault_of, find_name, first_of, form_values, fragment_fits, fragments_of, gap, has_no_form, has_unknown_cpu, is_before, is_fragment_known, is_known, is_out_of_range, is_past_end, is_past_start, is_short, is_twice, is_undefined, next_of, operation_in, operation_values, rank, start_of, tests_of, value_in, ways, word_in}
 use Rattle.isa65.specs.Words.{cpu_named}
 use Rattle.stmt65.proofs.Cases.{by_option, by_test}
 use Rattle.stmt65.proofs.CodingLemmas.{string_known}
@@ -90,6 +90,7 @@ unknown_tied : (all : List Definition) (v : Value) → Decides (not (is_known al
 unfolding is_known
 unknown_tied all (NumberValue n) = never
 unknown_tied all (NameValue w n minus) = none_tied (find_name w all)
+unknown_tied all (LessValue w n) = none_tied (find_name w all)
 unknown_tied all (DifferenceValue w v) = either_tied (find_name w all) (find_name v all)
 
 undefined_tied : (all : List Definition) (s : State) (source : SourceLine) → has_no_form s source ≡ false → Decides (is_undefined all s source) (Any (IsUnknown all) (operation_values (operation_in source)))

@@ -7,7 +7,7 @@ use Rattle.std.specs.Str.{bytes_eq}
 use Rattle.std.proofs.lemmas.List.{map-append}
 use Rattle.std.proofs.lemmas.Bool.{cases_lt, ltb-false, ltb-true}
 use Rattle.std.proofs.lemmas.Bool.Decides.{nat_tests}
-use Rattle.stmt65.specs.Words.{AsmFaultKind, Assignment, Coded, Codes, DefinedTwice, Definition, DifferenceValue, Directive, Distance, Entry, Fill, Fixed, Form, Fragment, Instr, IsCoding, IsPlaced, Language, Layout, Minus, NameValue, NoSuchForm, NumberValue, One, Operation, OutOfRange, Oversized, PastEnd, PastStart, PlaceAssignment, Placed, PutsAll, Segment, SourceLine, State, Statement, Two, Undefined, UnknownCpu, Value, Zero, address_of, after, below, bytes_of, coded, coded_of, coding, coding_len, defined_by, definitions_in, entry_in, entry_limit, fault_of, final, find_name, first_of, fragment_bytes, fragment_fits, fragments_in, fragments_of, gap, has_no_form, has_unknown_cpu, has_zero_page_size, have_room, held, held_after, held_coded, held_definition, held_final, held_value, initial, is_before, is_constant, is_fragment_known, is_known, is_near, is_out_of_range, is_past_end, is_past_start, is_short, is_small, is_twice, is_undefined, lowered, meaning_in, meaning_of, next_of, operation_in, readings, start_of, value_in, word_in}
+use Rattle.stmt65.specs.Words.{AsmFaultKind, Assignment, Coded, Codes, DefinedTwice, Definition, DifferenceValue, LessValue, Directive, Distance, Entry, Fill, Fixed, Form, Fragment, Instr, IsCoding, IsPlaced, Language, Layout, Minus, NameValue, NoSuchForm, NumberValue, One, Operation, OutOfRange, Oversized, PastEnd, PastStart, PlaceAssignment, Placed, PutsAll, Segment, SourceLine, State, Statement, Two, Undefined, UnknownCpu, Value, Zero, address_of, after, apart, below, bytes_of, coded, coded_of, coding, coding_len, defined_by, definitions_in, entry_in, entry_limit, fault_of, final, find_name, first_of, fragment_bytes, fragment_fits, fragments_in, fragments_of, gap, has_no_form, has_unknown_cpu, has_zero_page_size, have_room, held, held_after, held_coded, held_definition, held_final, held_value, initial, is_before, is_constant, is_fragment_known, is_known, is_near, is_out_of_range, is_past_end, is_past_start, is_short, is_small, is_twice, is_undefined, lowered, meaning_in, meaning_of, next_of, operation_in, readings, start_of, value_in, word_in}
 use Rattle.stmt65.specs.declared.directive.Directive.TheVariants.{Word}
 use Rattle.stmt65.proofs.Cases.{by_option, by_test}
 
@@ -32,6 +32,7 @@ pub is_known-held : (ds : List Definition) (v : Value) → is_known (map held_de
 unfolding is_known
 is_known-held ds (NumberValue n) = refl
 is_known-held ds (NameValue w n less) = rw (find_name-held w ds) (is_some-map held_definition (find_name w ds))
+is_known-held ds (LessValue w n) = rw (find_name-held w ds) (is_some-map held_definition (find_name w ds))
 is_known-held ds (DifferenceValue w v) = grind (arith, find_name-held, is_some-map)
 
 -- the address of a name, held
@@ -66,12 +67,19 @@ value_in-held : {X : Type 0} (test : Option ℕ → X) → IsFar test → (ds : 
 unfolding value_in
 value_in-held test far ds (NumberValue n) = refl
 value_in-held test far ds (NameValue w n less) = grind (arith, find_name-held, by_option, lowered_far)
+value_in-held test far ds (LessValue w n) = rw (find_name-held w ds, address-held (find_name w ds)) refl
 value_in-held test far ds (DifferenceValue w v) = rw (find_name-held w ds, find_name-held v ds, address-held (find_name w ds), address-held (find_name v ds)) refl
+
+-- a number that is held is as far past each address as it was
+less-held : (o : Option Definition) (n : ℕ) → apart (address_of o) (Some (held n)) ≡ apart (address_of o) (Some n)
+less-held None n = refl
+less-held (Some d) n = by_test (ltb d.value 65536) (λ e. grind (arith, nat_tests)) (λ e. rw e refl)
 
 value_in-held_value : {X : Type 0} (test : Option ℕ → X) → IsFar test → (ds : List Definition) (v : Value) → test (value_in ds (held_value v)) ≡ test (value_in ds v)
 unfolding value_in
 value_in-held_value test far ds (NumberValue n) = lowered_far test far Zero (held n) n (omega arith)
 value_in-held_value test far ds (NameValue w n less) = grind (arith, by_option, lowered_far)
+value_in-held_value test far ds (LessValue w n) = ap test (less-held (find_name w ds) n)
 value_in-held_value test far ds (DifferenceValue w v) = refl
 
 pub word_in-held : (ds : List Definition) (v : Value) → word_in (map held_definition ds) v ≡ word_in ds v
@@ -92,6 +100,7 @@ size-held : (ds : List Definition) (v : Value) → has_zero_page_size (map held_
 unfolding has_zero_page_size
 size-held ds (NumberValue n) = refl
 size-held ds (DifferenceValue w v) = refl
+size-held ds (LessValue w n) = rw (value_in-held is_small small_far ds (LessValue w n), find_name-held w ds, constant-held (find_name w ds)) refl
 size-held ds (NameValue w n less) = rw (value_in-held is_small small_far ds (NameValue w n less), find_name-held w ds, constant-held (find_name w ds)) refl
 
 pub word_in-held_value : (ds : List Definition) (v : Value) → below 65536 (value_in ds (held_value v)) ≡ word_in ds v
@@ -106,6 +115,7 @@ pub size-held_value : (ds : List Definition) (v : Value) → has_zero_page_size 
 unfolding has_zero_page_size
 size-held_value ds (NumberValue n) = grind (arith, nat_tests)
 size-held_value ds (DifferenceValue w v) = refl
+size-held_value ds (LessValue w n) = ap (λ (b : Bool). is_constant (find_name w ds) && b) (value_in-held_value is_small small_far ds (LessValue w n))
 size-held_value ds (NameValue w n less) = ap (λ (b : Bool). is_constant (find_name w ds) && b) (value_in-held_value is_small small_far ds (NameValue w n less))
 
 pub ruleset held_values = (word_in-held_value, entry_in-held_value, size-held_value)

@@ -77,7 +77,7 @@ rows =
     (meaning_of free 0x1000 [], Ok []) ∷
     -- texts of repairs: halves, differences, lists of halves, reserved bytes, numbers, `=`, and the accumulator without `a`
     (meaning_in Repair free 0x1000 (codes "lda #<foo\nldx #>(foo+1)\nfoo: rts\n"), Ok (0xA9 ∷ 0x04 ∷ 0xA2 ∷ 0x10 ∷ 0x60 ∷ [])) ∷
-    (meaning_in Repair free 0x1000 (codes "foo: .byte <foo,>foo,bar-foo,bar-$1\nbar:\n"), at_line 1 Syntax) ∷
+    (meaning_in Repair free 0x1000 (codes "foo: .byte <foo,>foo,bar-foo,bar-$1\nbar:\n"), at_line 1 OutOfRange) ∷
     (meaning_in Repair free 0x1000 (codes "foo: .byte <foo,>foo,bar-foo,'A',%110\nbar:\n"), Ok (0 ∷ 0x10 ∷ 5 ∷ 65 ∷ 6 ∷ [])) ∷
     (meaning_in Repair free 0x1000 (codes "foo: .byte foo-foo\nlda a:foo-foo\n"), at_line 2 Syntax) ∷
     (meaning_in Repair free 0x1000 (codes "foo: .byte foo-foo\n"), Ok (0 ∷ [])) ∷
@@ -88,6 +88,15 @@ rows =
     (meaning_in Repair free 0x1000 (codes "foo = $12\nlda foo\nasl\nlda foo-bar\n"), at_line 4 Syntax) ∷
     (meaning_in Repair free 0x1000 (codes "foo = $12\nlda foo\nasl\n"), Ok (0xA5 ∷ 0x12 ∷ 0x0A ∷ [])) ∷
     (meaning_in Repair free 0x1000 (codes ".res 1,$100\n"), at_line 1 OutOfRange) ∷
+    -- a name less a number: a constant above gives it zero-page size below $100, a label and a later constant do not
+    (meaning_in Repair free 0x1000 (codes "foo = $12\nlda foo-2,x\nbar: lda bar-2\n.word bar-$FFF,bar-2\n"), Ok (0xB5 ∷ 0x10 ∷ 0xAD ∷ 0 ∷ 0x10 ∷ 3 ∷ 0 ∷ 0 ∷ 0x10 ∷ [])) ∷
+    (meaning_in Repair free 0x1000 (codes "foo = $102\nlda foo-2\nlda foo-$10\nlda a:foo-$10\n"), Ok (0xAD ∷ 0 ∷ 1 ∷ 0xA5 ∷ 0xF2 ∷ 0xAD ∷ 0xF2 ∷ 0 ∷ [])) ∷
+    (meaning_in Repair free 0x1000 (codes "lda foo-2\nfoo = $22\n"), Ok (0xAD ∷ 0x20 ∷ 0 ∷ [])) ∷
+    (meaning_in Repair free 0x1000 (codes ".byte <(bar-2),>(bar-2),bar-$FFF\nbar:\n"), Ok (1 ∷ 0x10 ∷ 4 ∷ [])) ∷
+    -- it is not below 0, nor is a half of it
+    (meaning_in Repair free 0x1000 (codes "foo = 5\n.word foo-5\n.word foo-6\n"), at_line 3 OutOfRange) ∷
+    (meaning_in Repair free 0x1000 (codes "foo = 5\n.byte <(foo-6)\n"), at_line 2 OutOfRange) ∷
+    (meaning_in Repair free 0x1000 (codes ".word foo-1,foo-2\n"), at_line 1 Undefined) ∷
     -- a character is a byte from $20 to $7E, and a reserved word is no name
     (meaning_in Repair free 0x1000 (codes ".byte '" ++ 0x1F ∷ codes "'\n"), at_line 1 Syntax) ∷
     (meaning_in Repair free 0x1000 (codes ".byte '" ++ 0x7F ∷ codes "'\n"), at_line 1 Syntax) ∷

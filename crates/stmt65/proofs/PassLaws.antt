@@ -5,7 +5,7 @@ use Rattle.std.specs.List.{list_all, flat_map}
 use Rattle.std.proofs.lemmas.Bool.{and_parts}
 use Rattle.std.proofs.lemmas.List.{append-nil, drop-append-le, drop_all, drop_more, length-drop, take-append-le, take_all, take_at}
 use Rattle.std.specs.Str.{bytes_eq}
-use Rattle.stmt65.specs.Words.{AsmFault, AsmFaultKind, Codes, Definition, DifferenceValue, Fill, Fixed, Fragment, GoesOn, IsIdle, IsOf, IsPassed, IsPlaced, IsSound, Language, Late, Layout, NameValue, NumberValue, Oversized, Pass, Placed, Source, SourceLine, State, Syntax, Takes, Value, Work, bytes_of, coded_late, defined_in, entry_in, fault_at, fault_of, fault_or, fault_past, find_name, fragment_bytes, fragment_fits, fragments_in, fragments_of, fronts, held, held_after, held_coded, held_final, initial, is_fragment_known, is_known, is_out_of_range, is_undefined, late_state, next_of, parts, reading_of, readings, source_meaning, source_of, source_readings, source_state, state_in, unless, value_in, with_front, word_in, work_of}
+use Rattle.stmt65.specs.Words.{AsmFault, AsmFaultKind, Codes, Definition, DifferenceValue, LessValue, Fill, Fixed, Fragment, GoesOn, IsIdle, IsOf, IsPassed, IsPlaced, IsSound, Language, Late, Layout, NameValue, NumberValue, Oversized, Pass, Placed, Source, SourceLine, State, Syntax, Takes, Value, Work, bytes_of, coded_late, defined_in, entry_in, fault_at, fault_of, fault_or, fault_past, find_name, fragment_bytes, fragment_fits, fragments_in, fragments_of, fronts, held, held_after, held_coded, held_final, initial, is_fragment_known, is_known, is_out_of_range, is_undefined, late_state, next_of, parts, reading_of, readings, source_meaning, source_of, source_readings, source_state, state_in, unless, value_in, with_front, word_in, work_of}
 use Rattle.text65.specs.Lines.{text_lines}
 use Rattle.stmt65.proofs.Cases.{by_option, by_test}
 use Rattle.stmt65.proofs.HeldLemmas.{fragments-placed, meaning_held, none_fits, past-held}
@@ -38,12 +38,14 @@ value_more : (ds more : List Definition) (v : Value) → is_known ds v ≡ true 
 unfolding value_in is_known
 value_more ds more (NumberValue n) h = refl
 value_more ds more (NameValue w n minus) h = rw (find_more w ds more h) refl
+value_more ds more (LessValue w n) h = rw (find_more w ds more h) refl
 value_more ds more (DifferenceValue w v) h = grind (arith, and_parts, find_more)
 
 known_more : (ds more : List Definition) (v : Value) → is_known ds v ≡ true → is_known (ds ++ more) v ≡ true
 unfolding is_known
 known_more ds more (NumberValue n) h = refl
 known_more ds more (NameValue w n minus) h = rw (find_more w ds more h) h
+known_more ds more (LessValue w n) h = rw (find_more w ds more h) h
 known_more ds more (DifferenceValue w v) h = grind (arith, and_parts, find_more)
 
 -- a fragment whose names are known is the same by more definitions

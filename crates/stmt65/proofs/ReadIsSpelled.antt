@@ -115,7 +115,7 @@ second_read Automatic v ps comma = given _ (next_value Listing (drop 1 ps)) _ (�
     let f = at (λ w. Fronts (IsValue w.0) (drop 1 ps) w.1) (next_value Listing (drop 1 ps)) w e (value_read (drop 1 ps)) in
     ended _ _ w.1 (λ end. (mark 44 ∷ value w.0 ∷ [], refl, at_mark 44 _ ps comma (at_value w.0 [] (drop 1 ps) w.1 f (rw end at_end)))))
 
-tail_read : (size : AddressSize) (v : Value) (ps : List Part) → IfSome (tail_at size v ps) (λ f. (is : List Item) × (form_items f ≡ direct_items size v is) × Spells is ps)
+tail_read : (size : AddressSize) (v : Value) (ps : List Part) → IfSome (tail_at Listing size v ps) (λ f. (is : List Item) × (form_items f ≡ direct_items size v is) × Spells is ps)
 unfolding tail_at
 tail_read size v ps =
     by_test (is_mark 44 ps)
@@ -169,11 +169,11 @@ form_read ps =
     (λ paren. rw paren (joins _ (mark 40 ∷ []) (drop 1 ps) ps (λ is h. at_mark 40 is ps paren h) (value_then (drop 1 ps) inner_at (mark 40 ∷ []) inner_read)))
     (λ paren. rw paren (by_test (is_word_here (codes "a") ps)
     (λ a. rw a (by_test (is_mark 58 (drop 1 ps))
-    (λ colon. rw colon (joins _ (prefix_items true) (drop 1 (drop 1 ps)) ps (λ is h. at_word (codes "a") _ ps a (at_mark 58 is (drop 1 ps) colon h)) (value_then (drop 1 (drop 1 ps)) (tail_at Absolute) (prefix_items true) (tail_read Absolute))))
+    (λ colon. rw colon (joins _ (prefix_items true) (drop 1 (drop 1 ps)) ps (λ is h. at_word (codes "a") _ ps a (at_mark 58 is (drop 1 ps) colon h)) (value_then (drop 1 (drop 1 ps)) (tail_at Listing Absolute) (prefix_items true) (tail_read Absolute))))
     (λ colon. rw colon (by_list (drop 1 ps) (λ end. rw end (at_word (codes "a") [] ps a (rw end at_end))) (λ q qs e. rw e tt)))))
     (λ a. rw a (by_list ps
     (λ end. rw end at_end)
-    (λ q qs e. rw e (joins _ [] (q ∷ qs) (q ∷ qs) (λ is h. h) (value_then (q ∷ qs) (tail_at Automatic) [] (tail_read Automatic))))))))))
+    (λ q qs e. rw e (joins _ [] (q ∷ qs) (q ∷ qs) (λ is h. h) (value_then (q ∷ qs) (tail_at Listing Automatic) [] (tail_read Automatic))))))))))
 
 -- ---- lists
 

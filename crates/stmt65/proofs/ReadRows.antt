@@ -3,7 +3,7 @@ use Rattle.std.proofs.Common.{◌≡◌, ℕ, List, [], ◌∷◌, ◌++◌, Opt
 use Rattle.std.specs.Prelude.{codes, is_some, map, replicate}
 use Rattle.std.specs.List.{filter}
 use Rattle.isa65.specs.Words.{mnemonic_named}
-use Rattle.stmt65.specs.Words.{AbsoluteX, AbsoluteY, Accumulator, Addr, Asl, Assignment, Bbr0, Bne, Cmp, Code, Data, Dbyt, DifferenceValue, Direct, Dword, Empty, Form, HalfDatum, High, Immediate, Inc, Indirect, IndirectX, IndirectY, Instr, Jmp, Language, Lda, Ldx, Listing, Low, Mnemonic, NameValue, Nop, Nothing, NumberDatum, NumberValue, One, Operation, PlaceAssignment, Plain, Repair, Reserve, Ror, Rts, Segment, SetCpu, SourceLine, Statement, StringDatum, Two, Value, ValueDatum, Values, Zero, constant_of, directive_named, further_at, halved_in, immediate_of, inner_at, is_name, joined, less_one, line_at, mark_datum, named_at, next_datum, next_half, next_value, operation_at, other_at, part_at, parts, parts_after, reading_of, tail_at, text_in, word_datum}
+use Rattle.stmt65.specs.Words.{AbsoluteX, AbsoluteY, Accumulator, Addr, Asl, Assignment, Bbr0, Bne, Cmp, Code, Data, Dbyt, DifferenceValue, Direct, DirectX, DirectY, Dword, Empty, Form, HalfDatum, High, Immediate, Inc, Indirect, IndirectX, IndirectY, Instr, Jmp, Language, Lda, Ldx, LessValue, Listing, Low, Mnemonic, NameValue, Nop, Nothing, NumberDatum, NumberValue, One, Operation, PlaceAssignment, Plain, Repair, Reserve, Ror, Rts, Segment, SetCpu, SourceLine, Statement, StringDatum, Two, Value, ValueDatum, Values, Zero, constant_of, directive_named, further_at, halved_in, immediate_of, inner_at, is_name, joined, less_one, line_at, mark_datum, named_at, next_datum, next_half, next_value, operation_at, other_at, part_at, parts, parts_after, reading_of, tail_at, text_in, word_datum}
 use Rattle.text65.specs.Names.{has_name_form, is_reserved_word}
 use Rattle.stmt65.specs.Parts.{number_of}
 use Rattle.stmt65.specs.Reading.{form_of, operation_of}
@@ -25,6 +25,9 @@ minus_one name n = NameValue name n MinusOne
 
 abbrev name : Value
 name = plus (codes "name") 0
+
+abbrev less : ℕ → Value
+less = LessValue (codes "name")
 
 abbrev difference : Value
 difference = DifferenceValue (codes "end") (codes "start")
@@ -124,6 +127,20 @@ repairs =
     ∷ (codes "lda #<(name+1)", op Lda (One (Half Low) (plus (codes "name") 1)))
     ∷ (codes "lda #>(end-start)", op Lda (One (Half High) difference))
     ∷ (codes "lda #end-start", op Lda (One (Plain Immediate) difference))
+    ∷ (codes "lda name-2,x", op Lda (One (Plain DirectX) (less 2)))
+    ∷ (codes "lda name - $02 , Y ; two", op Lda (One (Plain DirectY) (less 2)))
+    ∷ (codes "lda a:name-2", op Lda (One Absolute (less 2)))
+    ∷ (codes "lda name-1,x", op Lda (One (Plain DirectX) (minus_one (codes "name") 0)))
+    ∷ (codes "lda name-$01,x", op Lda (One (Plain DirectX) (less 1)))
+    ∷ (codes "lda (name-'A'),y", op Lda (One (Plain IndirectY) (less 65)))
+    ∷ (codes "lda (name-%11,x)", op Lda (One (Plain IndirectX) (less 3)))
+    ∷ (codes "jmp (name-2)", op Jmp (One (Plain Indirect) (less 2)))
+    ∷ (codes "bbr0 name-2,name-5", op Bbr0 (Two (less 2) (less 5)))
+    ∷ (codes "lda #name-2", op Lda (One (Plain Immediate) (less 2)))
+    ∷ (codes "lda #>(name-2)", op Lda (One (Half High) (less 2)))
+    ∷ (codes ".byte <(name-2),name-0,\"a\"", line (Data (HalfDatum Low (less 2) ∷ ValueDatum (less 0) ∷ StringDatum (codes "a") ∷ [])))
+    ∷ (codes ".word name-1,name-2", line (Values Word (minus_one (codes "name") 0 ∷ less 2 ∷ [])))
+    ∷ (codes ".lobytes name-$1234", line (Data (HalfDatum Low (less 0x1234) ∷ [])))
     ∷ (codes "lda #%1010", op Lda (One (Plain Immediate) (number 10)))
     ∷ (codes "cmp #'A'", op Cmp (One (Plain Immediate) (number 65)))
     ∷ (codes "cmp #'''", op Cmp (One (Plain Immediate) (number 39)))
@@ -152,10 +169,12 @@ abbrev refused_of_repairs : List (List ℕ)
 refused_of_repairs =
     -- ca65 reads a sum after the half
     codes "lda #<name+1" ∷ codes "lda #>name-1" ∷ codes ".byte <name+1" ∷ codes "lda #<" ∷ codes "lda #<(name" ∷ codes "lda #<<name" ∷ codes "lda <name"
-    -- an address is written as in a listing
+    -- an address is no half and no difference
     ∷ codes "lda end-start" ∷ codes "lda (end-start),y" ∷ codes "jmp >name" ∷ codes ".word <name"
-    -- a difference has two names
-    ∷ codes "lda #end-$12" ∷ codes "lda #$12-start" ∷ codes "lda #end-start-1" ∷ codes "lda #end+1-start" ∷ codes "lda #end-a"
+    -- a number or a name is subtracted, once, from a name alone
+    ∷ codes "lda a:end-start" ∷ codes "bbr0 end-start,name" ∷ codes "bbr0 $12,end-start" ∷ codes "lda name-2-1" ∷ codes "lda name+3-2" ∷ codes "lda name-2+3" ∷ codes "lda name-" ∷ codes "lda name-(2)"
+    ∷ codes "lda name--2" ∷ codes "v := name-2" ∷ codes ".res name-2" ∷ codes "lda #<name-2" ∷ codes ".byte <name-2"
+    ∷ codes "lda #$12-start" ∷ codes "lda #end-start-1" ∷ codes "lda #end+1-start" ∷ codes "lda #end-a"
     ∷ codes ".lobytes" ∷ codes ".lobytes <name" ∷ codes ".lobytes \"a\"" ∷ codes ".res" ∷ codes ".res name" ∷ codes ".res 1," ∷ codes ".res 1,2,3"
     ∷ codes "v = name" ∷ codes "v = * + 1" ∷ codes "a = 5" ∷ codes "lda #%" ∷ codes "lda #%12"
     ∷ codes "lda #''" ∷ codes "lda #'AB'" ∷ codes "lda #'\t'" ∷ (codes "lda #'" ++ 0x80 ∷ codes "'")

@@ -8,7 +8,7 @@ use Rattle.std.proofs.lemmas.List.{take-append-le, drop-append-le, length-drop}
 use Rattle.std.proofs.lemmas.Bool.Decides.{nat_tests}
 use Rattle.std.proofs.lemmas.List.Folds.{list_all-append, prefix_len-append}
 use Rattle.text65.specs.Names.{is_blank}
-use Rattle.stmt65.specs.Words.{Assignment, Datum, DifferenceValue, Direct, Form, HalfDatum, Instr, IsDatum, IsItem, IsList, IsMinus, IsPlus, IsSpelling, IsValue, Item, Listing, Mark, Minus, NameValue, Nothing, NumberDatum, NumberValue, One, Operation, Part, PlaceAssignment, Plain, SourceLine, Spells, Statement, StringDatum, Value, ValueDatum, Zero, begins_with, form_items, is_text_byte, line_items, operation_items, part_at, parts, parts_after}
+use Rattle.stmt65.specs.Words.{Assignment, Datum, DifferenceValue, LessValue, Direct, Form, HalfDatum, Instr, IsDatum, IsItem, IsList, IsMinus, IsPlus, IsSpelling, IsValue, Item, Listing, Mark, Minus, NameValue, Nothing, NumberDatum, NumberValue, One, Operation, Part, PlaceAssignment, Plain, SourceLine, Spells, Statement, StringDatum, Value, ValueDatum, Zero, begins_with, form_items, is_text_byte, line_items, operation_items, part_at, parts, parts_after}
 use Rattle.stmt65.specs.Spelling as item
 use Rattle.stmt65.specs.declared.source_line.Minus.TheVariants.{One as MinusOne}
 use Rattle.stmt65.proofs.Cases.{by_test}
@@ -95,6 +95,7 @@ minus_closed Zero ps h = rw h refl
 value_closed : (v : Value) (ps : List Part) → IsValue v ps → AreClosed ps
 value_closed (NumberValue n) ps h = rw h.2 refl
 value_closed (NameValue w n less) ps h = rw h.2 (both_closed h.0 h.1 (plus_closed n h.0 h.4) (minus_closed less h.1 h.5))
+value_closed (LessValue w n) ps h = absurd h
 value_closed (DifferenceValue w v) ps h = absurd h
 
 datum_closed : (d : Datum) (ps : List Part) → IsDatum d ps → AreClosed ps

@@ -3,7 +3,7 @@ use Rattle.std.proofs.Common.{◌≡◌, ℕ, zero, suc, true, false, eqb, List,
 use Rattle.std.specs.Prelude.{codes}
 use Rattle.std.proofs.lemmas.List.{append-nil, length-append}
 use Rattle.isa65.specs.Words.{text_of}
-use Rattle.stmt65.specs.Words.{Accumulator, AddressSize, Assignment, Automatic, Code, Data, Datum, Define, DifferenceValue, Direct, DirectX, DirectY, Directive, Empty, Form, HalfDatum, Immediate, Indirect, IndirectX, IndirectY, Instr, IsDatum, IsItem, IsList, IsMinus, IsPlus, IsSpelling, IsValue, Item, Listing, Mark, Minus, NameValue, Nothing, Number, NumberDatum, NumberValue, One, Operation, Part, PlaceAssignment, Reserve, Segment, SetCpu, SourceLine, Spells, Statement, StringDatum, Two, Value, ValueDatum, Values, Word, Zero, constant_of, data_list, data_of, define, directive_text, form_items, further_at, immediate_of, inner_at, is_absolute, is_define, is_mark, is_name, is_nil, is_word_here, joined, less_one, line_at, mark, mark_datum, name, named_at, next_datum, next_value, number, operation_at, operation_items, other_at, prefix_items, quoted_name, reading_of, same, segment_of, set_cpu_of, sized, string, tail_at, text_in, unwritten, value, value_list, values_of, whole, word, word_datum}
+use Rattle.stmt65.specs.Words.{Accumulator, AddressSize, Assignment, Automatic, Code, Data, Datum, Define, DifferenceValue, LessValue, Direct, DirectX, DirectY, Directive, Empty, Form, HalfDatum, Immediate, Indirect, IndirectX, IndirectY, Instr, IsDatum, IsItem, IsList, IsMinus, IsPlus, IsSpelling, IsValue, Item, Listing, Mark, Minus, NameValue, Nothing, Number, NumberDatum, NumberValue, One, Operation, Part, PlaceAssignment, Reserve, Segment, SetCpu, SourceLine, Spells, Statement, StringDatum, Two, Value, ValueDatum, Values, Word, Zero, constant_of, data_list, data_of, define, directive_text, form_items, further_at, immediate_of, inner_at, is_absolute, is_define, is_mark, is_name, is_nil, is_word_here, joined, less_one, line_at, mark, mark_datum, name, named_at, next_datum, next_value, number, operation_at, operation_items, other_at, prefix_items, quoted_name, reading_of, same, segment_of, set_cpu_of, sized, string, tail_at, text_in, unwritten, value, value_list, values_of, whole, word, word_datum}
 use Rattle.stmt65.specs.declared.source_line.AddressSize.TheVariants.{Absolute}
 use Rattle.stmt65.specs.declared.source_line.Minus.TheVariants.{One as MinusOne}
 use Rattle.stmt65.specs.declared.source_line.Notation.TheVariants as notation
@@ -76,6 +76,7 @@ pub value_again : (v : Value) (front rest : List Part) → IsValue v front → S
 unfolding next_value
 value_again (NumberValue n) front rest h stop = rw (h.2, ← h.1) refl
 value_again (NameValue w n less) front rest h stop = rw (h.2, append_assoc h.0 h.1 rest) (rw h.3 (named_again w n less h.0 h.1 rest h.4 h.5 stop))
+value_again (LessValue w n) front rest h stop = absurd h
 value_again (DifferenceValue w v) front rest h stop = absurd h
 
 -- what begins with a value begins with no mark and no letter
@@ -89,10 +90,11 @@ record Begins (ps : List Part) : Type 0 where
 value_begins : (v : Value) (front rest : List Part) → IsValue v front → Begins (front ++ rest)
 value_begins (NumberValue n) front rest h = rw h.2 (record { mark = λ b. refl; a = refl; x = refl; y = refl; some = refl })
 value_begins (NameValue w n less) front rest h = let no = no_letter w h.3 in rw h.2 (record { mark = λ b. refl; a = no.0; x = no.1; y = no.2; some = refl })
+value_begins (LessValue w n) front rest h = absurd h
 value_begins (DifferenceValue w v) front rest h = absurd h
 
 -- a value that stands first in an operand
-first_value : (v : Value) (front rest : List Part) → IsValue v front → Stops rest → form_of Listing (front ++ rest) ≡ tail_at Automatic v rest
+first_value : (v : Value) (front rest : List Part) → IsValue v front → Stops rest → form_of Listing (front ++ rest) ≡ tail_at Listing Automatic v rest
 unfolding form_of
 first_value v front rest h stop = grind (arith, value_begins, value_again)
 
@@ -101,7 +103,7 @@ first_value v front rest h stop = grind (arith, value_begins, value_again)
 -- an operand that begins with a value, with or without `a:`
 direct : (size : AddressSize) (v : Value) (is : List Item) (ps : List Part) (f : Form)
     → Spells (prefix_items (is_absolute size) ++ value v ∷ is) ps
-    → ((rest : List Part) → Spells is rest → Stops rest × (tail_at size v rest ≡ Some f))
+    → ((rest : List Part) → Spells is rest → Stops rest × (tail_at Listing size v rest ≡ Some f))
     → form_of Listing ps ≡ Some f
 unfolding form_of
 direct Absolute v is ps f h k = grind (arith, un_word, un_mark, un_value, value_again)

@@ -3,7 +3,7 @@ use Rattle.std.specs.Prelude.{◌≡◌, ◌↔◌, ◌⊎◌, ℕ, ◌+◌, ◌
 use Rattle.std.specs.List.{Any, flat_map}
 use Rattle.isa65.specs.Words.{cpu_named}
 use Rattle.stmt65.specs.Types.{AsmFaultKind, Cpu, DefinedTwice, Memory, NoSuchForm, OutOfRange, PastEnd, PastStart, Syntax, Undefined, UnknownCpu}
-use Rattle.stmt65.specs.SourceLine.{Value, NumberValue, NameValue, DifferenceValue, Datum, ValueDatum, HalfDatum, Operation, Instr, Data, Values, Segment, SetCpu, SourceLine}
+use Rattle.stmt65.specs.SourceLine.{Value, NumberValue, NameValue, LessValue, DifferenceValue, Datum, ValueDatum, HalfDatum, Operation, Instr, Data, Values, Segment, SetCpu, SourceLine}
 use Rattle.stmt65.specs.Symbols.{Definition, find_name, value_in}
 use Rattle.stmt65.specs.Coding.{entry_limit, Fragment, Fixed, Single, ZeroPage, Oversized, Entry, Distance, HalfOf, Fill, State}
 use Rattle.stmt65.specs.Layout.{start_of}
@@ -50,6 +50,7 @@ HasNoMode cpu _ = ⊥
 abbrev pub IsUnknown : List Definition → Value → Type 0
 IsUnknown all (NumberValue n) = ⊥
 IsUnknown all (NameValue w n minus) = find_name w all ≡ None
+IsUnknown all (LessValue w n) = find_name w all ≡ None
 IsUnknown all (DifferenceValue w v) = (find_name w all ≡ None) ⊎ (find_name v all ≡ None)
 
 -- the expression has a value, and it is at most the limit

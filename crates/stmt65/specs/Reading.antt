@@ -8,7 +8,7 @@ use Rattle.stmt65.specs.Types.{AddressSize, Asl, Automatic, Dec, Direct, DirectX
 use Rattle.text65.specs.Names.{has_name_form}
 use Rattle.stmt65.specs.Signs.{hash, left_paren, right_paren, star, plus, comma, minus, colon, less, equals, greater}
 use Rattle.stmt65.specs.Forms.{sized}
-use Rattle.stmt65.specs.SourceLine.{is_absolute, Value, NumberValue, NameValue, DifferenceValue, Form, Empty, Accumulator, One, Two, Datum, NumberDatum, StringDatum, ValueDatum, HalfDatum, Operation, Nothing, Instr, Data, Values, Reserve, Segment, Code, SetCpu, SourceLine, Assignment, PlaceAssignment, Statement}
+use Rattle.stmt65.specs.SourceLine.{is_absolute, Value, NumberValue, NameValue, LessValue, DifferenceValue, Form, Empty, Accumulator, One, Two, Datum, NumberDatum, StringDatum, ValueDatum, HalfDatum, Operation, Nothing, Instr, Data, Values, Reserve, Segment, Code, SetCpu, SourceLine, Assignment, PlaceAssignment, Statement}
 use Rattle.stmt65.specs.declared.source_line.AddressSize.TheVariants.{Absolute}
 use Rattle.stmt65.specs.declared.source_line.Half.{Half}
 use Rattle.stmt65.specs.declared.source_line.Minus.TheVariants.{One as MinusOne}
@@ -68,19 +68,20 @@ abbrev pub name_in : List Part → Option (List ℕ × List Part)
 name_in (Word w ∷ ps) = if_name w (Some (w, ps))
 name_in _ = None
 
--- after a name and `-`: in a repair another name
-abbrev pub less_name : Language → List ℕ → List Part → Option (Value × List Part)
-less_name Listing w ps = None
-less_name Repair w ps = name_in ps >>= λ v. Some (DifferenceValue w v.0, v.1)
+-- after a name and `-`: in a repair a number or another name
+abbrev pub less_at : Language → List ℕ → List Part → Option (Value × List Part)
+less_at Listing w ps = None
+less_at Repair w (Number t ∷ ps) = Some (LessValue w (number_of t), ps)
+less_at Repair w ps = name_in ps >>= λ v. Some (DifferenceValue w v.0, v.1)
 
--- after a name and what is added to it: `-1`, the digit 1 itself, or nothing
+-- after a name and what is added to it: `-1`, the digit 1 itself; in a repair more that is subtracted; or nothing
 unfoldable pub less_one : Language → List ℕ → ℕ → List Part → Option (Value × List Part)
 less_one language w n ps =
     if is_mark minus ps then
-    (if is_number_here (codes "1") (drop 1 ps) then Some (NameValue w n MinusOne, drop 1 (drop 1 ps)) else less_name language w (drop 1 ps))
+    (if is_number_here (codes "1") (drop 1 ps) then Some (NameValue w n MinusOne, drop 1 (drop 1 ps)) else less_at language w (drop 1 ps))
     else Some (NameValue w n Zero, ps)
 
--- after a name: `+` and a number, or nothing; from a sum no name is subtracted
+-- after a name: `+` and a number, or nothing; from a sum only 1 is subtracted
 unfoldable pub named_at : Language → List ℕ → List Part → Option (Value × List Part)
 named_at language w ps = if is_mark plus ps then (number_in (drop 1 ps) >>= λ n. less_one Listing w n.0 n.1) else less_one language w 0 ps
 
@@ -88,6 +89,16 @@ unfoldable pub next_value : Language → List Part → Option (Value × List Par
 next_value language (Number t ∷ ps) = Some (NumberValue (number_of t), ps)
 next_value language (Word w ∷ ps) = if_name w (named_at language w ps)
 next_value language _ = None
+
+-- whether it is a difference of names
+abbrev pub is_difference : Value → Bool
+is_difference (DifferenceValue w v) = true
+is_difference _ = false
+
+-- the address in an operand: any expression but a difference of names
+abbrev pub next_address : Language → List Part → Option (Value × List Part)
+next_address Listing ps = next_value Listing ps
+next_address Repair ps = next_value Repair ps >>= λ v. if is_difference v.0 then None else Some v
 
 -- ---- halves
 
@@ -105,12 +116,12 @@ halved_in _ = None
 -- ---- operands
 
 -- after the first expression; `size` says whether `a:` stands before it
-unfoldable pub tail_at : AddressSize → Value → List Part → Option Form
-tail_at size v ps =
+unfoldable pub tail_at : Language → AddressSize → Value → List Part → Option Form
+tail_at language size v ps =
     if is_mark comma ps then
     (if is_word_here (codes "x") (drop 1 ps) then whole (One (sized size DirectX) v) (drop 1 (drop 1 ps))
     else (if is_word_here (codes "y") (drop 1 ps) then whole (One (sized size DirectY) v) (drop 1 (drop 1 ps))
-    else (if is_absolute size then None else (next_value Listing (drop 1 ps) >>= λ w. whole (Two v w.0) w.1))))
+    else (if is_absolute size then None else (next_address language (drop 1 ps) >>= λ w. whole (Two v w.0) w.1))))
     else whole (One (sized size Direct) v) ps
 
 -- after `(` and an expression
@@ -135,15 +146,15 @@ immediate_of Repair ps =
     else (if is_mark greater ps then half_form High (drop 1 ps)
     else (next_value Repair ps >>= λ v. whole (One (notation.Plain Immediate) v.0) v.1))
 
--- everything after a mnemonic; an address is written as in a listing
+-- everything after a mnemonic
 unfoldable pub form_of : Language → List Part → Option Form
 form_of language ps =
     if is_mark hash ps then immediate_of language (drop 1 ps)
-    else (if is_mark left_paren ps then (next_value Listing (drop 1 ps) >>= λ v. inner_at v.0 v.1)
+    else (if is_mark left_paren ps then (next_address language (drop 1 ps) >>= λ v. inner_at v.0 v.1)
     else (if is_word_here (codes "a") ps then
-    (if is_mark colon (drop 1 ps) then (next_value Listing (drop 1 (drop 1 ps)) >>= λ v. tail_at Absolute v.0 v.1) else whole Accumulator (drop 1 ps))
+    (if is_mark colon (drop 1 ps) then (next_address language (drop 1 (drop 1 ps)) >>= λ v. tail_at language Absolute v.0 v.1) else whole Accumulator (drop 1 ps))
     else (if is_nil ps then Some Empty
-    else (next_value Listing ps >>= λ v. tail_at Automatic v.0 v.1))))
+    else (next_address language ps >>= λ v. tail_at language Automatic v.0 v.1))))
 
 -- ---- lists joined by commas
 

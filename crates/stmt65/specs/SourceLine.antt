@@ -1,8 +1,8 @@
 -- What a line of assembler source can say.
 --
 -- An assignment `name := number`, a place assignment `name := * + number`, or an optional label and an operation after it. An
--- expression is a number, a name with what is added to it, or a difference of two names. An operand after `#` and a datum of `.byte`
--- may be half of an expression.
+-- expression is a number, a name with what is added to it or subtracted from it, or a difference of two names. An operand after `#` and
+-- a datum of `.byte` may be half of an expression.
 use Rattle.std.specs.Prelude.{ℕ, Bool, true, false, List, Option}
 use Rattle.stmt65.specs.Types.{AddressSize, Automatic, Directive, Minus, Mnemonic, Notation}
 use Rattle.stmt65.specs.declared.source_line.AddressSize.TheVariants.{Absolute}
@@ -13,10 +13,12 @@ abbrev pub is_absolute : AddressSize → Bool
 is_absolute Absolute = true
 is_absolute Automatic = false
 
--- an expression: a number; a name, the number that is added to its value, and what is subtracted; or the difference of two names
+-- an expression: a number; a name, the number that is added to its value, and what is subtracted; a name and the number that is
+-- subtracted from its value; or the difference of two names
 pub data Value : Type 0 where
   NumberValue : ℕ → Value
   NameValue : List ℕ → ℕ → Minus → Value
+  LessValue : List ℕ → ℕ → Value
   DifferenceValue : List ℕ → List ℕ → Value
 
 -- the written forms of an operand: no operand, `a`, one expression in its notation, or `E,E`

@@ -10,7 +10,7 @@ use Rattle.stmt65.specs.Signs.{star, plus, comma, minus, colon}
 use Rattle.stmt65.specs.declared.source_line.Notation.TheVariants.{Half}
 use Rattle.stmt65.specs.Types.{Minus, Zero}
 use Rattle.stmt65.specs.declared.source_line.Minus.TheVariants.{One as MinusOne}
-use Rattle.stmt65.specs.SourceLine.{Value, NumberValue, NameValue, DifferenceValue, Form, One, Datum, NumberDatum, StringDatum, ValueDatum, HalfDatum, Operation, Nothing, Instr, Data, Values, Reserve, Segment, Code, SetCpu, SourceLine, Assignment, PlaceAssignment, Statement}
+use Rattle.stmt65.specs.SourceLine.{Value, NumberValue, NameValue, LessValue, DifferenceValue, Form, One, Datum, NumberDatum, StringDatum, ValueDatum, HalfDatum, Operation, Nothing, Instr, Data, Values, Reserve, Segment, Code, SetCpu, SourceLine, Assignment, PlaceAssignment, Statement}
 use Rattle.stmt65.specs.Forms.{form_text, form_values, has_prefix}
 use Rattle.stmt65.specs.Parts.{Part, Word, Number, Text, Define, Mark, number_of}
 use Rattle.stmt65.specs.Directives.{directive_text}
@@ -48,6 +48,7 @@ IsMinus Zero ps = ps ≡ []
 abbrev pub IsValue : Value → List Part → Type 0
 IsValue (NumberValue n) ps = IsNumber n ps
 IsValue (NameValue w n less) ps = (added : List Part) × (taken : List Part) × (ps ≡ Word w ∷ (added ++ taken)) × (is_name w ≡ true) × IsPlus n added × IsMinus less taken
+IsValue (LessValue w n) ps = ⊥
 IsValue (DifferenceValue w v) ps = ⊥
 
 -- a number or a string

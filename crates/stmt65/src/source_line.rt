@@ -21,6 +21,8 @@ pub enum Value<'a> {
     Number(Numeral<'a>),
     /// A name, the number that is added to its value, and what is subtracted.
     Name(&'a [u8], Numeral<'a>, Minus),
+    /// A name, and the number that is subtracted from its value. Only a repair has it.
+    Less(&'a [u8], Numeral<'a>),
     /// The difference of two names. Only a repair has it.
     Difference(&'a [u8], &'a [u8]),
 }

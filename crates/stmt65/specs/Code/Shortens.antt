@@ -6,7 +6,7 @@ use Rattle.stmt65.specs.SourceLine.{Value, Datum}
 use Rattle.stmt65.specs.Types.{Language, Listing, Repair}
 use Rattle.stmt65.specs.declared.source_line.Half.{Half}
 use Rattle.stmt65.specs.Parts.{Part, Word, Number, Text, Mark}
-use Rattle.stmt65.specs.Reading.{number_in, name_in, less_name, less_one, named_at, next_value, bracketed_in, halved_in, word_datum, half_datum, mark_datum, next_datum, next_half}
+use Rattle.stmt65.specs.Reading.{number_in, name_in, less_at, less_one, named_at, next_value, bracketed_in, halved_in, word_datum, half_datum, mark_datum, next_datum, next_half}
 
 pub record Shortens {A : Type 0} (read : List Part → Option (A × List Part)) : Type 0 where
   pub shorter : (ps : List Part) (x : A × List Part) → read ps ≡ Some x → length x.1 < length ps
@@ -23,13 +23,14 @@ name_in-shorter : (ps : List Part) (n : List ℕ × List Part) → name_in ps �
 name_in-shorter (Word w ∷ ps) n e = grind arith
 name_in-shorter _ n e = absurd cc
 
-less_name-shorter : (l : Language) (w : List ℕ) (ps : List Part) (v : Value × List Part) → less_name l w ps ≡ Some v → length v.1 ≤ length ps
-less_name-shorter Listing w ps v e = absurd cc
-less_name-shorter Repair w ps v e = grind (arith, by_option, name_in-shorter)
+less_at-shorter : (l : Language) (w : List ℕ) (ps : List Part) (v : Value × List Part) → less_at l w ps ≡ Some v → length v.1 ≤ length ps
+less_at-shorter Listing w ps v e = absurd cc
+less_at-shorter Repair w (Number t ∷ ps) v e = grind arith
+less_at-shorter Repair w ps v e = grind (arith, by_option, name_in-shorter)
 
 less_one-shorter : (l : Language) (w : List ℕ) (n : ℕ) (ps : List Part) (v : Value × List Part) → less_one l w n ps ≡ Some v → length v.1 ≤ length ps
 unfolding less_one
-less_one-shorter l w n ps v e = grind (arith, less_name-shorter, length-drop)
+less_one-shorter l w n ps v e = grind (arith, less_at-shorter, length-drop)
 
 named_at-shorter : (l : Language) (w : List ℕ) (ps : List Part) (v : Value × List Part) → named_at l w ps ≡ Some v → length v.1 ≤ length ps
 unfolding named_at

@@ -13,7 +13,7 @@ use Rattle.stmt65.specs.declared.source_line.Operation.TheVariants as code_opera
 use Rattle.stmt65.specs.declared.source_line.SourceLine.{SourceLine as CodeSourceLine}
 use Rattle.stmt65.specs.declared.source_line.SourceLine.TheVariants as code_source
 use Rattle.stmt65.specs.Parts.{number_of}
-use Rattle.stmt65.specs.SourceLine.{Value, NumberValue, NameValue, DifferenceValue, Form, Empty, Accumulator, One, Two, Datum, NumberDatum, StringDatum, ValueDatum, HalfDatum, Operation, Nothing, Instr, Data, Values, Reserve, Segment, Code, SetCpu, SourceLine, Assignment, PlaceAssignment, Statement}
+use Rattle.stmt65.specs.SourceLine.{Value, NumberValue, NameValue, LessValue, DifferenceValue, Form, Empty, Accumulator, One, Two, Datum, NumberDatum, StringDatum, ValueDatum, HalfDatum, Operation, Nothing, Instr, Data, Values, Reserve, Segment, Code, SetCpu, SourceLine, Assignment, PlaceAssignment, Statement}
 
 abbrev pub numeral_of : Numeral → ℕ
 numeral_of n = number_of n.text.now
@@ -21,6 +21,7 @@ numeral_of n = number_of n.text.now
 abbrev pub value_of : CodeValue → Value
 value_of (code_value.Number n) = NumberValue (numeral_of n)
 value_of (code_value.Name w n minus) = NameValue w.now (numeral_of n) minus
+value_of (code_value.Less w n) = LessValue w.now (numeral_of n)
 value_of (code_value.Difference w v) = DifferenceValue w.now v.now
 
 abbrev pub form_of : CodeForm → Form

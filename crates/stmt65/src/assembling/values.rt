@@ -1,7 +1,7 @@
 //! The value and size of an expression.
 
 ghost use Rattle.std.specs.Prelude.{◌≡◌, ◌+◌, Some};
-ghost use Rattle.stmt65.specs.Words.{apart, below, entry_in, entry_limit, has_zero_page_size, held, held_value, is_known, is_small, lowered, numeral_of, value_in, value_of, word_in};
+ghost use Rattle.stmt65.specs.Words.{address_of, apart, below, definition_of, entry_in, entry_limit, has_zero_page_size, held, held_value, is_known, is_small, lowered, numeral_of, value_in, value_of, word_in};
 
 use crate::assembling::entries::limit;
 use crate::assembling::symbols::{Definition, Names};
@@ -22,6 +22,10 @@ fn value_in<A: Allocator + Clone>(names: &Names<'_, '_, A>, value: &Value) -> Op
             let definition = names.find(name)?;
             value_from(definition, n, minus)
         }
+        Value::Less(name, n) => {
+            let definition = names.find(name)?;
+            lessened(definition, n)
+        }
         Value::Difference(name, other) => {
             let address = names.find(name)?.address()?;
             let base = names.find(other)?.address()?;
@@ -35,6 +39,15 @@ fn apart(address: u16, base: u16) -> Option<u128>
     ensures { result ≡ apart (Some address) (Some base) }
 {
     let difference = address.checked_sub(base)?;
+    Some(u128::from(difference))
+}
+
+/// The address of a name with this definition, less a number; `None` if that is below 0 or the name has no address.
+fn lessened(definition: Definition, n: Numeral) -> Option<u128>
+    ensures { result ≡ apart (address_of (Some (definition_of definition.entry))) (Some (held (numeral_of n.entry))) }
+{
+    let address = definition.address()?;
+    let difference = u64::from(address).checked_sub(n.value())?;
     Some(u128::from(difference))
 }
 
@@ -62,7 +75,7 @@ pub fn is_known<A: Allocator + Clone>(names: &Names<'_, '_, A>, value: &Value) -
 {
     match *value {
         Value::Number(_) => true,
-        Value::Name(name, _, _) => names.find(name).is_some(),
+        Value::Name(name, _, _) | Value::Less(name, _) => names.find(name).is_some(),
         Value::Difference(name, other) => {
             names.find(name).is_some() && names.find(other).is_some()
         }
@@ -126,6 +139,13 @@ fn held_zero_page_size<A: Allocator + Clone>(above: &Names<'_, '_, A>, value: &V
             }
             None => false,
         },
+        Value::Less(name, n) => {
+            if let Some(definition) = above.find(name) {
+                definition.constant && is_small(lessened(definition, n))
+            } else {
+                false
+            }
+        }
         Value::Difference(_, _) => false,
     }
 }

@@ -1,7 +1,9 @@
-//! Expressions: a number, a name with an optional number added and an optional `-1`, or the difference of two names; and what is halved.
+//! Expressions: a number, a name with an optional number added and an optional `-1`, a name less a number, or the difference of two
+//! names; and what is an address or is halved.
 
-ghost use Rattle.std.specs.Prelude.{◌≡◌};
-ghost use Rattle.stmt65.specs.Words.{Reads, bracketed_in, halved_in, less_name, less_one, named_at, next_value, numeral_of, value_of};
+ghost use Rattle.std.specs.Prelude.{◌≡◌, if◌then◌else◌, None, Some};
+ghost use Rattle.std.specs.Option.{option_map};
+ghost use Rattle.stmt65.specs.Words.{Reads, bracketed_in, halved_in, is_difference, less_at, less_one, named_at, next_address, next_value, numeral_of, value_of};
 
 use crate::language::Language;
 use crate::reading::lexer::Part;
@@ -10,20 +12,21 @@ use crate::reading::numeral::Numeral;
 use crate::reading::parts::Parts;
 use crate::source_line::{Minus, Value};
 
-/// After a name and `-`: in a repair another name.
-fn less_name<'a>(language: Language, name: &'a [u8], parts: &mut Parts<'a>) -> Option<Value<'a>>
-    ensures { Reads value_of result (less_name language name.now parts.old) parts.new }
+/// After a name and `-`: in a repair a number or another name.
+fn less_at<'a>(language: Language, name: &'a [u8], parts: &mut Parts<'a>) -> Option<Value<'a>>
+    ensures { Reads value_of result (less_at language name.now parts.old) parts.new }
 {
     if language == Language::Listing {
         return None;
     }
     match parts.next()? {
+        Part::Number(text) => Some(Value::Less(name, Numeral { text })),
         Part::Word(word) if is_name(word) => Some(Value::Difference(name, word)),
         _ => None,
     }
 }
 
-/// After a name and what is added to it: `-1`, or nothing.
+/// After a name and what is added to it: `-1`; in a repair more that is subtracted; or nothing.
 #[tactic(auto, unfolding(crate::specs::Reading::less_one))]
 fn less_one<'a>(
     language: Language,
@@ -37,7 +40,7 @@ fn less_one<'a>(
         return Some(Value::Name(name, plus, Minus::Zero));
     }
     if !parts.eat_number(b"1") {
-        return less_name(language, name, parts);
+        return less_at(language, name, parts);
     }
     Some(Value::Name(name, plus, Minus::One))
 }
@@ -68,6 +71,27 @@ pub fn next_value<'a>(language: Language, parts: &mut Parts<'a>) -> Option<Value
             named_at(language, word, parts)
         }
         _ => None,
+    }
+}
+
+/// An expression, unless it is a difference of names.
+fn undivided<'a>(value: Value<'a>) -> Option<Value<'a>>
+    ensures { option_map value_of result ≡ (if is_difference (value_of value.entry) then None else Some (value_of value.entry)) }
+{
+    match value {
+        Value::Difference(_, _) => None,
+        _ => Some(value),
+    }
+}
+
+/// The address in an operand.
+pub fn next_address<'a>(language: Language, parts: &mut Parts<'a>) -> Option<Value<'a>>
+    ensures { Reads value_of result (next_address language parts.old) parts.new }
+{
+    let value = next_value(language, parts)?;
+    match language {
+        Language::Listing => Some(value),
+        Language::Repair => undivided(value),
     }
 }
 

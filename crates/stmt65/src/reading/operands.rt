@@ -6,7 +6,7 @@ ghost use Rattle.stmt65.specs.Code.SourceLineViews.{form_of as form_of_code};
 ghost use Rattle.stmt65.specs.Reading.{form_of};
 
 use crate::language::Language;
-use crate::reading::expressions::{halved_in, next_value};
+use crate::reading::expressions::{halved_in, next_address, next_value};
 use crate::reading::parts::Parts;
 use crate::source_line::{AddressSize, Form, Half, Notation, Value};
 use isa65::Pattern;
@@ -38,8 +38,13 @@ fn sized(size: AddressSize, pattern: Pattern) -> Notation
 
 /// After the first expression; `size` says whether `a:` stands before it.
 #[tactic(auto, unfolding(crate::specs::Reading::tail_at))]
-fn tail_at<'a>(size: AddressSize, value: Value<'a>, parts: &mut Parts<'a>) -> Option<Form<'a>>
-    ensures { Gives form_of_code result (tail_at size (value_of value.entry) parts.old) }
+fn tail_at<'a>(
+    language: Language,
+    size: AddressSize,
+    value: Value<'a>,
+    parts: &mut Parts<'a>,
+) -> Option<Form<'a>>
+    ensures { Gives form_of_code result (tail_at language size (value_of value.entry) parts.old) }
 {
     if !parts.eat(b',') {
         return whole(Form::One(sized(size, Pattern::Direct), value), parts);
@@ -53,7 +58,7 @@ fn tail_at<'a>(size: AddressSize, value: Value<'a>, parts: &mut Parts<'a>) -> Op
     if is_absolute(size) {
         return None;
     }
-    let second = next_value(Language::Listing, parts)?;
+    let second = next_address(language, parts)?;
     whole(Form::Two(value, second), parts)
 }
 
@@ -117,19 +122,19 @@ pub fn form_of<'a>(language: Language, parts: &mut Parts<'a>) -> Option<Form<'a>
         return immediate_of(language, parts);
     }
     if parts.eat(b'(') {
-        let value = next_value(Language::Listing, parts)?;
+        let value = next_address(language, parts)?;
         return inner_at(value, parts);
     }
     if parts.eat_word(b"a") {
         if !parts.eat(b':') {
             return whole(Form::Accumulator, parts);
         }
-        let value = next_value(Language::Listing, parts)?;
-        return tail_at(AddressSize::Absolute, value, parts);
+        let value = next_address(language, parts)?;
+        return tail_at(language, AddressSize::Absolute, value, parts);
     }
     if parts.is_done() {
         return Some(Form::Empty);
     }
-    let value = next_value(Language::Listing, parts)?;
-    tail_at(AddressSize::Automatic, value, parts)
+    let value = next_address(language, parts)?;
+    tail_at(language, AddressSize::Automatic, value, parts)
 }
