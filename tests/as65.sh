@@ -239,6 +239,26 @@ gives 'differences in tables' \
     '\x34\x12\x00\x00\x12\x34\x34\x12\x34\x12\x00\x00\x34\x12' -S 0x2000
 gives 'the largest difference of a byte' 'a1 := $1000\nb1 := $10FF\n lda #b1-a1\n .byte b1-a1\n' '\xa9\xff\xff' -S 0
 gives 'the largest difference' 'a1 := 0\nb1 := $FFFF\n.word b1-a1\n' '\xff\xff' -S 0
+# The bytes are those of ca65 and ld65.
+gives 'a name less a number' \
+    'tt = $12\nbig := $0102\nhere: lda tt-2,x\n lda big-2\n lda big-$10\n lda a:tt-2\n lda here-2,y\n lda far-2\n'\
+'.word here-1,here - $0FFF\n.byte <(here-2),>(here-1), tt-2 , here-$FFF\n lda #tt-2\n ldx #>(here-2)\n lda (tt-2),y\n jmp (here-2)\n'\
+' bne here-2\n.dword here-5\n.dbyt here-5\n.addr here-%101\nfar := $22\n' \
+    '\xb5\x10\xad\x00\x01\xa5\xf2\xad\x10\x00\xb9\xfe\x0f\xad\x20\x00\xff\x0f\x01\x00\xfe\x0f\x10\x01'\
+'\xa9\x10\xa2\x0f\xb1\x10\x6c\xfe\x0f\xd0\xdb\xfb\x0f\x00\x00\x0f\xfb\xfb\x0f' -S 0x1000
+gives 'halves of a name less a number' ' .lobytes here-2,here-1\n.hibytes here-2,here - $101\nhere: rts\n' '\x02\x03\x10\x0f\x60' -S 0x1000
+gives 'a name less a number beside a branch' ' .setcpu "65c02"\nzp = 5\n bbr0 zp-5,here-3\nhere: smb1 zp-$01\n' \
+    '\x0f\x00\xfd\x97\x04' -S 0x1000
+for text in '.word a1-5' 'lda a1-5' 'lda a1-$1004,x' '.byte <(a1-5)' '.dword a1-5' 'lda #a1-5' '.lobytes a1-5' \
+    'lda a1-18446744073709551615' 'lda a1-36893488147419103236'; do
+    refuses "a name less more than its value in $text" "a1 := 4\n $text\n" 2 "value out of range: $text"
+done
+refuses 'a name less a number that is no byte' 'here: lda #here-1\n' 1 'value out of range: here: lda #here-1'
+refuses 'a name that is no address, less a number' ' .word big-2\nbig := $10000\n' 1 'value out of range: .word big-2'
+refuses 'a constant less a number' 'a1 := 4\na2 := a1-2\n' 2 'syntax error: a constant is NAME := NUMBER: a2 := a1-2'
+for text in '.word one-2' 'lda one-2' 'lda (one-2),y' '.byte here,<(one-2)' 'jmp one-3'; do
+    refuses "an undefined name less a number in $text" "here:\n $text\n" 2 "undefined name: one: $text"
+done
 gives 'reserved bytes' 'first: .res 3\n.RES 2,$FF\n.res 0\n.res 1 , %11 ; three\nlast: .addr first,last\n' \
     '\x00\x00\x00\xff\xff\x03\x00\x10\x06\x10' -S 0x1000
 "$program" -S 0 <<<' .res 65535' >stdout 2>stderr
@@ -265,11 +285,12 @@ for text in '.word one-two' 'lda #one-here' '.byte here-here,here-one,two' '.hib
     refuses "an undefined name of a difference in $text" "here:\n $text\n" 2 "undefined name: one: $text"
 done
 for text in 'lda a1-b1' 'jmp a1-b1' 'lda a1-b1,x' 'lda (a1-b1),y' 'lda a:a1-b1' 'lda #(a1-b1)' 'lda #a1-b1-1' \
-    'lda #a1-b1+1' 'lda #5-a1' 'lda #a1+1-b1' 'lda #a1-2' 'lda #<<a1' 'lda #<(a1' 'lda #<()'; do
+    'lda #a1-b1+1' 'lda #5-a1' 'lda #a1+1-b1' 'bbr0 a1-b1,a1' 'bbr0 1,a1-b1' 'lda a1-2-1' 'lda a1+3-2' 'lda a1-2+3' 'lda a1-(2)' \
+    'lda a1-' 'lda (a1-2' 'lda #<a1-2' 'lda #(a1-2)' 'lda #<<a1' 'lda #<(a1' 'lda #<()'; do
     refuses "what is no value in $text" "a1 := 4\nb1 := 1\n $text\n" 3 "syntax error: not a line of a listing: $text"
 done
-for text in '.word (a1-b1)' '.byte (a1)' '.byte a1-b1-b1' '.word <a1' '.byte <a1,' '.byte <"A"' '.lobytes "A"' '.res' \
-    '.res a1' '.res 1,a1' '.res 1,2,3' '.res 1,' '.res "A"' '.word "A"'; do
+for text in '.word (a1-b1)' '.byte (a1)' '.byte a1-b1-b1' '.byte a1-2-1' '.byte <a1-2' '.lobytes <(a1-2)' '.res a1-2' '.word <a1' \
+    '.byte <a1,' '.byte <"A"' '.lobytes "A"' '.res' '.res a1' '.res 1,a1' '.res 1,2,3' '.res 1,' '.res "A"' '.word "A"'; do
     refuses "what is no value in $text" "a1 := 4\nb1 := 1\n $text\n" 3 "syntax error: other directives and operands (see ca65): $text"
 done
 for text in '.res 65536' '.res 1,256' '.res 70000,70000'; do

@@ -383,8 +383,17 @@ draw_value() {
     fi
     draw_name
     value=$word
-    draw 4
-    [ $number != 0 ] || { draw_number 300; value+=+$word; }
+    draw 5
+    case $number in
+    0) draw_number 300; value+=+$word ;;
+    1)
+        pick - ' - '
+        value+=$word
+        draw_number 300
+        word=$value$word
+        return
+        ;;
+    esac
     draw 6
     [ $number != 0 ] || value+=-1
     word=$value

@@ -10,10 +10,14 @@ root=$(realpath "$(dirname "$0")/..")
 . "$root/tests/rows.sh"
 ln -s "$root/examples" examples
 
-# names NAME GROUPS LISTING TEXT: from $1000 on the listing becomes this text by these groups, each a line `#: ..`, and both have the same
-# bytes.
+# Makes groups.info of these groups, each a line `#: ..`, and those LABEL without `#:`.
+make_groups() {
+    printf '%b' "$1" | sed '/^LABEL/!s/^/#: /' >groups.info
+}
+
+# names NAME GROUPS LISTING TEXT: from $1000 on the listing becomes this text by these groups, and both have the same bytes.
 names() {
-    printf '%b' "$2" | sed 's/^/#: /' >groups.info
+    make_groups "$2"
     printf '%b' "$3" >listing.s
     "$program" -S 0x1000 -i groups.info -o named.s listing.s 2>stderr || { fails "$1" "refused: $(<stderr)"; return; }
     holds "$1" named.s "$4"
@@ -23,7 +27,7 @@ names() {
 
 # refuses NAME GROUPS LISTING MESSAGE: the same is refused with this message, and a file that is there stays as it was.
 refuses() {
-    printf '%b' "$2" | sed 's/^/#: /' >groups.info
+    make_groups "$2"
     printf '%b' "$3" >listing.s
     echo kept >named.s
     runs "$1" 1 '' "name65: $4\n" -S 0x1000 -i groups.info -o named.s listing.s
@@ -95,6 +99,41 @@ names 'a low half alone' 'HALVES { LOW $1001; ADDR $1002; };' 'cmp #$02\nx1: rts
 names 'a high half alone, of a constant' 'HALVES { HIGH $1001; ADDR $20FF; };' 'v := $20FF\nlda #$20\n' 'v := $20FF\nlda #>v\n'
 names 'a label comes before a constant, and the first before another' 'HALVES { LOW $1001; HIGH $1003; };' \
     'c1 := $1004\nlda #$04\nldx #$10\nx1:\nx2: rts\n' 'c1 := $1004\nlda #<x1\nldx #>x1\nx1:\nx2: rts\n'
+
+# An address without a name of its own: first that of a LABEL with a SIZE, then that of the next address.
+tab='LABEL { ADDR $1005; NAME "tab"; SIZE 4; };\n'
+pair='HALVES { LOW $1001; HIGH $1003; };'
+names 'halves of an address that a name covers' "$tab$pair" \
+    'lda #$06 ; low\nldx #$10\nrts\ntab: .byte 1,2,3,4\n' 'lda #<(tab+1) ; low\nldx #>(tab+1)\nrts\ntab: .byte 1,2,3,4\n'
+names 'the last address that it covers' "$tab$pair" \
+    'lda #$08\nldx #$10\nrts\ntab: .byte 1,2,3,4\n' 'lda #<(tab+3)\nldx #>(tab+3)\nrts\ntab: .byte 1,2,3,4\n'
+names 'a name of its own comes first' "$tab$pair" \
+    'lda #$06\nldx #$10\nrts\ntab: .byte 1\nx1: .byte 2,3,4\n' 'lda #<x1\nldx #>x1\nrts\ntab: .byte 1\nx1: .byte 2,3,4\n'
+names 'the name that covers an address comes before that of the next' "$tab$pair" \
+    'lda #$06\nldx #$10\nrts\ntab: .byte 1,2\nx1: .byte 3,4\n' 'lda #<(tab+1)\nldx #>(tab+1)\nrts\ntab: .byte 1,2\nx1: .byte 3,4\n'
+names 'of two names that cover it the later' "LABEL { ADDR \$1000; NAME \"all\"; SIZE 16; };\n$tab$pair" \
+    'all: lda #$06\nldx #$10\nrts\ntab: .byte 1,2,3,4\n' 'all: lda #<(tab+1)\nldx #>(tab+1)\nrts\ntab: .byte 1,2,3,4\n'
+names 'a variable outside the image' 'LABEL { ADDR $0300; NAME "buffer"; SIZE 256; };\nHALVES { LOW $1001; HIGH $1003; };' \
+    'buffer := $0300\nlda #$FF\nldx #$03\n' 'buffer := $0300\nlda #<(buffer+255)\nldx #>(buffer+255)\n'
+names 'a covering name that the listing lacks' "$tab$pair" \
+    'lda #$06\nldx #$10\nrts\n.byte 1,2\nx1: .byte 3,4\n' 'lda #<(x1-1)\nldx #>(x1-1)\nrts\n.byte 1,2\nx1: .byte 3,4\n'
+names 'a table of return addresses' 'HALVES { LOW $1000; HIGH $1002; SIZE 2; };' \
+    '.byte $04,$06\n.byte $10,$10 ; high\n nop\nr1: nop\n rts\nr2: rts\n' \
+    '.lobytes r1-1,r2-1\n.hibytes r1-1,r2-1 ; high\n nop\nr1: nop\n rts\nr2: rts\n'
+names 'halves of every kind in a table' "${tab}HALVES { LOW \$1000; HIGH \$100D; SIZE 3; };" \
+    '.byte $05,$06,$09\n.byte 7\nnop\ntab: .byte 1,2,3,4\nnop\nr1: nop\nrts\nrts\n.byte $10,$10,$10\n' \
+    '.lobytes tab,tab+1,r1-1\n.byte 7\nnop\ntab: .byte 1,2,3,4\nnop\nr1: nop\nrts\nrts\n.hibytes tab,tab+1,r1-1\n'
+names 'a half of a return address beside a number' 'HALVES { LOW $1000; HIGH $1002; };' \
+    '.byte $03,9,$10\nnop\nr1: rts\n' '.byte <(r1-1),9,>(r1-1)\nnop\nr1: rts\n'
+names 'a routine of another ROM' "$pair" 'chrout := $FFD2\nlda #$D1\nldx #$FF\n' 'chrout := $FFD2\nlda #<(chrout-1)\nldx #>(chrout-1)\n'
+names 'the last address before a label' "$pair" 'lda #$03\nldx #$10\nlast:\n' 'lda #<(last-1)\nldx #>(last-1)\nlast:\n'
+names 'the address before the image' "$pair" 'x1: lda #$FF\nldx #$0F\n' 'x1: lda #<(x1-1)\nldx #>(x1-1)\n'
+refuses 'a constant right after the last address' "$pair" 'v1 := $1004\nlda #$03\nldx #$10\n' \
+    'info:1: no name at $1003: LABEL { ADDR $1003; NAME "L1003"; };'
+refuses 'an address two before a name' "$pair" 'x1: lda #$FE\nldx #$0F\n' 'info:1: no name at $0FFE: LABEL { ADDR $0FFE; NAME "L0FFE"; };'
+refuses 'the last address of all' "$pair" 'x1 := 0\nlda #$FF\nldx #$FF\n' 'info:1: no name at $FFFF: LABEL { ADDR $FFFF; NAME "LFFFF"; };'
+refuses 'a length that begins where a name has none' "${tab}DIFFERENCE { ADDR \$1000; FROM \$1006; TO \$1008; };" \
+    '.word 2\nrts\nrts\nrts\ntab: .byte 1,2,3,4\n' 'info:2: no name at $1008: LABEL { ADDR $1008; NAME "L1008"; };'
 
 # ---- variables after the image, and lengths
 

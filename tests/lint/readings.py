@@ -20,7 +20,7 @@ isa65.Opcodes Table decoded encoded sibling_in
 isa65.Rockwell65C02
 stmt65.Directives directive_named directive_text
 stmt65.Names is_name same
-stmt65.SourceLine * Accumulator Assignment Code Data Datum DifferenceValue Empty Form HalfDatum Instr NameValue Nothing NumberDatum NumberValue One Operation PlaceAssignment Reserve Segment SetCpu SourceLine Statement StringDatum Two Value ValueDatum Values is_absolute
+stmt65.SourceLine * Accumulator Assignment Code Data Datum DifferenceValue Empty Form HalfDatum Instr LessValue NameValue Nothing NumberDatum NumberValue One Operation PlaceAssignment Reserve Segment SetCpu SourceLine Statement StringDatum Two Value ValueDatum Values is_absolute
 text65.Names has_name_form is_blank is_reserved_word is_word_byte
 """
 

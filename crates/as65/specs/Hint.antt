@@ -3,7 +3,7 @@ use Rattle.std.specs.Prelude.{◌==◌, ◌&&◌, ◌||◌, ◌+◌, ◌-◌, �
 use Rattle.std.specs.List.{list_any, prefix_len, slice_get, starts_with}
 use Rattle.isa65.specs.Words.{encoded, table_of}
 use Rattle.as65.specs.Types.{Absolute, AsmFault, AsmFaultKind, Direct, M65C02, Plain, Rel, Repair, Source, Zero}
-use Rattle.stmt65.specs.Words.{Definition, DifferenceValue, Instr, Layout, NameValue, NumberValue, One, Operation, Reserve, Segment, SourceLine, Statement, Two, Value, held, is_known, operation_values, parts, reading_of, source_addresses, source_definitions, start_of, word_in}
+use Rattle.stmt65.specs.Words.{Definition, DifferenceValue, Instr, Layout, LessValue, NameValue, NumberValue, One, Operation, Reserve, Segment, SourceLine, Statement, Two, Value, held, is_known, operation_values, parts, reading_of, source_addresses, source_definitions, start_of, word_in}
 use Rattle.stmt65.specs.declared.assembling.fault.AsmFaultKind.TheVariants as kind
 use Rattle.text65.specs.Digits.{digits4}
 use Rattle.text65.specs.Lines.{text_lines}
@@ -88,6 +88,7 @@ alone name = NameValue name 0 Zero
 abbrev pub name_in : List Definition → Value → List ℕ
 name_in all (NumberValue n) = []
 name_in all (NameValue name n minus) = name
+name_in all (LessValue name n) = name
 name_in all (DifferenceValue name other) = if is_known all (alone name) then other else name
 
 -- the name of the first expression whose name has no definition

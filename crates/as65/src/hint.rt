@@ -268,7 +268,7 @@ fn name_in<'a>(names: &Names<'_, '_, '_, '_>, value: Value<'a>) -> &'a [u8]
 {
     match value {
         Value::Number(_) => &[],
-        Value::Name(name, _, _) => name,
+        Value::Name(name, _, _) | Value::Less(name, _) => name,
         Value::Difference(name, other) => {
             if names.is_known(alone(name)) {
                 other

@@ -12,7 +12,7 @@ use crate::constants::names_after;
 use crate::marks::mark_named;
 use crate::plan::{PlacedLine, Plan};
 use crate::wishes::Wishes;
-use info65::Tag;
+use info65::{Info, Tag};
 use map65::Marks;
 use std::alloc::{AllocError, Global};
 use stmt65::{Assembly, Source, SourceLine, Symbols, read_line};
@@ -109,6 +109,7 @@ pub fn changed_text<'t, 'b>(
     alloc: &'b Global,
     source: &Source<'t, '_, '_>,
     assembly: &Assembly<'t, '_, Global>,
+    info: &Info,
     tags: &[Tag],
     used: bool,
 ) -> Result<Changed<'t, 'b>, Refusal>
@@ -116,7 +117,7 @@ pub fn changed_text<'t, 'b>(
     ensures { IfOk result (λ changed. IsNamed source.now tags.now used changed.text.items) }
 {
     let marks = mark_named(*alloc, tags)?;
-    let wishes = Wishes::new(*alloc, source, assembly, tags, used)?;
+    let wishes = Wishes::new(*alloc, source, assembly, info, tags, used)?;
     let plan = Plan {
         alloc: *alloc,
         marks: &marks,

@@ -1,21 +1,17 @@
-//! What the information file says: the groups of its lines `#: ..`, and where the image begins.
+//! What the information file says: its groups, and those of its lines `#: ..`.
 
 use crate::failure::Failure;
-use info65::{Options, Tag, read_info, read_tags};
+use info65::{Info, Options, Tag, read_info, read_tags};
 use std::alloc::Global;
 
 /// The most that an information file may have: 1 MiB.
 const LIMIT: usize = 1_048_576;
 
-/// The start that the file of these bytes says, or that of the command line. Refuses a file that da65 refuses.
-pub fn start_given(
-    alloc: Global,
-    start: Option<u16>,
-    bytes: &[u8],
-) -> Result<Option<u16>, Failure> {
+/// What the file of these bytes says, or the start of the command line in the place of its own. Refuses a file that da65 refuses.
+pub fn info_given(alloc: Global, start: Option<u16>, bytes: &[u8]) -> Result<Info, Failure> {
     let mut options: Options = Options::none();
     options.start = start;
-    Ok(read_info(alloc, &options, bytes)?.settings().start)
+    Ok(read_info(alloc, &options, bytes)?)
 }
 
 /// The groups of the lines `#: ..`.

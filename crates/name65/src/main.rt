@@ -19,6 +19,7 @@ mod named_text;
 mod names;
 mod operands;
 mod plan;
+mod reference;
 mod request;
 mod rewriting;
 mod spans;
@@ -30,7 +31,7 @@ use files65::{
     Output, Placeholders, keep_apart, keep_inputs, need_plain, read_information, read_listing, say,
     write_text,
 };
-use information::{start_given, tags};
+use information::{info_given, tags};
 use named_text::named_text;
 use request::{Naming, Request, request_of};
 use std::process::ExitCode;
@@ -61,16 +62,16 @@ fn start_at_end(rt: &HostRuntime, layout: &Layout<'_>, text: &[u8]) -> Result<u1
 fn named_listing(rt: &HostRuntime, naming: &Naming) -> Result<Vec<u8>, Failure> {
     let name = naming.names.listing.as_str();
     let bytes = read_information(rt, naming.names.info.as_deref())?;
-    let given = start_given(rt.alloc(), naming.start, &bytes)?;
+    let info = info_given(rt.alloc(), naming.start, &bytes)?;
     let tags = tags(rt.alloc(), &bytes)?;
     let text = read_listing(rt, name)?;
     let layout = Layout::new(rt.alloc(), 0)?;
-    let start = match given {
+    let start = match info.settings().start {
         Some(start) => start,
         None => start_at_end(rt, &layout, &text)?,
     };
     let source = repair(&layout, start, &text);
-    named_text(rt.alloc(), name, &source, &tags, naming.used)
+    named_text(rt.alloc(), name, &source, &info, &tags, naming.used)
 }
 
 /// Reads the listing and the groups, and writes the listing by names. The output is created once that is there.

@@ -6,7 +6,7 @@ ghost use Rattle.name65.specs.NamedText.{IsNamed, MeansTheSame, Reports};
 
 use crate::changes::changed_text;
 use crate::failure::{Failure, Refused};
-use info65::Tag;
+use info65::{Info, Tag};
 use std::alloc::{AllocError, Global};
 use stmt65::{AsmFaultKind, Assembly, Source, Symbols, assemble_known, assemble_lines};
 
@@ -55,6 +55,7 @@ pub fn named_text(
     alloc: Global,
     name: &str,
     source: &Source<'_, '_, '_>,
+    info: &Info,
     tags: &[Tag],
     used: bool,
 ) -> Result<Vec<u8>, Failure>
@@ -63,7 +64,7 @@ pub fn named_text(
     ensures fault { IfErr result (Reports name.now source.now) }
 {
     let assembly = assembled(&alloc, name, source)?;
-    let changed = changed_text(&alloc, source, &assembly, tags, used)?;
+    let changed = changed_text(&alloc, source, &assembly, info, tags, used)?;
     let names = changed.names.as_ref().unwrap_or(&assembly.names);
     if !means(alloc, source, &assembly.bytes, names, &changed.text)? {
         return Err(Failure::Own(Refused::Changed));

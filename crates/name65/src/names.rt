@@ -68,7 +68,7 @@ impl<'t> Names<'t> {
     fn use_value(&mut self, value: &Value<'t>) -> Result<(), AllocError> {
         match *value {
             Value::Number(_) => Ok(()),
-            Value::Name(name, _, _) => self.use_name(name),
+            Value::Name(name, _, _) | Value::Less(name, _) => self.use_name(name),
             Value::Difference(name, other) => {
                 self.use_name(name)?;
                 self.use_name(other)
@@ -110,6 +110,14 @@ impl<'t> Names<'t> {
             _ => {}
         }
         Ok(())
+    }
+
+    /// Whether the name of an address is that of a constant line.
+    pub fn is_constant_at(&self, address: u16) -> bool {
+        match self.by_value.get(u64::from(address)) {
+            Some(definition) => definition.constant,
+            None => false,
+        }
     }
 
     /// The name of an address, which is used from now on.

@@ -1,6 +1,7 @@
 //! What stands in the places of the operands of a line.
 
 use crate::complaint::{Complaint, Refusal};
+use crate::reference::Reference;
 use crate::spans::{Span, Spans};
 use crate::wishes::{Wish, Wished, Wishes};
 use stmt65::Half;
@@ -10,8 +11,8 @@ use stmt65::Half;
 pub enum Operand<'t> {
     /// The operand itself.
     Kept,
-    /// `<NAME` or `>NAME`.
-    Half(Half, &'t [u8]),
+    /// `<NAME`, `>NAME`, or that of what is added to the name or subtracted from it.
+    Half(Half, Reference<'t>),
     /// `TO - FROM`.
     Difference(&'t [u8], &'t [u8]),
 }
@@ -68,7 +69,7 @@ impl<'w, 't, 'l> Operands<'w, 't, 'l> {
                 Ok(Operand::Kept)
             }
             Some(wished) => match wished.wish {
-                Wish::Half(half, name) if self.size == 1 => Ok(Operand::Half(half, name)),
+                Wish::Half(half, reference) if self.size == 1 => Ok(Operand::Half(half, reference)),
                 Wish::Difference(name, other) if self.size == 2 => {
                     Ok(Operand::Difference(name, other))
                 }

@@ -2,6 +2,7 @@
 
 use crate::complaint::Refusal;
 use crate::operands::{Operand, Operands};
+use crate::reference::{put_half, put_reference};
 use crate::spans::Span;
 use std::alloc::AllocError;
 use stmt65::Half;
@@ -33,13 +34,6 @@ pub fn put_rest(out: &mut Vec<u8>, line: &[u8], from: usize) -> Result<(), Alloc
     out.extend_from_slice(rest)
 }
 
-fn sign_of(half: Half) -> &'static [u8] {
-    match half {
-        Half::Low => b"<",
-        Half::High => b">",
-    }
-}
-
 fn put_operand(
     out: &mut Vec<u8>,
     line: &[u8],
@@ -48,10 +42,7 @@ fn put_operand(
 ) -> Result<(), AllocError> {
     match operand {
         Operand::Kept => put_part(out, line, span.from, span.to),
-        Operand::Half(half, name) => {
-            out.extend_from_slice(sign_of(half))?;
-            out.extend_from_slice(name)
-        }
+        Operand::Half(half, reference) => put_half(out, half, reference),
         Operand::Difference(name, other) => {
             out.extend_from_slice(name)?;
             out.extend_from_slice(b" - ")?;
@@ -105,14 +96,14 @@ fn put_halves(
     })?;
     let mut copied = None;
     for _ in 0..=line.len() {
-        let Some((span, Operand::Half(_, name))) = operands.next()? else {
+        let Some((span, Operand::Half(_, reference))) = operands.next()? else {
             break;
         };
         match copied {
             None => put_gap(out, span.from)?,
             Some(_) => out.extend_from_slice(b",")?,
         }
-        out.extend_from_slice(name)?;
+        put_reference(out, reference)?;
         copied = Some(span.to);
     }
     put_rest(out, line, copied.unwrap_or(line.len()))?;

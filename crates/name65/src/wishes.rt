@@ -3,15 +3,16 @@
 use crate::by_address::ByAddress;
 use crate::complaint::{Complaint, Refusal};
 use crate::names::Names;
-use info65::{Tag, TagKind};
+use crate::reference::{Offset, Reference};
+use info65::{Info, Tag, TagKind};
 use std::alloc::Global;
 use stmt65::{Assembly, Half, Source};
 
 /// What is to stand in the place of a byte or a word.
 #[derive(Clone, Copy)]
 pub enum Wish<'t> {
-    /// The half of a name's value.
-    Half(Half, &'t [u8]),
+    /// The half of an address.
+    Half(Half, Reference<'t>),
     /// What the value of one name is above that of another.
     Difference(&'t [u8], &'t [u8]),
     /// The second byte of a difference.
@@ -33,10 +34,11 @@ pub struct Wishes<'t> {
     end: u64,
 }
 
-/// A group, and the bytes of the image that it is about, with the address of the first.
+/// A group, the information file in which it stands, and the bytes of the image that it is about, with the address of the first.
 #[derive(Clone, Copy)]
 struct Group<'b> {
     tag: Tag,
+    info: &'b Info,
     start: u16,
     bytes: &'b [u8],
 }
@@ -86,11 +88,12 @@ fn needs_names(tag: Tag) -> bool {
 }
 
 impl<'t> Wishes<'t> {
-    /// The wishes of these groups for a text, by what it means.
+    /// The wishes of these groups for a text, by what it means and how many addresses its names have in the information file.
     pub fn new(
         alloc: Global,
         source: &Source<'t, '_, '_>,
         assembly: &Assembly<'t, '_, Global>,
+        info: &Info,
         tags: &[Tag],
         used: bool,
     ) -> Result<Wishes<'t>, Refusal> {
@@ -111,6 +114,7 @@ impl<'t> Wishes<'t> {
         for &tag in tags {
             wishes.take(Group {
                 tag,
+                info,
                 start: source.start,
                 bytes,
             })?;
@@ -143,14 +147,14 @@ impl<'t> Wishes<'t> {
             }
             _ => return Ok(()),
         };
-        let name = self.name_at(group, address)?;
+        let reference = self.reference_to(group, address)?;
         let [low_byte, high_byte] = address.to_le_bytes();
         for (half, at, byte) in [(Half::Low, low, low_byte), (Half::High, high, high_byte)] {
             let Some(at) = at else { continue };
             if group.byte(at)? != byte {
                 return group.refused(Complaint::NotHalf(at, address));
             }
-            self.wish(group, at, Wish::Half(half, name))?;
+            self.wish(group, at, Wish::Half(half, reference))?;
         }
         Ok(())
     }
@@ -179,6 +183,39 @@ impl<'t> Wishes<'t> {
     fn name_at(&mut self, group: Group<'_>, address: u16) -> Result<&'t [u8], Refusal> {
         match self.names.name_at(address)? {
             Some(name) => Ok(name),
+            None => group.refused(Complaint::NoName(address)),
+        }
+    }
+
+    /// The name of the address after one. That of a constant line does not move with a byte of the image, so it is none for its address.
+    fn name_after(&mut self, group: Group<'_>, address: u16) -> Result<Option<&'t [u8]>, Refusal> {
+        let Some(next) = address.checked_add(1) else {
+            return Ok(None);
+        };
+        if group.byte(address).is_ok() && self.names.is_constant_at(next) {
+            return Ok(None);
+        }
+        Ok(self.names.name_at(next)?)
+    }
+
+    /// An address by a name: its own; or else that of which it is one of SIZE addresses; or else that of the next address, since a return
+    /// address is one less than where the CPU goes on.
+    fn reference_to(&mut self, group: Group<'_>, address: u16) -> Result<Reference<'t>, Refusal> {
+        if let Some(name) = self.names.name_at(address)? {
+            let offset = Offset::Zero;
+            return Ok(Reference { name, offset });
+        }
+        if let Some(given) = group.info.covering(address) {
+            if let Some(name) = self.names.name_at(given.address)? {
+                let offset = Offset::Plus(address.saturating_sub(given.address));
+                return Ok(Reference { name, offset });
+            }
+        }
+        match self.name_after(group, address)? {
+            Some(name) => {
+                let offset = Offset::Minus(1);
+                Ok(Reference { name, offset })
+            }
             None => group.refused(Complaint::NoName(address)),
         }
     }

@@ -44,7 +44,8 @@ fn apart(address: u16, base: u16) -> Option<u128>
 
 /// The address of a name with this definition, less a number; `None` if that is below 0 or the name has no address.
 fn lessened(definition: Definition, n: Numeral) -> Option<u128>
-    ensures { result ≡ apart (address_of (Some (definition_of definition.entry))) (Some (held (numeral_of n.entry))) }
+    ensures { result ≡ apart (address_of (Some (definition_of definition.entry)))
+        (Some (held (numeral_of n.entry))) }
 {
     let address = definition.address()?;
     let difference = u64::from(address).checked_sub(n.value())?;

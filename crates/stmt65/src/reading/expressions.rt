@@ -1,8 +1,7 @@
 //! Expressions: a number, a name with an optional number added and an optional `-1`, a name less a number, or the difference of two
 //! names; and what is an address or is halved.
 
-ghost use Rattle.std.specs.Prelude.{◌≡◌, if◌then◌else◌, None, Some};
-ghost use Rattle.std.specs.Option.{option_map};
+ghost use Rattle.std.specs.Prelude.{◌≡◌};
 ghost use Rattle.stmt65.specs.Words.{Reads, bracketed_in, halved_in, is_difference, less_at, less_one, named_at, next_address, next_value, numeral_of, value_of};
 
 use crate::language::Language;
@@ -74,14 +73,11 @@ pub fn next_value<'a>(language: Language, parts: &mut Parts<'a>) -> Option<Value
     }
 }
 
-/// An expression, unless it is a difference of names.
-fn undivided<'a>(value: Value<'a>) -> Option<Value<'a>>
-    ensures { option_map value_of result ≡ (if is_difference (value_of value.entry) then None else Some (value_of value.entry)) }
+/// Whether it is a difference of names.
+fn is_difference(value: &Value) -> bool
+    ensures { result ≡ is_difference (value_of value.now) }
 {
-    match value {
-        Value::Difference(_, _) => None,
-        _ => Some(value),
-    }
+    matches!(value, Value::Difference(_, _))
 }
 
 /// The address in an operand.
@@ -89,10 +85,10 @@ pub fn next_address<'a>(language: Language, parts: &mut Parts<'a>) -> Option<Val
     ensures { Reads value_of result (next_address language parts.old) parts.new }
 {
     let value = next_value(language, parts)?;
-    match language {
-        Language::Listing => Some(value),
-        Language::Repair => undivided(value),
+    if language == Language::Repair && is_difference(&value) {
+        return None;
     }
+    Some(value)
 }
 
 /// An expression and `)`.

@@ -366,6 +366,11 @@ a0: nop|b0: .word b0-a0|.byte a0-b0| => line 3: value out of range
 .res 65536| => line 1: value out of range
 .res 65535| => line 1: past the end of the address space
 v = $12|lda v|asl| => A5 12 0A
+v = $12|lda v-2,x|l: lda l-2|.word l-$FFF|jmp (w-$12)|w := $1012| => B5 10 AD 00 10 03 00 6C 00 10
+.byte <(l-2),>(l-2),v-5|l: lda l-0|v = 5| => 01 10 00 AD 03 10
+v = 5|lda v-6| => line 2: value out of range
+v := $10000|.word v-1,v-2| => line 1: value out of range
+lda l-m|l:|m:| => line 1: syntax error
 dec| => line 1: no such form
 .setcpu "65C02"|inc| => 1A
 lda #l|l := 256| => line 1: value out of range
