@@ -135,6 +135,35 @@ refuses 'the last address of all' "$pair" 'x1 := 0\nlda #$FF\nldx #$FF\n' 'info:
 refuses 'a length that begins where a name has none' "${tab}DIFFERENCE { ADDR \$1000; FROM \$1006; TO \$1008; };" \
     '.word 2\nrts\nrts\nrts\ntab: .byte 1,2,3,4\n' 'info:2: no name at $1008: LABEL { ADDR $1008; NAME "L1008"; };'
 
+# ---- addresses counted from a table
+
+base='BASE { ADDR $1000; FROM $1004; };'
+names 'an operand before a table' "$base" \
+    'x0:     lda     l1003,x                         ; one less\nl1003:  rts\ntab:    .byte   1\n' \
+    'x0:     lda     tab-1,x                         ; one less\nl1003:  rts\ntab:    .byte   1\n'
+names 'an operand after its beginning' "$base" 'sta tab2,y\nrts\ntab: .byte 1,2,3\ntab2:\n' 'sta tab+3,y\nrts\ntab: .byte 1,2,3\ntab2:\n'
+names 'the table itself' "$base" 'x1 : LDA $1004 , X;1\nrts\ntab: rts\n' 'x1 : LDA tab , X;1\nrts\ntab: rts\n'
+names 'an absolute operand, and one of a jump' "$base\nBASE { ADDR \$1005; FROM \$1004; };" \
+    'lda a:$0004\nrts\ntab: rts\njmp ( tab+$FA ) ; far\n' 'lda a:tab-4096\nrts\ntab: rts\njmp ( tab+250 ) ; far\n'
+printf 'zp := $14\ntab := $12\nlda (zp,x)\nsta (zp),y\nldx zp,y\nlda A : zp\n' >base.s
+printf '#: BASE { ADDR $1000; FROM $12; };\n#: BASE { ADDR $1002; FROM $12; };\n' >base.info
+printf '#: BASE { ADDR $1004; FROM $12; };\n#: BASE { ADDR $1006; FROM $12; };\n' >>base.info
+runs 'operands of the zero page' 0 'zp := $14\ntab := $12\nlda (tab+2,x)\nsta (tab+2),y\nldx tab+2,y\nlda A : tab+2\n' '' \
+    -S 0x1000 -i base.info base.s
+for text in 'lda #$10' 'bne x1' 'rts' '.byte $AD,$10,$10' '.word $10AD,$10' '.setcpu "65C02"\nbbr0 $10,x1' 'asl a'; do
+    refuses "what has no address in $text" "$base" "x1: $text\nnop\nnop\nnop\ntab = \$1004\n" \
+        'info:1: no instruction at $1000 has an address'
+done
+refuses 'the middle of an instruction' 'BASE { ADDR $1001; FROM $1003; };' 'jmp $AD4C\ntab: rts\n' \
+    'info:1: no instruction at $1001 has an address'
+refuses 'a base without a name' "$base" 'lda $1003,x\n' 'info:1: no name at $1004: LABEL { ADDR $1004; NAME "L1004"; };'
+refuses 'an instruction after the image' 'BASE { ADDR $1003; FROM $1000; };' 'x1: lda $1003,x\n' 'info:1: no line has the byte at $1003'
+refuses 'an instruction that goes past the image' 'BASE { ADDR $1002; FROM $1000; };' 'x1: lda $10\n.byte $AD\n' \
+    'info:1: no line has the byte at $1003'
+refuses 'an operand that is a half too' "$base\nHALVES { LOW \$1001; HIGH \$1002; };" 'x1: lda $1003,x\nrts\ntab := $1004\nv := $1003\n' \
+    'info:2: no number stands alone for what is at $1001'
+refuses 'two bases of an instruction' "$base\n$base" 'lda $1003,x\nrts\ntab: rts\n' 'info:2: the byte at $1000 is in two groups'
+
 # ---- variables after the image, and lengths
 
 names 'variables' 'AFTER { START $1003; END $1010; };' \

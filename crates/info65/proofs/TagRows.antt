@@ -11,14 +11,15 @@ unfolding tagged_from tagged_byte spot_after
 text = refl
 
 -- one group of each kind, one over two lines, and one with halves of an address that is given
-all : tags_of (codes "#: ENTRY { ADDR $FC71; };\nLABEL { ADDR 1; };\n#: inline { addr 1; size 2; }\n#: HALVES { LOW 3;\n#: HIGH 4; }; # $FE17 put\n#: HALVES { ADDR 5; LOW 6; };\n#: AFTER { START $120C; END $15FF; };\n#: DIFFERENCE { ADDR 7; FROM 8; TO 9; };")
+all : tags_of (codes "#: ENTRY { ADDR $FC71; };\nLABEL { ADDR 1; };\n#: inline { addr 1; size 2; }\n#: HALVES { LOW 3;\n#: HIGH 4; }; # $FE17 put\n#: HALVES { ADDR 5; LOW 6; };\n#: AFTER { START $120C; END $15FF; };\n#: DIFFERENCE { ADDR 7; FROM 8; TO 9; };\n#: BASE { FROM 11; ADDR 10; };")
     ≡ Ok (
     record { kind = kind.Entry; line = 1; address = Some 0xFC71; size = None; low = None; high = None; first = None; last = None }
     ∷ record { kind = kind.Inline; line = 3; address = Some 1; size = Some 2; low = None; high = None; first = None; last = None }
     ∷ record { kind = kind.Halves; line = 4; address = None; size = None; low = Some 3; high = Some 4; first = None; last = None }
     ∷ record { kind = kind.Halves; line = 6; address = Some 5; size = None; low = Some 6; high = None; first = None; last = None }
     ∷ record { kind = kind.After; line = 7; address = None; size = None; low = None; high = None; first = Some 0x120C; last = Some 0x15FF }
-    ∷ record { kind = kind.Difference; line = 8; address = Some 7; size = None; low = None; high = None; first = Some 8; last = Some 9 } ∷ []
+    ∷ record { kind = kind.Difference; line = 8; address = Some 7; size = None; low = None; high = None; first = Some 8; last = Some 9 }
+    ∷ record { kind = kind.Base; line = 9; address = Some 10; size = None; low = None; high = None; first = Some 11; last = None } ∷ []
     )
 unfolding tags_of tags_from tag_step tag_end tag_named tag_attribute tagged_from tagged_byte spot_after tokens_after lexeme_at word_at number_at number_in in_class
 all = refl
@@ -38,6 +39,14 @@ twice = refl
 missing : tags_of (codes "#: HALVES { LOW 1; };") ≡ Err (fault 1 Missing)
 unfolding tags_of tags_from tag_step tag_end tag_named tag_attribute tagged_from tagged_byte spot_after tokens_after lexeme_at word_at number_at number_in in_class
 missing = refl
+
+unbased : tags_of (codes "#: BASE { ADDR 1; };") ≡ Err (fault 1 Missing)
+unfolding tags_of tags_from tag_step tag_end tag_named tag_attribute tagged_from tagged_byte spot_after tokens_after lexeme_at word_at number_at number_in in_class
+unbased = refl
+
+placeless : tags_of (codes "#: BASE { FROM 1; };") ≡ Err (fault 1 Missing)
+unfolding tags_of tags_from tag_step tag_end tag_named tag_attribute tagged_from tagged_byte spot_after tokens_after lexeme_at word_at number_at number_in in_class
+placeless = refl
 
 high : tags_of (codes "#: ENTRY { ADDR $10000; };") ≡ Err (fault 1 OutOfRange)
 unfolding tags_of tags_from tag_step tag_end tag_named tag_attribute tagged_from tagged_byte spot_after tokens_after lexeme_at word_at number_at number_in in_class

@@ -51,7 +51,8 @@ tag_named text =
     else (if str_eq_ignore_ascii_case text (codes "HALVES") then Some kind.Halves
     else (if str_eq_ignore_ascii_case text (codes "AFTER") then Some kind.After
     else (if str_eq_ignore_ascii_case text (codes "DIFFERENCE") then Some kind.Difference
-    else None))))
+    else (if str_eq_ignore_ascii_case text (codes "BASE") then Some kind.Base
+    else None)))))
 
 -- the attribute of a group by its name, with letters of any case
 unfoldable pub tag_attribute : TagKind → List ℕ → Option TagAttribute
@@ -75,6 +76,10 @@ tag_attribute kind.Difference text =
     else (if str_eq_ignore_ascii_case text (codes "FROM") then Some attribute.First
     else (if str_eq_ignore_ascii_case text (codes "TO") then Some attribute.Last
     else None))
+tag_attribute kind.Base text =
+    if str_eq_ignore_ascii_case text (codes "ADDR") then Some attribute.Address
+    else (if str_eq_ignore_ascii_case text (codes "FROM") then Some attribute.First
+    else None)
 
 -- what an attribute was given
 abbrev pub value_at : Tag → TagAttribute → Option ℕ
@@ -108,6 +113,7 @@ lacks t = by_kind t.kind
     by_kind kind.Halves = not ((is_some t.low && is_some t.high) || (is_some t.address && (is_some t.low || is_some t.high)))
     by_kind kind.After = not (is_some t.first && is_some t.last)
     by_kind kind.Difference = not (is_some t.address && (is_some t.first && is_some t.last))
+    by_kind kind.Base = not (is_some t.address && is_some t.first)
 
 -- the last address of what lies after the image is below the first
 abbrev pub is_backward : Tag → Bool

@@ -1,4 +1,5 @@
--- The addresses that groups of the lines `#: ..` name: of the bytes of HALVES and DIFFERENCE, and from START to END of AFTER.
+-- The addresses that groups of the lines `#: ..` name: of the bytes of HALVES and DIFFERENCE, from START to END of AFTER, and of the
+-- instruction of BASE.
 use Rattle.std.specs.Prelude.{◌≡◌, ℕ, ◌+◌, ◌-◌, ◌&&◌, ◌||◌, min, nat_le, nat_lt, Bool, false, List, Option, Some, None}
 use Rattle.std.specs.List.{list_any}
 use Rattle.std.specs.Option.{unwrap_or}
@@ -24,6 +25,7 @@ is_named_by a t = by_kind t.kind
     by_kind : TagKind → Bool
     by_kind kind.Halves = is_among t.low (unwrap_or t.size 1) a || is_among t.high (unwrap_or t.size 1) a
     by_kind kind.Difference = is_among t.address 2 a
+    by_kind kind.Base = is_among t.address 1 a
     by_kind kind.After = is_among t.first (count_to t.first t.last) a
     by_kind _ = false
 

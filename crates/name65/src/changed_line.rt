@@ -1,11 +1,13 @@
 //! What stands in the place of a line that a group touches.
 
+use crate::address_operand::put_address;
 use crate::complaint::Refusal;
 use crate::constant_line::{moved, put_kept};
 use crate::constants::{Fate, fate_of};
 use crate::operands::{Operands, keep_free};
 use crate::plan::{PlacedLine, Plan};
 use crate::rewriting::{put_operands, put_table};
+use crate::wishes::Wish;
 use std::alloc::AllocError;
 use stmt65::{SourceLine, read_line};
 
@@ -44,6 +46,16 @@ fn put_operation(
     placed: &PlacedLine<'_>,
 ) -> Result<(), Refusal> {
     let PlacedLine { line, at, end, .. } = *placed;
+    if let Some(wished) = plan.wishes.at(at) {
+        if let Wish::Address(reference) = wished.wish {
+            keep_free(
+                plan.wishes,
+                at.saturating_add(1),
+                end.saturating_sub(at).saturating_sub(1),
+            )?;
+            return put_address(out, placed, wished, reference);
+        }
+    }
     match form_of(line) {
         Form::Immediate(from) => {
             keep_free(plan.wishes, at, 1)?;

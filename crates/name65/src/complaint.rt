@@ -27,6 +27,9 @@ pub enum Complaint {
     /// The word is not TO - FROM.
     #[error("the word at ${0:04X} is not TO - FROM")]
     NotDifference(u16),
+    /// No instruction of the listing begins there that has an address as its operand.
+    #[error("no instruction at ${0:04X} has an address")]
+    NoAddress(u16),
     /// START is not after the image.
     #[error("START is inside the image: ${0:04X}")]
     Inside(u16),

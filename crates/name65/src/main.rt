@@ -5,6 +5,7 @@
 //! is 0 if the text, the help text or the version was written, otherwise 1.
 #![tactic(auto)]
 
+mod address_operand;
 mod by_address;
 mod changed_line;
 mod changes;

@@ -18,16 +18,20 @@ pub enum Operand<'t> {
 }
 
 /// The wish can't be followed where it is.
-fn no_number<T>(wished: Wished<'_>, address: u64) -> Result<T, Refusal> {
+pub fn misplaced<T>(wished: Wished<'_>, address: u64) -> Result<T, Refusal> {
     let address = address.min(0xFFFF) as u16;
-    Err(Refusal::Group(wished.line, Complaint::NoNumber(address)))
+    let complaint = match wished.wish {
+        Wish::Address(_) => Complaint::NoAddress(address),
+        _ => Complaint::NoNumber(address),
+    };
+    Err(Refusal::Group(wished.line, complaint))
 }
 
 /// Refuses a wish for one of so many bytes from an address on.
 pub fn keep_free(wishes: &Wishes<'_>, from: u64, count: u64) -> Result<(), Refusal> {
     for address in from..from.saturating_add(count) {
         if let Some(wished) = wishes.at(address) {
-            return no_number(wished, address);
+            return misplaced(wished, address);
         }
     }
     Ok(())
@@ -73,7 +77,7 @@ impl<'w, 't, 'l> Operands<'w, 't, 'l> {
                 Wish::Difference(name, other) if self.size == 2 => {
                     Ok(Operand::Difference(name, other))
                 }
-                _ => no_number(wished, self.address),
+                _ => misplaced(wished, self.address),
             },
         }
     }

@@ -9,7 +9,7 @@ use stmt65::Half;
 use text65::is_blank;
 
 /// Appends the bytes of a line between two places.
-fn put_part(out: &mut Vec<u8>, line: &[u8], from: usize, to: usize) -> Result<(), AllocError> {
+pub fn put_part(out: &mut Vec<u8>, line: &[u8], from: usize, to: usize) -> Result<(), AllocError> {
     out.extend_from_slice(line.get(from..to).unwrap_or(&[]))
 }
 

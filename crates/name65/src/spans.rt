@@ -33,7 +33,7 @@ fn spot_of(before: Spot, byte: u8) -> Spot {
 }
 
 /// The part of a line between two places, without the blanks around it.
-fn trimmed(line: &[u8], from: usize, to: usize) -> Span {
+pub fn trimmed(line: &[u8], from: usize, to: usize) -> Span {
     let part = line.get(from..to).unwrap_or(&[]);
     let before = part.iter().take_while(|byte| is_blank(**byte)).count();
     let after = part

@@ -5,6 +5,7 @@ use crate::complaint::{Complaint, Refusal};
 use crate::names::Names;
 use crate::reference::{Offset, Reference};
 use info65::{Info, Tag, TagKind};
+use isa65::{Cpu, OpcodeSet, OperandKind, Row};
 use std::alloc::Global;
 use stmt65::{Assembly, Half, Source};
 
@@ -17,6 +18,8 @@ pub enum Wish<'t> {
     Difference(&'t [u8], &'t [u8]),
     /// The second byte of a difference.
     Second,
+    /// The address that the instruction that begins there has as its operand.
+    Address(Reference<'t>),
 }
 
 /// A wish, and the line of the information file on which its group begins.
@@ -65,6 +68,20 @@ impl<'b> Group<'b> {
         Ok(u16::from_le_bytes([low, high]))
     }
 
+    /// The address that the instruction at an address has as its operand, by the opcodes of all CPUs.
+    fn operand(self, address: u16) -> Result<u16, Refusal> {
+        let row = match Cpu::M65C02.decode(self.byte(address)?) {
+            Some(op) => op.mode.row(),
+            None => return self.refused(Complaint::NoAddress(address)),
+        };
+        let place = self.later(address, 1)?;
+        match row {
+            Row::One(_, OperandKind::Word) => self.word(place),
+            Row::One(_, OperandKind::ZeroPage) => Ok(u16::from(self.byte(place)?)),
+            _ => self.refused(Complaint::NoAddress(address)),
+        }
+    }
+
     /// The address this many bytes after one.
     fn later(self, address: u16, count: u16) -> Result<u16, Refusal> {
         match address.checked_add(count) {
@@ -84,7 +101,10 @@ impl<'b> Group<'b> {
 
 /// Whether a group is followed by the names of the listing.
 fn needs_names(tag: Tag) -> bool {
-    matches!(tag.kind, TagKind::Halves | TagKind::Difference)
+    matches!(
+        tag.kind,
+        TagKind::Halves | TagKind::Difference | TagKind::Base
+    )
 }
 
 impl<'t> Wishes<'t> {
@@ -132,6 +152,7 @@ impl<'t> Wishes<'t> {
             }
             TagKind::Difference => self.take_difference(group),
             TagKind::After => self.check_after(group),
+            TagKind::Base => self.take_base(group),
             TagKind::Entry | TagKind::Inline => Ok(()),
         }
     }
@@ -171,6 +192,20 @@ impl<'t> Wishes<'t> {
         let from = self.name_at(group, from)?;
         self.wish(group, at, Wish::Difference(to, from))?;
         self.wish(group, group.later(at, 1)?, Wish::Second)
+    }
+
+    fn take_base(&mut self, group: Group<'_>) -> Result<(), Refusal> {
+        let (Some(at), Some(base)) = (group.tag.address, group.tag.first) else {
+            return Ok(());
+        };
+        let operand = group.operand(at)?;
+        let name = self.name_at(group, base)?;
+        let offset = match (operand.saturating_sub(base), base.saturating_sub(operand)) {
+            (0, 0) => Offset::Zero,
+            (0, less) => Offset::Minus(less),
+            (more, _) => Offset::Plus(more),
+        };
+        self.wish(group, at, Wish::Address(Reference { name, offset }))
     }
 
     fn check_after(&self, group: Group<'_>) -> Result<(), Refusal> {

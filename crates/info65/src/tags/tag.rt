@@ -17,6 +17,8 @@ pub enum TagKind {
     After,
     /// The word at the address is the distance of two others.
     Difference,
+    /// The operand of the instruction at the address is counted from another address.
+    Base,
 }
 
 /// What can be given in a group. `First` and `Last` are START and END, or FROM and TO.
@@ -66,6 +68,7 @@ pub(crate) fn tag_named(text: &[u8]) -> Option<TagKind>
         b"HALVES" => TagKind::Halves,
         b"AFTER" => TagKind::After,
         b"DIFFERENCE" => TagKind::Difference,
+        b"BASE" => TagKind::Base,
     )
 }
 
@@ -96,6 +99,10 @@ pub(crate) fn tag_attribute(kind: TagKind, text: &[u8]) -> Option<TagAttribute>
             b"ADDR" => TagAttribute::Address,
             b"FROM" => TagAttribute::First,
             b"TO" => TagAttribute::Last,
+        ),
+        TagKind::Base => tag_word!(text;
+            b"ADDR" => TagAttribute::Address,
+            b"FROM" => TagAttribute::First,
         ),
     }
 }
@@ -172,6 +179,7 @@ impl Tag {
             TagKind::Difference => {
                 !(self.address.is_some() && (self.first.is_some() && self.last.is_some()))
             }
+            TagKind::Base => !(self.address.is_some() && self.first.is_some()),
         }
     }
 
