@@ -1,5 +1,6 @@
 //! What is found of an image, as text of an information file: comments, groups, and lines `#: ..`.
 
+pub mod bases;
 pub mod calls;
 pub mod labels;
 pub mod likely;
@@ -33,6 +34,7 @@ pub fn put_text(
     moves::put_likely(out, advice)?;
     tables::put_pointers(out, advice)?;
     likely::put_words(out, advice)?;
+    bases::put_bases(out, advice)?;
     calls::put_calls(out, alloc, advice)?;
     stops::put_stops(out, advice)
 }

@@ -1,7 +1,8 @@
 //! Which other addresses join the entries.
 
+use crate::rules::bytes::address;
 use crate::rules::entries::pointers_of;
-use crate::rules::halves::{Pair, is_load, put_pairs_at};
+use crate::rules::halves::{Pair, is_load, put_pairs_at, put_pushed};
 use crate::rules::jumps::join_jumps;
 use crate::rules::obstacles::{Stops, worst_of};
 use crate::rules::readers::tables_of;
@@ -56,16 +57,17 @@ fn put_candidates_of(
     if is_load(step.op) {
         pairs.clear();
         put_pairs_at(pairs, search.steps, &search.marks, reason)?;
+        put_pushed(pairs, search.steps, &search.marks, usize::from(reason))?;
         for pair in pairs.as_slice() {
-            if pair.is_plausible() {
-                put_candidate(found, search, pair.address, false)?;
+            if let Some(meant) = address(pair.meant())
+                && pair.is_plausible()
+            {
+                put_candidate(found, search, meant, false)?;
             }
         }
     }
-    if let Some(end) = step.end
-        && let Ok(address) = u16::try_from(end)
-    {
-        put_candidate(found, search, address, true)?;
+    if let Some(end) = step.end {
+        put_candidate(found, search, end, true)?;
     }
     Ok(())
 }
@@ -75,7 +77,7 @@ fn piece_end(search: &Search<'_, '_, '_>, address: u16) -> Option<u16> {
     let mut at = address;
     for _ in 0..ADDRESSES {
         let step = search.steps.at(at)?;
-        let end = u16::try_from(step.end?).ok()?;
+        let end = step.end?;
         if step.next.is_none() || search.code.get(end) {
             return Some(end);
         }

@@ -20,16 +20,23 @@ pub struct Pair {
     pub high: u16,
     /// The address that they form.
     pub address: u16,
+    /// How much less that is than the address that is meant: 1 for one to which `rts` leads.
+    pub less: u16,
     /// How likely it is meant, if other pairs have one of its bytes: of two the one of the lower rank is likelier. It is 0 for bytes
-    /// that are stored to neighbours, 1 to 6 by the registers, 7 through a pointer, and 8 for bytes that are added.
+    /// that are stored to neighbours, 1 to 6 by the registers, 7 through a pointer, 8 for bytes that are added, and 9 for bytes that are pushed.
     rank: u8,
 }
 
 impl Pair {
+    /// Returns the address that is meant.
+    pub fn meant(&self) -> usize {
+        usize::from(self.address).saturating_add(usize::from(self.less))
+    }
+
     /// Returns whether it is an address more often than two numbers: its low half is not zero, its high half is not in A if the low one is in X or
     /// Y, and it is not in Y and then X.
     pub fn is_plausible(&self) -> bool {
-        self.address % 256 != 0
+        self.meant() % 256 != 0
             && self.rank != 4
             && self.rank != 5
             && !(self.rank == 6 && self.low < self.high)
@@ -108,6 +115,7 @@ fn put_joined(
             low,
             high,
             address,
+            less: 0,
             rank,
         })?;
     }
@@ -255,6 +263,44 @@ fn put_added(
     Ok(())
 }
 
+/// Whether the marked instruction of the address is this one.
+fn is_at(steps: &Steps<'_, '_>, marks: &Marks, at: usize, mnemonic: Mnemonic) -> bool {
+    match steps.marked(marks, at) {
+        Some(step) => step.op.mnemonic == mnemonic,
+        None => false,
+    }
+}
+
+/// Adds the pair that is pushed for `rts`, high half first, of which the first load is at the address: `lda #`, `pha`, `lda #`, `pha`. The address
+/// is one more.
+pub fn put_pushed(
+    found: &mut Vec<Pair>,
+    steps: &Steps<'_, '_>,
+    marks: &Marks,
+    at: usize,
+) -> Result<(), AllocError> {
+    let then = at.saturating_add(3);
+    if load_at(steps, marks, at) != Some(Register::A)
+        || !is_at(steps, marks, at.saturating_add(2), Mnemonic::Pha)
+        || load_at(steps, marks, then) != Some(Register::A)
+        || !is_at(steps, marks, then.saturating_add(2), Mnemonic::Pha)
+    {
+        return Ok(());
+    }
+    let before = found.len();
+    put_joined(
+        found,
+        steps.image(),
+        9,
+        then.saturating_add(1),
+        at.saturating_add(1),
+    )?;
+    if let Some(pair) = found.get_mut(before) {
+        pair.less = 1;
+    }
+    Ok(())
+}
+
 /// Whether the marked instruction of the address adds an immediate.
 fn adds(steps: &Steps<'_, '_>, marks: &Marks, at: usize) -> bool {
     match steps.marked(marks, at) {
@@ -301,13 +347,9 @@ fn is_broken(steps: &Steps<'_, '_>, survey: &Survey<'_>, pair: Pair) -> bool {
     false
 }
 
-/// Whether a pair is sure to be meant as an address: no name with a SIZE covers it from before, and nothing breaks it.
+/// Whether a pair is sure to be meant as an address: it is plausible, and nothing breaks it.
 fn is_sure(steps: &Steps<'_, '_>, survey: &Survey<'_>, pair: Pair) -> bool {
-    let named = match steps.map().info().covering(pair.address) {
-        Some(name) => name.address == pair.address,
-        None => true,
-    };
-    named && pair.is_plausible() && !is_broken(steps, survey, pair)
+    pair.is_plausible() && !is_broken(steps, survey, pair)
 }
 
 /// The pairs that are an address, and those that may be one.
@@ -341,9 +383,13 @@ fn pairs_of(
         {
             put_pairs_at(&mut here, steps, reached, address)?;
             put_by_pointer(&mut here, steps, reached, at)?;
+            put_pushed(&mut here, steps, reached, at)?;
         }
         for &pair in here.as_slice() {
-            if usize::from(pair.address) < limit && survey.is_likely(pair.address) {
+            let meant = pair.meant();
+            if meant < limit
+                && (pair.less == 0 && survey.is_likely(pair.address) || survey.is_routine(meant))
+            {
                 pairs.push(pair)?;
             }
         }

@@ -1,5 +1,6 @@
 //! The addresses that get labels with default names.
 
+use crate::rules::bytes::address;
 use crate::rules::halves::Pair;
 use info65::Info;
 use std::alloc::{AllocError, Global};
@@ -14,7 +15,9 @@ pub fn labels_of(
 ) -> Result<Vec<u16>, AllocError> {
     let mut wanted = Vec::from_slice(alloc, others)?;
     for pair in pairs {
-        wanted.push(pair.address)?;
+        if let Some(meant) = address(pair.meant()) {
+            wanted.push(meant)?;
+        }
     }
     wanted.sort()?;
     let mut found = Vec::new(alloc);

@@ -27,8 +27,8 @@ pub struct Survey<'r> {
     pub texts: Marks,
 }
 
-/// Whether an instruction stores to its operand, or changes it.
-fn writes(mnemonic: Mnemonic) -> bool {
+/// Returns whether an instruction stores to its operand, or changes it.
+pub fn writes(mnemonic: Mnemonic) -> bool {
     matches!(
         mnemonic,
         Mnemonic::Sta

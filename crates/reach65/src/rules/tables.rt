@@ -57,7 +57,7 @@ pub fn mark_tables(
         let (low_end, high_end) = (low.saturating_add(count), high.saturating_add(count));
         if table.has_words() {
             ground.put_words(table.less, low, low_end.saturating_add(count));
-        } else if table.less == 0 && 1 < count {
+        } else if 1 < count {
             ground.put_numbers(low, low_end);
             ground.put_numbers(high, high_end);
             splits.push(Split { table, count })?;

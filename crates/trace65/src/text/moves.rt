@@ -3,6 +3,7 @@
 use crate::advice::Advice;
 use files65::{put_address, put_decimal};
 use info65::TagKind;
+use reach65::rules::bytes::address;
 use std::alloc::AllocError;
 
 /// Adds the name of an address, if it has one, and how far the address lies after that of its name.
@@ -27,8 +28,13 @@ pub fn put_pairs(out: &mut Vec<u8>, advice: &Advice<'_, '_, '_>) -> Result<(), A
     for pair in &advice.pairs {
         put_address(out, b"#: HALVES { LOW $", usize::from(pair.low))?;
         put_address(out, b"; HIGH $", usize::from(pair.high))?;
-        put_address(out, b"; }; # $", usize::from(pair.address))?;
-        put_name(out, advice, pair.address)?;
+        put_address(out, b"; }; # $", pair.meant())?;
+        if let Some(meant) = address(pair.meant()) {
+            put_name(out, advice, meant)?;
+        }
+        if pair.less == 1 {
+            out.extend_from_slice(b" less 1")?;
+        }
         out.extend_from_slice(b"\n")?;
     }
     Ok(())
