@@ -216,11 +216,12 @@ proposes 'a table of the file leads to code as an entry does' '1004-1005 ByteTab
 image vectors.bin '\xff\x60\x60\x60\xf8\xff\xf7\xff\xf9\xff'
 proposes 'vectors' 'FFF6-FFF6 ByteTable;FFFA-FFFF AddrTable;' vectors.bin
 
-# Nothing is said of the monitor of the board: its commands are code, and their table, the texts, the filler and the vectors are apart.
+# Nothing is said of the monitor of the board: its commands are code, and the jumps to its routines; their table, the texts, the filler and the
+# vectors are apart.
 proposes 'the monitor' \
     'FE43-FE49 TextTable;FE4A-FE57 RtsTable;FE58-FE6C TextTable;FE6D-FE6E ByteTable;FE6F-FE7F TextTable;'\
-'FE80-FE84 ByteTable;FE85-FE8A TextTable;FE8B-FE8F ByteTable;FE90-FE9C TextTable;FE9D-FED6 ByteTable;'\
-'FED7-FFDE ByteTable;FFDF-FFF1 ByteTable;FFF2-FFF3 AddrTable;FFF4-FFF9 ByteTable;FFFA-FFFF AddrTable;' \
+'FE80-FE84 ByteTable;FE85-FE8A TextTable;FE8B-FE8F ByteTable;FE90-FE9C TextTable;FE9D-FE9F ByteTable;'\
+'FED7-FFDE ByteTable;FFFA-FFFF AddrTable;' \
     examples/board/monitor.bin
 # What the monitor of the board has apart from its tables and what the vectors and the command table reach: the routines that programs call,
 # and the jumps to them.
@@ -418,7 +419,7 @@ halves 'two loads, the low byte first' '1001,1003: 1005;' -S 0x1000 loads.bin
 image text.info 'LABEL { ADDR $1005; NAME "text"; };\n'
 halves 'and the name of the address' '1001,1003: 1005 text;' -S 0x1000 -i text.info loads.bin
 image part.info 'LABEL { ADDR $1003; NAME "part"; SIZE 3; };\n'
-halves 'but not inside a name with a size' '' -S 0x1000 -i part.info loads.bin
+halves 'inside a name with a size' '1001,1003: 1005 part+2;' -S 0x1000 -i part.info loads.bin
 image high.bin '\xa0\x10\xa9\x05\x60\xff'
 halves 'two loads, the high byte first' '1003,1001: 1005;' -S 0x1000 high.bin
 image same.bin '\xa9\x05\xa9\x10\x60\xff'

@@ -1,6 +1,5 @@
-; Halves less one that are pushed before `rts` are not found today, nor what they lead to.
-; expect: code 7 of 15, constants as code 0 of 1, halves 0 right 0 wrong, rows 0 right 0 wrong, follows 0 of 2, wrong 0, runs 0 of 2
-; should be: code 15 of 15, follows 2 of 2
+; Halves less one that are pushed before `rts`, and what they lead to.
+; expect: code 15 of 15, constants as code 0 of 1, halves 1 right 0 wrong, rows 0 right 0 wrong, follows 2 of 2, wrong 0, runs 3 of 3
         .code
         lda     #>(routine-1)
         pha
