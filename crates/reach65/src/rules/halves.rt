@@ -400,7 +400,7 @@ fn pairs_of(
 
 /// Returns each pair of immediates in reached code that is an address, by the places of their low bytes: no reached instruction has that
 /// address, or a routine begins there; it lies before `limit`; each byte is in one pair, of two the likelier; and none is at a place that `said`
-/// has. A pair that is not sure is only likely. Fails only if an allocation failed.
+/// has, nor where a segment begins or ends within its instruction. A pair that is not sure is only likely. Fails only if an allocation failed.
 pub fn halves_of(
     alloc: Global,
     steps: &Steps<'_, '_>,
@@ -410,6 +410,10 @@ pub fn halves_of(
 ) -> Result<Halves, AllocError> {
     let pairs = pairs_of(alloc, steps, survey, limit)?;
     let mut used = said;
+    for segment in steps.map().info().segments() {
+        used.set(segment.first);
+        used.set(segment.last.saturating_add(1));
+    }
     let mut sure = Vec::new(alloc);
     let mut likely = Vec::new(alloc);
     for is_last in [false, true] {
