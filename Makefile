@@ -108,6 +108,7 @@ test:
 	tests/as65.sh bin/as65 bin/da65
 	tests/trace65.sh bin/trace65 bin/da65 bin/as65 bin/name65
 	tests/name65.sh bin/name65 bin/da65 bin/as65 bin/trace65
+	tests/run65.py crates/step65/out/step65
 	tests/corpus.py bin/trace65 bin/da65 bin/as65 bin/name65
 	tests/growth.sh bin/da65
 	tests/speed.sh bin/da65

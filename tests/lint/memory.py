@@ -36,6 +36,7 @@ name65 Failure::from 2
 name65 Refusal::from 1
 name65 assembled 2
 relist Failure::from 2
+step65 program 2
 stmt65 AsmFault::from 1
 stmt65 Symbols::define 2
 trace65 failure_of 4
