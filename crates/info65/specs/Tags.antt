@@ -52,11 +52,13 @@ tag_named text =
     else (if str_eq_ignore_ascii_case text (codes "AFTER") then Some kind.After
     else (if str_eq_ignore_ascii_case text (codes "DIFFERENCE") then Some kind.Difference
     else (if str_eq_ignore_ascii_case text (codes "BASE") then Some kind.Base
-    else None)))))
+    else (if str_eq_ignore_ascii_case text (codes "NUMBER") then Some kind.Number
+    else None))))))
 
 -- the attribute of a group by its name, with letters of any case
 unfoldable pub tag_attribute : TagKind → List ℕ → Option TagAttribute
 tag_attribute kind.Entry text = if str_eq_ignore_ascii_case text (codes "ADDR") then Some attribute.Address else None
+tag_attribute kind.Number text = if str_eq_ignore_ascii_case text (codes "ADDR") then Some attribute.Address else None
 tag_attribute kind.Inline text =
     if str_eq_ignore_ascii_case text (codes "ADDR") then Some attribute.Address
     else (if str_eq_ignore_ascii_case text (codes "SIZE") then Some attribute.Size
@@ -110,6 +112,7 @@ lacks t = by_kind t.kind
     by_kind : TagKind → Bool
     by_kind kind.Entry = not (is_some t.address)
     by_kind kind.Inline = not (is_some t.address)
+    by_kind kind.Number = not (is_some t.address)
     by_kind kind.Halves = not ((is_some t.low && is_some t.high) || (is_some t.address && (is_some t.low || is_some t.high)))
     by_kind kind.After = not (is_some t.first && is_some t.last)
     by_kind kind.Difference = not (is_some t.address && (is_some t.first && is_some t.last))

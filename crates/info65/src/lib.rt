@@ -41,4 +41,4 @@ pub use syntax::digits::number_of_digits;
 pub use syntax::lexer::Lexer;
 pub use syntax::names::default_name;
 pub use syntax::token::{Token, TokenKind};
-pub use tags::{Tag, TagKind, read_tags};
+pub use tags::{Tag, TagKind, read_tags, without_numbers};

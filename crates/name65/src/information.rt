@@ -1,7 +1,7 @@
 //! What the information file says: its groups, and those of its lines `#: ..`.
 
 use crate::failure::Failure;
-use info65::{Info, Options, Tag, read_info, read_tags};
+use info65::{Info, Options, Tag, read_info, read_tags, without_numbers};
 use std::alloc::Global;
 
 /// The most that an information file may have: 1 MiB.
@@ -14,10 +14,11 @@ pub fn info_given(alloc: Global, start: Option<u16>, bytes: &[u8]) -> Result<Inf
     Ok(read_info(alloc, &options, bytes)?)
 }
 
-/// The groups of the lines `#: ..`.
+/// The groups of the lines `#: ..`, without the halves that count for nothing.
 pub fn tags(alloc: Global, bytes: &[u8]) -> Result<Vec<Tag>, Failure> {
     if LIMIT < bytes.len() {
         return Ok(Vec::new(alloc));
     }
-    Ok(read_tags(alloc, bytes)?)
+    let tags = read_tags(alloc, bytes)?;
+    Ok(without_numbers(alloc, &tags)?)
 }

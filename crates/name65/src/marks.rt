@@ -42,7 +42,7 @@ fn mark_tag(marks: &mut Marks, tag: Tag)
         TagKind::Difference => mark_among(marks, tag.address, 2),
         TagKind::Base => mark_among(marks, tag.address, 1),
         TagKind::After => mark_among(marks, tag.first, count_to(tag.first, tag.last)),
-        TagKind::Entry | TagKind::Inline => {}
+        TagKind::Entry | TagKind::Inline | TagKind::Number => {}
     }
 }
 

@@ -153,7 +153,7 @@ impl<'t> Wishes<'t> {
             TagKind::Difference => self.take_difference(group),
             TagKind::After => self.check_after(group),
             TagKind::Base => self.take_base(group),
-            TagKind::Entry | TagKind::Inline => Ok(()),
+            TagKind::Entry | TagKind::Inline | TagKind::Number => Ok(()),
         }
     }
 

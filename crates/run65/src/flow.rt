@@ -51,14 +51,14 @@ impl<V: Value, B: Bus<V>> Machine<V, B> {
     }
 
     /// Pulls an address of the code.
-    pub(crate) fn pull_word(&mut self) -> Word<V> {
+    fn pull_word(&mut self) -> Word<V> {
         let low = self.pull();
         let high = self.pull();
         Word { low, high }
     }
 
     /// Code goes on at so many bytes after a word.
-    pub(crate) fn go(&mut self, word: Word<V>, index: u8, purpose: Purpose) -> Step {
+    fn go(&mut self, word: Word<V>, index: u8, purpose: Purpose) -> Step {
         match self.bus.place(word, V::of(index), purpose) {
             Some(address) => {
                 self.registers.pc = address;
@@ -136,6 +136,12 @@ impl<V: Value, B: Bus<V>> Machine<V, B> {
         let word = self.word();
         self.push_address(self.start.wrapping_add(2));
         self.go(word, 0, Purpose::Call)
+    }
+
+    /// Returns as `rts` does.
+    pub fn come_back(&mut self) -> Step {
+        let word = self.pull_word();
+        self.go(word, 1, Purpose::Return)
     }
 
     /// Runs the return from an interrupt.

@@ -1,6 +1,6 @@
 //! A CPU with its registers and its bus.
 
-use crate::bus::{Bus, Purpose};
+use crate::bus::Bus;
 use crate::registers::Registers;
 use crate::value::Value;
 use isa65::{Cpu, DecodeTable, Mnemonic, Mode, Op, OpcodeSet};
@@ -62,10 +62,7 @@ impl<V: Value, B: Bus<V>> Machine<V, B> {
         match op.mnemonic {
             Mnemonic::Jmp => self.jump(op.mode),
             Mnemonic::Jsr => self.call(),
-            Mnemonic::Rts => {
-                let word = self.pull_word();
-                self.go(word, 1, Purpose::Return)
-            }
+            Mnemonic::Rts => self.come_back(),
             Mnemonic::Rti => self.end_interrupt(),
             Mnemonic::Brk => self.interrupt(),
             _ => {

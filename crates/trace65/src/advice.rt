@@ -90,10 +90,13 @@ pub fn entries(
     follow(alloc, steps, &entries)
 }
 
-/// The places of the bytes that groups HALVES of the information file have.
+/// The places of the bytes that groups HALVES and NUMBER of the information file have.
 fn said_places(alloc: Global, tags: &[Tag]) -> Result<Marks, AllocError> {
     let mut marks = Marks::none(alloc)?;
     for tag in tags {
+        if let (TagKind::Number, Some(address)) = (tag.kind, tag.address) {
+            marks.set(address);
+        }
         if tag.kind == TagKind::Halves {
             for first in [tag.low, tag.high] {
                 if let Some(first) = first {

@@ -48,7 +48,7 @@ fn tags_in<A: Allocator>(alloc: A, tokens: Lexer<'_>) -> Result<Vec<Tag, A>, Inf
     }
 }
 
-/// Returns the groups of the lines of an information file that begin with `#:`, in order: ENTRY, INLINE, HALVES, AFTER and DIFFERENCE, in the
+/// Returns the groups of the lines of an information file that begin with `#:`, in order: ENTRY, INLINE, HALVES, AFTER, DIFFERENCE and NUMBER, in the
 /// grammar of the file itself. Such a line may hold part of a group. Refuses the first fault, at its line of the file; `Memory` is
 /// returned only if memory ran out.
 #[tactic(auto, unfolding(crate::specs::Tags::tags_of))]

@@ -19,6 +19,8 @@ pub enum TagKind {
     Difference,
     /// The operand of the instruction at the address is counted from another address.
     Base,
+    /// The byte at the address is a number, and halves of which it is one count for nothing.
+    Number,
 }
 
 /// What can be given in a group. `First` and `Last` are START and END, or FROM and TO.
@@ -69,6 +71,7 @@ pub(crate) fn tag_named(text: &[u8]) -> Option<TagKind>
         b"AFTER" => TagKind::After,
         b"DIFFERENCE" => TagKind::Difference,
         b"BASE" => TagKind::Base,
+        b"NUMBER" => TagKind::Number,
     )
 }
 
@@ -78,7 +81,7 @@ pub(crate) fn tag_attribute(kind: TagKind, text: &[u8]) -> Option<TagAttribute>
     ensures { result ≡ tag_attribute kind text.now }
 {
     match kind {
-        TagKind::Entry => tag_word!(text;
+        TagKind::Entry | TagKind::Number => tag_word!(text;
             b"ADDR" => TagAttribute::Address,
         ),
         TagKind::Inline => tag_word!(text;
@@ -170,7 +173,7 @@ impl Tag {
         ensures { result ≡ lacks self }
     {
         match self.kind {
-            TagKind::Entry | TagKind::Inline => self.address.is_none(),
+            TagKind::Entry | TagKind::Inline | TagKind::Number => self.address.is_none(),
             TagKind::Halves => {
                 !((self.low.is_some() && self.high.is_some())
                     || (self.address.is_some() && (self.low.is_some() || self.high.is_some())))

@@ -1,0 +1,40 @@
+//! The program's command line.
+
+use usage65::{CPU, Choice, HELP, INFO, OUTPUT, Program, START, VERSION};
+
+/// The options, in the order of the help text.
+static CHOICES: [Choice<'static>; 8] = [
+    INFO,
+    START,
+    CPU,
+    Choice {
+        id: "entry",
+        short: None,
+        long: Some("entry"),
+        value: Some("addr[,addr..]"),
+        purpose: "further entries of code",
+    },
+    Choice {
+        id: "by",
+        short: None,
+        long: Some("by"),
+        value: Some("n"),
+        purpose: "how much later the second image lies: 257 by default",
+    },
+    Choice {
+        purpose: "output file, which must not be there yet",
+        ..OUTPUT
+    },
+    HELP,
+    VERSION,
+];
+
+/// The program: its options, and an optional listing.
+pub fn this_program() -> Program<'static> {
+    Program {
+        name: "move65",
+        usage: "Usage: move65 [options] [listing]",
+        choices: &CHOICES,
+        input: "listing",
+    }
+}

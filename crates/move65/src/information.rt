@@ -1,0 +1,74 @@
+//! What the information file says, and the program's options.
+
+use crate::failure::{Failure, Refused};
+use info65::{InfoFaultKind, Options, Settings, Tag, read_info, read_tags, without_numbers};
+use isa65::Cpu;
+use std::alloc::Global;
+
+/// The most that an information file may have: 1 MiB.
+const LIMIT: usize = 1_048_576;
+
+/// What the program needs of an information file.
+#[derive(Drop)]
+pub struct Information {
+    pub start: Option<u16>,
+    pub cpu: Cpu,
+    pub tags: Vec<Tag>,
+}
+
+/// The groups of the lines `#: ..`, without the halves that count for nothing.
+fn tags(alloc: Global, bytes: &[u8]) -> Result<Vec<Tag>, Failure> {
+    if LIMIT < bytes.len() {
+        return Ok(Vec::new(alloc));
+    }
+    let tags = read_tags(alloc, bytes)?;
+    Ok(without_numbers(alloc, &tags)?)
+}
+
+/// The options of da65 with this start and CPU, and no others.
+pub fn options_with(start: Option<u16>, cpu: Option<Cpu>) -> Options {
+    let mut options: Options = Options::none();
+    options.start = start;
+    options.cpu = cpu;
+    options
+}
+
+/// What the file of these bytes says under the options. Refuses a file that da65 refuses.
+pub fn information_of(
+    alloc: Global,
+    options: &Options,
+    bytes: &[u8],
+) -> Result<Information, Failure> {
+    let info = read_info(alloc, options, bytes)?;
+    let settings: &Settings = info.settings();
+    Ok(Information {
+        start: settings.start,
+        cpu: settings.cpu,
+        tags: tags(alloc, bytes)?,
+    })
+}
+
+/// Reads the information file with the text behind it. Fails with the fault that it would be refused for.
+pub fn read_back(
+    alloc: Global,
+    options: &Options,
+    bytes: &[u8],
+    text: &[u8],
+) -> Result<(), Failure> {
+    let mut whole = Vec::from_slice(alloc, bytes)?;
+    whole.extend_from_slice(b"\n")?;
+    whole.extend_from_slice(text)?;
+    let refused = match read_info(alloc, options, &whole) {
+        Ok(_) if LIMIT < whole.len() => return Ok(()),
+        Ok(_) => match read_tags(alloc, &whole) {
+            Ok(_) => return Ok(()),
+            Err(fault) => fault,
+        },
+        Err(fault) => fault,
+    };
+    Err(if refused.kind == InfoFaultKind::Memory {
+        Failure::Memory
+    } else {
+        Failure::Own(Refused::Text(refused))
+    })
+}

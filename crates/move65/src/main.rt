@@ -1,0 +1,78 @@
+//! Says whether a listing moves: `move65 [options] [listing]`.
+//!
+//! In order: the options, then help or version, the information file, the listing, both images and their runs, and the output, which is
+//! created only now. The output is text of an information file: groups for the bytes that have not moved and must, and for those that have
+//! and must not, and comments. The status is 0 if nothing parts, or if the help text or the version was written; 1 if something does; and
+//! otherwise 2.
+#![tactic(auto)]
+
+mod command;
+mod failure;
+mod information;
+mod judge;
+mod lines;
+mod moving;
+mod pair;
+mod report;
+mod request;
+mod runs;
+mod scene;
+mod sightings;
+mod world;
+
+use command::this_program;
+use failure::Failure;
+use files65::{
+    Output, Placeholders, keep_apart, keep_inputs, read_information, read_listing, say, write_text,
+};
+use moving::text_of;
+use request::{Moving, Request, request_of};
+use std::process::ExitCode;
+use usage65::{RequestFault, words_of};
+
+/// What the program's words ask for.
+fn requested(rt: &HostRuntime) -> Result<Request, RequestFault> {
+    let words = words_of(rt)?;
+    request_of(rt.alloc(), &words)
+}
+
+/// Writes a text about the program on standard output. Nothing parts.
+fn tell(rt: &HostRuntime, text: &[u8]) -> Result<bool, Failure> {
+    write_text(&mut Output::standard(rt), text)?;
+    Ok(false)
+}
+
+/// Reads the listing, and writes what is found. Returns whether something parts. The output is created once the text is there.
+fn move_listing(rt: &HostRuntime, moving: &mut Moving) -> Result<bool, Failure> {
+    let names = &moving.names;
+    let inputs = [names.info.as_deref(), Some(names.listing.as_str())];
+    keep_inputs(rt, names.output.as_deref(), &inputs)?;
+    keep_apart(rt, &inputs)?;
+    let bytes = read_information(rt, names.info.as_deref())?;
+    let text = read_listing(rt, names.listing.as_str())?;
+    let moved = text_of(rt.alloc(), moving, &bytes, &text)?;
+    let mut output = Output::create_new(rt, moving.names.output.take())?;
+    write_text(&mut output, &moved.text)?;
+    Ok(moved.parts)
+}
+
+fn program(rt: &HostRuntime) -> Result<bool, Failure> {
+    // Messages to a closed standard error must not end up in the output file.
+    let _placeholders = Placeholders::take(rt)?;
+    match requested(rt)? {
+        Request::Help => tell(rt, &this_program().help_text(rt.alloc())?),
+        Request::Version => tell(rt, &this_program().version_text(rt.alloc())?),
+        Request::Move(mut moving) => move_listing(rt, &mut moving),
+    }
+}
+
+fn main(rt: HostRuntime) -> ExitCode {
+    match program(&rt) {
+        Ok(false) => ExitCode::SUCCESS,
+        Ok(true) => ExitCode::from(1),
+        Err(failure) => {
+            let _ = say(&rt, "move65", format!(in rt.alloc(); "{failure}"), &[]);
+            ExitCode::from(2)
+        }
+    }
+}

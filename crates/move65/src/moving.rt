@@ -1,0 +1,220 @@
+//! Assembles a listing here and later, runs both, and judges what is seen.
+
+use crate::failure::{Failure, Refused};
+use crate::information::{Information, information_of, options_with, read_back};
+use crate::judge::Findings;
+use crate::lines::Lines;
+use crate::report::Report;
+use crate::request::Moving;
+use crate::runs::{Both, run_all};
+use crate::scene::Scene;
+use crate::world::World;
+use info65::{Tag, TagKind};
+use map65::Marks;
+use run65::{Machine, Registers};
+use std::alloc::{AllocError, Global};
+use stmt65::{
+    AsmFaultKind, Assembly, Language, Layout, Source, Symbols, assemble_lines, assemble_source,
+    line_addresses,
+};
+
+/// How often what is found is moved, and both images run again.
+const ROUNDS: usize = 8;
+
+/// What is written, and whether something parts.
+#[derive(Drop)]
+pub struct Moved {
+    pub text: Vec<u8>,
+    pub parts: bool,
+}
+
+/// A text as people edit it, from a start on.
+fn repair<'t, 'l, 'n>(layout: &'l Layout<'n>, start: u16, text: &'t [u8]) -> Source<'t, 'l, 'n> {
+    Source {
+        language: Language::Repair,
+        layout,
+        start,
+        text,
+    }
+}
+
+/// The start from which the last byte of a text is at $FFFF.
+fn start_at_end(alloc: Global, layout: &Layout<'_>, text: &[u8]) -> Result<u16, Failure> {
+    let ends = line_addresses(alloc, &repair(layout, 0, text))?;
+    let len = ends.last().copied().unwrap_or(0);
+    if 0 < len && len <= 65_536 {
+        return Ok((65_536 - len) as u16);
+    }
+    Ok(0)
+}
+
+/// How much later the second image lies: so much, or so much less if it would end behind $FFFF.
+fn distance(start: u16, len: usize, by: u16) -> Result<u16, Failure> {
+    let end = usize::from(start).saturating_add(len);
+    if end.saturating_add(usize::from(by)) <= 65_536 {
+        return Ok(by);
+    }
+    if by <= start {
+        return Ok(0u16.wrapping_sub(by));
+    }
+    Err(Failure::Own(Refused::NoRoom))
+}
+
+/// What the listing of this name means.
+fn assembled<'t, 'b>(
+    alloc: &'b Global,
+    name: &str,
+    source: &Source<'t, '_, '_>,
+) -> Result<Assembly<'t, 'b, Global>, Failure> {
+    match assemble_lines(alloc, source) {
+        Ok(assembly) => Ok(assembly),
+        Err(fault) if fault.kind == AsmFaultKind::Memory => Err(Failure::Memory),
+        Err(fault) => Err(Failure::Own(Refused::Line(String::from_str(*alloc, name)?, fault))),
+    }
+}
+
+/// The bytes of the listing from another start.
+fn assembled_later(alloc: Global, source: &Source<'_, '_, '_>) -> Result<Vec<u8>, Failure> {
+    match assemble_source(alloc, source) {
+        Ok(bytes) => Ok(bytes),
+        Err(fault) if fault.kind == AsmFaultKind::Memory => Err(Failure::Memory),
+        Err(fault) => Err(Failure::Own(Refused::Later(source.start, fault))),
+    }
+}
+
+/// Both images of a text.
+fn scene_of(
+    alloc: Global,
+    source: &Source<'_, '_, '_>,
+    bytes: &[u8],
+    by: u16,
+) -> Result<Scene, Failure> {
+    let by = distance(source.start, bytes.len(), by)?;
+    let start = source.start.wrapping_add(by);
+    let later = assembled_later(alloc, &Source { start, ..*source })?;
+    if later.len() != bytes.len() {
+        return Err(Failure::Own(Refused::Length(start)));
+    }
+    Ok(Scene {
+        start: source.start,
+        here: Vec::from_slice(alloc, bytes)?,
+        later,
+        by,
+    })
+}
+
+/// Where code begins: the addresses that are given and those of groups ENTRY; without any the vectors, or the first address.
+fn entries_of(
+    alloc: Global,
+    given: &[u16],
+    tags: &[Tag],
+    scene: &Scene,
+) -> Result<Vec<u16>, AllocError> {
+    let mut found = Vec::from_slice(alloc, given)?;
+    for tag in tags {
+        if let (TagKind::Entry, Some(address)) = (tag.kind, tag.address) {
+            found.push(address)?;
+        }
+    }
+    if scene.has(0xFFFA) && scene.has(0xFFFF) {
+        for vector in [0xFFFCu16, 0xFFFA, 0xFFFE] {
+            if let (Some(low), Some(high)) = (scene.byte(vector), scene.byte(vector + 1)) {
+                found.push(u16::from_le_bytes([low, high]))?;
+            }
+        }
+    }
+    if found.is_empty() {
+        found.push(scene.start)?;
+    }
+    Ok(found)
+}
+
+/// The addresses of a set, in order.
+fn addresses_of(alloc: Global, marks: &Marks) -> Result<Vec<u16>, AllocError> {
+    let mut found = Vec::new(alloc);
+    for address in 0..=u16::MAX {
+        if marks.get(address) {
+            found.push(address)?;
+        }
+    }
+    Ok(found)
+}
+
+/// The addresses that have a name of their own.
+fn named(alloc: Global, names: &Symbols<'_, &Global>) -> Result<Marks, AllocError> {
+    let mut marks = Marks::none(alloc)?;
+    for definition in names.definitions() {
+        if let Some(address) = definition.address() {
+            marks.set(address);
+        }
+    }
+    Ok(marks)
+}
+
+/// Runs both images until nothing more is found.
+fn find(
+    machine: &mut Both,
+    found: &mut Findings,
+    starts: (&[u16], &[u16]),
+    numbers: &Marks,
+    tags: &[Tag],
+) -> Result<(), AllocError> {
+    for _ in 0..ROUNDS {
+        machine.bus.seen.clear();
+        run_all(machine, starts.0, starts.1);
+        if machine.bus.is_out_of_memory {
+            return Err(AllocError);
+        }
+        if !found.judge(&mut machine.bus.scene, numbers, tags, &machine.bus.seen)? {
+            break;
+        }
+    }
+    Ok(())
+}
+
+/// What is written of a listing, and of the information file of these bytes.
+pub fn text_of(
+    alloc: Global,
+    moving: &Moving,
+    bytes: &[u8],
+    text: &[u8],
+) -> Result<Moved, Failure> {
+    let options = options_with(moving.start, moving.cpu);
+    let Information { start, cpu, tags } = information_of(alloc, &options, bytes)?;
+    let layout = Layout::new(alloc, 0)?;
+    let start = match start {
+        Some(start) => start,
+        None => start_at_end(alloc, &layout, text)?,
+    };
+    let source = repair(&layout, start, text);
+    let assembly = assembled(&alloc, moving.names.listing.as_str(), &source)?;
+    let scene = scene_of(alloc, &source, &assembly.bytes, moving.by)?;
+    let lines = Lines::of(alloc, &scene, text, &assembly.ends)?;
+    let named = named(alloc, &assembly.names)?;
+    let entries = entries_of(alloc, &moving.entries, &tags, &scene)?;
+    let routines = addresses_of(alloc, &lines.routines)?;
+    let mut machine = Machine::new(cpu, Registers::at(start), World::new(alloc, scene)?);
+    let mut found = Findings::new(alloc)?;
+    find(
+        &mut machine,
+        &mut found,
+        (&entries, &routines),
+        &lines.numbers,
+        &tags,
+    )?;
+    let report = Report {
+        scene: &machine.bus.scene,
+        lines: &lines,
+        ran: &machine.bus.ran,
+        tags: &tags,
+        named: &named,
+        found: &found,
+    };
+    let mut written = Vec::new(alloc);
+    report.put(&mut written, &mut Marks::none(alloc)?)?;
+    read_back(alloc, &options, bytes, &written)?;
+    Ok(Moved {
+        text: written,
+        parts: !found.claims.is_empty() || !found.numbers.is_empty() || !found.loose.is_empty(),
+    })
+}

@@ -1,0 +1,80 @@
+//! What a command line asks for.
+
+use crate::command::this_program;
+use clap::ArgMatches;
+use isa65::Cpu;
+use std::alloc::Global;
+use usage65::{
+    Names, RequestFault, UsageFault, address_in, address_of, cpu_of, info_named, input_named,
+    is_set, names_apart, output_named, text_of,
+};
+
+/// What a command line asks for.
+#[derive(Drop)]
+pub enum Request {
+    Help,
+    Version,
+    Move(Moving),
+}
+
+/// A listing is to be run here and later.
+#[derive(Drop)]
+pub struct Moving {
+    pub names: Names,
+    /// The address of the first byte; without one the information file says where it is, or the last byte is at $FFFF.
+    pub start: Option<u16>,
+    pub cpu: Option<Cpu>,
+    /// Where code begins.
+    pub entries: Vec<u16>,
+    /// How much later the second image lies.
+    pub by: u16,
+}
+
+/// How much later the second image lies, if nothing else is asked for: each half of an address is another one then.
+const BY: u16 = 257;
+
+/// What the words ask for. The first word is the program's name.
+pub fn request_of(alloc: Global, words: &[String]) -> Result<Request, RequestFault> {
+    let matches = this_program().matches(alloc, words)?;
+    request_in(alloc, &matches)
+}
+
+/// The addresses of a text, with commas between them.
+fn addresses_of(alloc: Global, text: Option<&str>) -> Result<Vec<u16>, UsageFault> {
+    let mut found = Vec::new(alloc);
+    if let Some(text) = text {
+        let parts: Vec<&str> = text.split(',').collect(alloc)?;
+        for part in &parts {
+            found.push(address_in(part.as_bytes())?)?;
+        }
+    }
+    Ok(found)
+}
+
+/// What the matches ask for. Help comes first, then the version, both before any value is looked at.
+fn request_in(alloc: Global, matches: &ArgMatches) -> Result<Request, RequestFault> {
+    if is_set(matches, "help") {
+        return Ok(Request::Help);
+    }
+    if is_set(matches, "version") {
+        return Ok(Request::Version);
+    }
+    let start = address_of(matches, "start")?;
+    let cpu = cpu_of(matches, "cpu")?;
+    let entries = addresses_of(alloc, text_of(matches, "entry"))?;
+    let by = address_of(matches, "by")?.unwrap_or(BY);
+    if by == 0 {
+        return Err(RequestFault::Usage(UsageFault::OutOfRange));
+    }
+    let listing = input_named(text_of(matches, "listing"));
+    let info = info_named(text_of(matches, "info"));
+    let output = output_named(text_of(matches, "output"));
+    let names = names_apart(alloc, listing, info, output)?;
+    Ok(Request::Move(Moving {
+        names,
+        start,
+        cpu,
+        entries,
+        by,
+    }))
+}

@@ -1,0 +1,71 @@
+//! The image where it belongs, and the one that lies later.
+
+/// The bytes of a listing, where it belongs and somewhere else.
+#[derive(Drop)]
+pub struct Scene {
+    /// The first address.
+    pub start: u16,
+    /// The bytes there.
+    pub here: Vec<u8>,
+    /// The bytes if the image begins `by` addresses later. What is found to stay, and must not, is moved in them.
+    pub later: Vec<u8>,
+    /// How much later, modulo 65,536.
+    pub by: u16,
+}
+
+impl Scene {
+    /// The index of an address in the image, if it has that.
+    pub fn index(&self, address: u16) -> Option<usize> {
+        let index = usize::from(address).checked_sub(usize::from(self.start))?;
+        if index < self.here.len() {
+            Some(index)
+        } else {
+            None
+        }
+    }
+
+    /// Whether the image has the address.
+    pub fn has(&self, address: u16) -> bool {
+        self.index(address).is_some()
+    }
+
+    /// The address behind the last byte.
+    pub fn end(&self) -> usize {
+        usize::from(self.start).saturating_add(self.here.len())
+    }
+
+    /// Whether the address is one of the image, or of so many behind it.
+    pub fn has_near(&self, address: u16, behind: usize) -> bool {
+        let address = usize::from(address);
+        usize::from(self.start) <= address && address < self.end().saturating_add(behind)
+    }
+
+    /// Whether the address lies behind the image.
+    pub fn is_behind(&self, address: u16) -> bool {
+        self.start <= address && !self.has(address)
+    }
+
+    /// The byte at an address where the image belongs.
+    pub fn byte(&self, address: u16) -> Option<u8> {
+        self.here.get(self.index(address)?).copied()
+    }
+
+    /// The byte of this address in the image that lies later.
+    pub fn later_byte(&self, address: u16) -> Option<u8> {
+        self.later.get(self.index(address)?).copied()
+    }
+
+    /// Whether the byte at an address is another one in the image that lies later.
+    pub fn has_moved(&self, address: u16) -> bool {
+        self.byte(address) != self.later_byte(address)
+    }
+
+    /// Sets the byte of an address in the image that lies later.
+    pub fn set_later(&mut self, address: u16, value: u8) {
+        if let Some(index) = self.index(address)
+            && let Some(byte) = self.later.get_mut(index)
+        {
+            *byte = value;
+        }
+    }
+}

@@ -1,0 +1,238 @@
+//! What both runs are connected to: the image, unknown memory, and what is seen.
+
+use crate::pair::{Pair, Places};
+use crate::scene::Scene;
+use crate::sightings::{Kind, Sighting, Sightings};
+use map65::Marks;
+use run65::{Bus, Purpose, Word};
+use std::alloc::{AllocError, Global};
+
+/// The page of the stack ends before this address. Nothing is written below it by an address that nobody knows.
+const STACK_END: u16 = 0x0200;
+
+/// Both memories, and what is seen of them.
+#[derive(Drop)]
+pub struct World {
+    pub scene: Scene,
+    /// What each address holds, if it is known.
+    cells: Vec<Option<Pair>>,
+    /// What cells held before they were written, if that is to be undone.
+    undo: Vec<(u16, Option<Pair>)>,
+    /// Whether writes are to be undone.
+    is_trial: bool,
+    /// Whether memory ran out.
+    pub is_out_of_memory: bool,
+    /// The address of the instruction that runs.
+    pub at: u16,
+    /// How many instructions have run.
+    pub clock: u32,
+    /// What decides the unknown bytes.
+    pub seed: u32,
+    /// Where instructions have run.
+    pub ran: Marks,
+    pub seen: Sightings,
+}
+
+/// A byte that nobody knows, by what decides it.
+fn unknown_byte(of: u32, seed: u32) -> u8 {
+    if seed == 0 {
+        return 0;
+    }
+    let mixed = of
+        .wrapping_mul(0x9E37_79B1)
+        .wrapping_add(seed.wrapping_mul(0x85EB_CA6B));
+    let mixed = (mixed ^ (mixed / 0x8000)).wrapping_mul(0xC2B2_AE35);
+    (mixed / 0x10000 % 256) as u8
+}
+
+/// Half of an address of the code.
+fn half(here: u8, later: u8) -> Pair {
+    Pair {
+        here,
+        later,
+        is_known: true,
+        is_mixed: false,
+        places: Places::none(),
+    }
+}
+
+impl World {
+    /// The memories with these images, in which nothing else is known.
+    pub fn new(alloc: Global, scene: Scene) -> Result<World, AllocError> {
+        let mut cells = Vec::new(alloc);
+        for _ in 0..65_536 {
+            cells.push(None)?;
+        }
+        let mut world = World {
+            scene,
+            cells,
+            undo: Vec::new(alloc),
+            is_trial: false,
+            is_out_of_memory: false,
+            at: 0,
+            clock: 0,
+            seed: 0,
+            ran: Marks::none(alloc)?,
+            seen: Sightings::new(alloc)?,
+        };
+        world.reset(0);
+        Ok(world)
+    }
+
+    /// Nothing is known but the images, and these unknown bytes are elsewhere.
+    pub fn reset(&mut self, seed: u32) {
+        self.seed = seed;
+        self.is_trial = false;
+        self.undo.clear();
+        for address in 0..=u16::MAX {
+            let cell = match (self.scene.byte(address), self.scene.later_byte(address)) {
+                (Some(here), Some(later)) => Some(Pair {
+                    here,
+                    later,
+                    is_known: true,
+                    is_mixed: false,
+                    places: Places::one(address),
+                }),
+                _ => None,
+            };
+            self.set(address, cell);
+        }
+    }
+
+    /// What is written from now on is undone.
+    pub fn begin_trial(&mut self, seed: u32) {
+        self.seed = seed;
+        self.is_trial = true;
+    }
+
+    /// Undoes what was written since a trial began.
+    pub fn end_trial(&mut self) {
+        for _ in 0..self.undo.len() {
+            let Some((address, cell)) = self.undo.pop() else {
+                break;
+            };
+            self.set(address, cell);
+        }
+        self.is_trial = false;
+    }
+
+    fn set(&mut self, address: u16, cell: Option<Pair>) {
+        if let Some(place) = self.cells.get_mut(usize::from(address)) {
+            *place = cell;
+        }
+    }
+
+    /// What an address holds, if it is known.
+    fn cell(&self, address: u16) -> Option<Pair> {
+        self.cells.get(usize::from(address)).copied().flatten()
+    }
+
+    /// The byte at the address, where the image belongs.
+    pub fn opcode(&self, address: u16) -> Option<u8> {
+        Some(self.cell(address)?.here)
+    }
+
+    /// Another byte that nobody knows, at each call.
+    pub fn fresh(&mut self) -> Pair {
+        self.clock = self.clock.wrapping_add(1);
+        Pair::unknown(unknown_byte(self.clock.wrapping_add(0x0100_0000), self.seed))
+    }
+
+    fn see(&mut self, kind: Kind, here: u16, low: Pair, high: Pair) {
+        let sighting = Sighting {
+            kind,
+            at: self.at,
+            here,
+            low: low.places,
+            high: high.places,
+            is_mixed: low.is_mixed || high.is_mixed,
+            is_sure: !self.is_trial,
+        };
+        if self.seen.put(sighting).is_err() {
+            self.is_out_of_memory = true;
+        }
+    }
+}
+
+impl Bus<Pair> for World {
+    fn place(&mut self, word: Word<Pair>, index: Pair, purpose: Purpose) -> Option<u16> {
+        let Word { low, high } = word;
+        let base = u16::from_le_bytes([low.here, high.here]);
+        let here = base.wrapping_add(u16::from(index.here));
+        let later = u16::from_le_bytes([low.later, high.later]).wrapping_add(u16::from(
+            index.later,
+        ));
+        let is_inside = self.scene.has(here);
+        if !low.is_known && !high.is_known {
+            let is_stack = high.here == 1;
+            let is_low = here < STACK_END && purpose == Purpose::Write && !is_stack;
+            return if is_inside || is_low {
+                None
+            } else {
+                Some(here)
+            };
+        }
+        if is_inside || self.scene.has(base) {
+            if later != here.wrapping_add(self.scene.by) {
+                self.see(Kind::Stays(purpose), base, low, high);
+            }
+        } else if later != here
+            && !(self.scene.is_behind(here) && later == here.wrapping_add(self.scene.by))
+        {
+            let low = low.chosen(index, (false, false));
+            self.see(Kind::Moves(purpose), here, low, high);
+        }
+        Some(here)
+    }
+
+    fn zero_page(&mut self, low: Pair, purpose: Purpose) -> Option<u16> {
+        if !low.is_same() {
+            self.see(Kind::Moves(purpose), u16::from(low.here), low, low);
+        }
+        Some(u16::from(low.here))
+    }
+
+    fn read(&mut self, place: Option<u16>) -> Pair {
+        let Some(address) = place else {
+            return self.fresh();
+        };
+        match self.cell(address) {
+            Some(pair) => pair,
+            // What waits for a change goes on some time.
+            None => Pair::unknown(unknown_byte(
+                u32::from(address).wrapping_add(self.clock / 4096 * 0x10000),
+                self.seed,
+            )),
+        }
+    }
+
+    fn write(&mut self, place: Option<u16>, value: Pair) {
+        let Some(address) = place else {
+            return;
+        };
+        if self.is_trial {
+            let before = self.cell(address);
+            if self.undo.push((address, before)).is_err() {
+                self.is_out_of_memory = true;
+            }
+        }
+        self.set(address, Some(value));
+    }
+
+    fn word_of(&mut self, address: u16) -> Word<Pair> {
+        let later = address.wrapping_add(self.scene.by);
+        let [low, high] = address.to_le_bytes();
+        let [later_low, later_high] = later.to_le_bytes();
+        Word {
+            low: half(low, later_low),
+            high: half(high, later_high),
+        }
+    }
+
+    fn takes(&mut self, flag: Pair, wanted: bool) -> bool {
+        if !flag.is_same() {
+            self.see(Kind::Branch, self.at, flag, flag);
+        }
+        (flag.here != 0) == wanted
+    }
+}
