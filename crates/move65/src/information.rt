@@ -3,6 +3,7 @@
 use crate::failure::{Failure, Refused};
 use info65::{InfoFaultKind, Options, Settings, Tag, read_info, read_tags, without_numbers};
 use isa65::Cpu;
+use map65::Marks;
 use std::alloc::Global;
 
 /// The most that an information file may have: 1 MiB.
@@ -14,6 +15,8 @@ pub struct Information {
     pub start: Option<u16>,
     pub cpu: Cpu,
     pub tags: Vec<Tag>,
+    /// What ranges have.
+    pub ranges: Marks,
 }
 
 /// The groups of the lines `#: ..`, without the halves that count for nothing.
@@ -41,10 +44,18 @@ pub fn information_of(
 ) -> Result<Information, Failure> {
     let info = read_info(alloc, options, bytes)?;
     let settings: &Settings = info.settings();
+    let mut ranges = Marks::none(alloc)?;
+    for range in info.ranges() {
+        ranges.set_span(
+            usize::from(range.first),
+            usize::from(range.last).saturating_add(1),
+        );
+    }
     Ok(Information {
         start: settings.start,
         cpu: settings.cpu,
         tags: tags(alloc, bytes)?,
+        ranges,
     })
 }
 

@@ -13,6 +13,7 @@ mod judge;
 mod lines;
 mod moving;
 mod pair;
+mod rejoin;
 mod report;
 mod request;
 mod runs;

@@ -2,7 +2,7 @@
 
 use crate::failure::{Failure, Refused};
 use crate::information::{Information, information_of, options_with, read_back};
-use crate::judge::Findings;
+use crate::judge::{Findings, Ground};
 use crate::lines::Lines;
 use crate::report::Report;
 use crate::request::Moving;
@@ -82,12 +82,24 @@ fn assembled_later(alloc: Global, source: &Source<'_, '_, '_>) -> Result<Vec<u8>
     }
 }
 
+/// The addresses of groups AFTER.
+fn after(alloc: Global, tags: &[Tag]) -> Result<Marks, AllocError> {
+    let mut marks = Marks::none(alloc)?;
+    for tag in tags {
+        if let (TagKind::After, Some(first), Some(last)) = (tag.kind, tag.first, tag.last) {
+            marks.set_span(usize::from(first), usize::from(last).saturating_add(1));
+        }
+    }
+    Ok(marks)
+}
+
 /// Both images of a text.
 fn scene_of(
     alloc: Global,
     source: &Source<'_, '_, '_>,
     bytes: &[u8],
     by: u16,
+    tags: &[Tag],
 ) -> Result<Scene, Failure> {
     let by = distance(source.start, bytes.len(), by)?;
     let start = source.start.wrapping_add(by);
@@ -100,6 +112,7 @@ fn scene_of(
         here: Vec::from_slice(alloc, bytes)?,
         later,
         by,
+        after: after(alloc, tags)?,
     })
 }
 
@@ -156,16 +169,29 @@ fn find(
     machine: &mut Both,
     found: &mut Findings,
     starts: (&[u16], &[u16]),
-    numbers: &Marks,
+    lines: &Lines,
+    ranges: &Marks,
     tags: &[Tag],
 ) -> Result<(), AllocError> {
     for _ in 0..ROUNDS {
         machine.bus.seen.clear();
-        run_all(machine, starts.0, starts.1);
+        run_all(machine, starts.0, starts.1)?;
         if machine.bus.is_out_of_memory {
             return Err(AllocError);
         }
-        if !found.judge(&mut machine.bus.scene, numbers, tags, &machine.bus.seen)? {
+        let World {
+            scene,
+            reached,
+            seen,
+            ..
+        } = &mut machine.bus;
+        let ground = Ground {
+            numbers: &lines.numbers,
+            instructions: &lines.instructions,
+            ranges,
+            reached,
+        };
+        if !found.judge(scene, &ground, tags, seen)? {
             break;
         }
     }
@@ -180,7 +206,12 @@ pub fn text_of(
     text: &[u8],
 ) -> Result<Moved, Failure> {
     let options = options_with(moving.start, moving.cpu);
-    let Information { start, cpu, tags } = information_of(alloc, &options, bytes)?;
+    let Information {
+        start,
+        cpu,
+        tags,
+        ranges,
+    } = information_of(alloc, &options, bytes)?;
     let layout = Layout::new(alloc, 0)?;
     let start = match start {
         Some(start) => start,
@@ -188,7 +219,7 @@ pub fn text_of(
     };
     let source = repair(&layout, start, text);
     let assembly = assembled(&alloc, moving.names.listing.as_str(), &source)?;
-    let scene = scene_of(alloc, &source, &assembly.bytes, moving.by)?;
+    let scene = scene_of(alloc, &source, &assembly.bytes, moving.by, &tags)?;
     let lines = Lines::of(alloc, &scene, text, &assembly.ends)?;
     let named = named(alloc, &assembly.names)?;
     let entries = entries_of(alloc, &moving.entries, &tags, &scene)?;
@@ -199,7 +230,8 @@ pub fn text_of(
         &mut machine,
         &mut found,
         (&entries, &routines),
-        &lines.numbers,
+        &lines,
+        &ranges,
         &tags,
     )?;
     let report = Report {

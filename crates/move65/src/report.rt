@@ -79,10 +79,26 @@ fn put_halves(out: &mut Vec<u8>, claim: &Claim) -> Result<(), AllocError> {
     put_use(out, &claim.seen)
 }
 
+/// Appends the range of two neighbours that are an address, or one less if code goes back there.
+fn put_table(out: &mut Vec<u8>, claim: &Claim) -> Result<(), AllocError> {
+    let low = usize::from(claim.low.unwrap_or(0));
+    put_address(out, b"RANGE { START $", low)?;
+    put_address(out, b"; END $", low.saturating_add(1))?;
+    out.extend_from_slice(match claim.seen.kind {
+        Kind::Stays(Purpose::Return) => b"; TYPE RtsTable; };",
+        _ => b"; TYPE AddrTable; };",
+    })?;
+    put_use(out, &claim.seen)
+}
+
 impl Report<'_> {
     /// Appends the groups of all addresses that stay, with the labels that they need.
     fn put_claims(&self, out: &mut Vec<u8>, labels: &mut Marks) -> Result<(), AllocError> {
         for claim in &self.found.claims {
+            if claim.is_table {
+                put_table(out, claim)?;
+                continue;
+            }
             let address = claim.address;
             if !self.named.get(address) && !labels.get(address) {
                 labels.set(address);

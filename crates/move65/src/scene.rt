@@ -1,5 +1,7 @@
 //! The image where it belongs, and the one that lies later.
 
+use map65::Marks;
+
 /// The bytes of a listing, where it belongs and somewhere else.
 #[derive(Drop)]
 pub struct Scene {
@@ -11,6 +13,8 @@ pub struct Scene {
     pub later: Vec<u8>,
     /// How much later, modulo 65,536.
     pub by: u16,
+    /// The addresses of variables that move with the end of the image.
+    pub after: Marks,
 }
 
 impl Scene {
@@ -43,6 +47,11 @@ impl Scene {
     /// Whether the address lies behind the image.
     pub fn is_behind(&self, address: u16) -> bool {
         self.start <= address && !self.has(address)
+    }
+
+    /// Whether the address is to lie later in the other run: the image has it, or variables do that move with its end.
+    pub fn moves(&self, address: u16) -> bool {
+        self.has(address) || self.after.get(address)
     }
 
     /// The byte at an address where the image belongs.

@@ -18,8 +18,15 @@ pub struct World {
     cells: Vec<Option<Pair>>,
     /// What cells held before they were written, if that is to be undone.
     undo: Vec<(u16, Option<Pair>)>,
-    /// Whether writes are to be undone.
+    /// Whether the run began at a routine that nobody called.
     is_trial: bool,
+    /// Whether writes are to be undone.
+    records: bool,
+    /// Whether nothing is to be seen, while the ways of a branch are tried.
+    is_silent: bool,
+    /// Whether branches go as in the run that lies later.
+    pub follows_later: bool,
+    pub alloc: Global,
     /// Whether memory ran out.
     pub is_out_of_memory: bool,
     /// The address of the instruction that runs.
@@ -30,6 +37,8 @@ pub struct World {
     pub seed: u32,
     /// Where instructions have run.
     pub ran: Marks,
+    /// Where some have run that began at an entry.
+    pub reached: Marks,
     pub seen: Sightings,
 }
 
@@ -68,11 +77,16 @@ impl World {
             cells,
             undo: Vec::new(alloc),
             is_trial: false,
+            records: false,
+            is_silent: false,
+            follows_later: false,
+            alloc,
             is_out_of_memory: false,
             at: 0,
             clock: 0,
             seed: 0,
             ran: Marks::none(alloc)?,
+            reached: Marks::none(alloc)?,
             seen: Sightings::new(alloc)?,
         };
         world.reset(0);
@@ -83,6 +97,7 @@ impl World {
     pub fn reset(&mut self, seed: u32) {
         self.seed = seed;
         self.is_trial = false;
+        self.records = false;
         self.undo.clear();
         for address in 0..=u16::MAX {
             let cell = match (self.scene.byte(address), self.scene.later_byte(address)) {
@@ -103,6 +118,7 @@ impl World {
     pub fn begin_trial(&mut self, seed: u32) {
         self.seed = seed;
         self.is_trial = true;
+        self.records = true;
     }
 
     /// Undoes what was written since a trial began.
@@ -114,6 +130,85 @@ impl World {
             self.set(address, cell);
         }
         self.is_trial = false;
+        self.records = false;
+    }
+
+    /// Begins to try the ways of a branch. Returns whether writes were to be undone before.
+    pub fn begin_ways(&mut self) -> bool {
+        let was = self.records;
+        self.records = true;
+        self.is_silent = true;
+        was
+    }
+
+    /// Ends to try the ways of a branch. Writes are to be undone as before.
+    pub fn end_ways(&mut self, records: bool) {
+        self.is_silent = false;
+        self.records = records;
+        if !records {
+            self.undo.clear();
+        }
+    }
+
+    /// How many writes are to be undone.
+    pub fn mark(&self) -> usize {
+        self.undo.len()
+    }
+
+    /// Undoes all writes but so many.
+    pub fn undo_to(&mut self, mark: usize) {
+        for _ in mark..self.undo.len() {
+            let Some((address, cell)) = self.undo.pop() else {
+                return;
+            };
+            self.set(address, cell);
+        }
+    }
+
+    /// What was written since there were so many writes, and what is there now.
+    pub fn written_since(&self, mark: usize) -> Result<Vec<(u16, Option<Pair>)>, AllocError> {
+        let mut found = Vec::new(self.alloc);
+        for &(address, _) in self.undo.get(mark..).unwrap_or(&[]) {
+            found.push((address, self.cell(address)))?;
+        }
+        Ok(found)
+    }
+
+    /// Sets each cell that was written in one of two ways to what both have, each in its run. Those of the first way are given, and the second
+    /// one has written since there were so many writes.
+    pub fn merge(&mut self, mark: usize, first: &[(u16, Option<Pair>)]) {
+        for index in mark..self.undo.len() {
+            let Some(&(address, before)) = self.undo.get(index) else {
+                return;
+            };
+            let is_first_write = !self
+                .undo
+                .get(mark..index)
+                .unwrap_or(&[])
+                .iter()
+                .any(|write| write.0 == address);
+            if is_first_write && !first.iter().any(|write| write.0 == address) {
+                self.join(address, before);
+            }
+        }
+        for index in 0..first.len() {
+            if let Some(&(address, here)) = first.get(index)
+                && !first
+                    .get(..index)
+                    .unwrap_or(&[])
+                    .iter()
+                    .any(|write| write.0 == address)
+            {
+                self.join(address, here);
+            }
+        }
+    }
+
+    /// Sets a cell to what one way has left there, where the image belongs, and what is there now, in the other run.
+    fn join(&mut self, address: u16, here: Option<Pair>) {
+        let later = self.read(Some(address));
+        let here = here.unwrap_or(later);
+        self.write(Some(address), here.chosen(later, (false, true)));
     }
 
     fn set(&mut self, address: u16, cell: Option<Pair>) {
@@ -138,7 +233,20 @@ impl World {
         Pair::unknown(unknown_byte(self.clock.wrapping_add(0x0100_0000), self.seed))
     }
 
+    /// Takes down that an instruction runs at an address.
+    pub fn begin(&mut self, address: u16) {
+        self.at = address;
+        self.clock = self.clock.wrapping_add(1);
+        self.ran.set(address);
+        if !self.is_trial {
+            self.reached.set(address);
+        }
+    }
+
     fn see(&mut self, kind: Kind, here: u16, low: Pair, high: Pair) {
+        if self.is_silent {
+            return;
+        }
         let sighting = Sighting {
             kind,
             at: self.at,
@@ -172,7 +280,7 @@ impl Bus<Pair> for World {
                 Some(here)
             };
         }
-        if is_inside || self.scene.has(base) {
+        if self.scene.moves(here) || self.scene.moves(base) {
             if later != here.wrapping_add(self.scene.by) {
                 self.see(Kind::Stays(purpose), base, low, high);
             }
@@ -210,7 +318,7 @@ impl Bus<Pair> for World {
         let Some(address) = place else {
             return;
         };
-        if self.is_trial {
+        if self.records {
             let before = self.cell(address);
             if self.undo.push((address, before)).is_err() {
                 self.is_out_of_memory = true;
@@ -233,6 +341,11 @@ impl Bus<Pair> for World {
         if !flag.is_same() {
             self.see(Kind::Branch, self.at, flag, flag);
         }
-        (flag.here != 0) == wanted
+        let value = if self.follows_later {
+            flag.later
+        } else {
+            flag.here
+        };
+        (value != 0) == wanted
     }
 }
