@@ -22,6 +22,8 @@ pub struct World {
     is_trial: bool,
     /// Whether writes are to be undone.
     records: bool,
+    /// Whether something that nobody knows came into the last address.
+    is_guess: bool,
     /// Whether nothing is to be seen, while the ways of a branch are tried.
     is_silent: bool,
     /// Whether branches go as in the run that lies later.
@@ -78,6 +80,7 @@ impl World {
             undo: Vec::new(alloc),
             is_trial: false,
             records: false,
+            is_guess: false,
             is_silent: false,
             follows_later: false,
             alloc,
@@ -271,6 +274,7 @@ impl Bus<Pair> for World {
             index.later,
         ));
         let is_inside = self.scene.has(here);
+        self.is_guess = low.is_mixed || high.is_mixed || index.is_mixed;
         if !low.is_known && !high.is_known {
             let is_stack = high.here == 1;
             let is_low = here < STACK_END && purpose == Purpose::Write && !is_stack;
@@ -294,6 +298,7 @@ impl Bus<Pair> for World {
     }
 
     fn zero_page(&mut self, low: Pair, purpose: Purpose) -> Option<u16> {
+        self.is_guess = low.is_mixed;
         if !low.is_same() {
             self.see(Kind::Moves(purpose), u16::from(low.here), low, low);
         }
@@ -304,8 +309,13 @@ impl Bus<Pair> for World {
         let Some(address) = place else {
             return self.fresh();
         };
+        let is_guess = self.is_guess;
+        self.is_guess = false;
         match self.cell(address) {
-            Some(pair) => pair,
+            Some(pair) => Pair {
+                is_mixed: pair.is_mixed || is_guess,
+                ..pair
+            },
             // What waits for a change goes on some time.
             None => Pair::unknown(unknown_byte(
                 u32::from(address).wrapping_add(self.clock / 4096 * 0x10000),
@@ -315,6 +325,7 @@ impl Bus<Pair> for World {
     }
 
     fn write(&mut self, place: Option<u16>, value: Pair) {
+        self.is_guess = false;
         let Some(address) = place else {
             return;
         };
