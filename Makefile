@@ -1,6 +1,6 @@
-# make               proves the programs, builds them into bin/ (da65, as65, trace65, name65), and lists an example. It proves three crates
-#                    at a time if there are two processors and 12 GB of memory, or as many as -j says. It prints its progress: on a
-#                    terminal in one line, otherwise each minute (or each EVERY seconds).
+# make               proves the programs, builds them into bin/ (da65, as65, trace65, name65, move65), and lists an example. It proves
+#                    three crates at a time if there are two processors and 12 GB of memory, or as many as -j says. It prints its
+#                    progress: on a terminal in one line, otherwise each minute (or each EVERY seconds).
 # make try           lists the example before any proof
 # make test          the merge gate: every proof from nothing, the edits that must fail, the tests and the stored runs; then the scripts on
 #                    the programs that this built, and listings through ca65. Its last line is the result of `rt ci`.
@@ -31,7 +31,7 @@ ifeq ($(shell [ "$$(nproc)" -gt 1 ] && awk '/^MemTotal/ { exit $$2 < 12000000 }'
 MAKEFLAGS += -j3
 endif
 
-all: kit bin/da65 bin/as65 bin/trace65 bin/name65
+all: kit bin/da65 bin/as65 bin/trace65 bin/name65 bin/move65
 	bin/da65 examples/three.bin
 
 # The kits of the prover that this version was proved with.
@@ -43,7 +43,7 @@ kit:
 bin/da65: bin/made/da65_cli
 	@cp crates/da65_cli/out/da65_cli $@
 
-bin/as65 bin/trace65 bin/name65: bin/%: bin/made/%
+bin/as65 bin/trace65 bin/name65 bin/move65: bin/%: bin/made/%
 	@cp crates/$*/out/$* $@
 
 # Prints the progress of the crates that are being proved, from bin/made/CRATE.log. The first of them prints it for all, until it is
@@ -72,7 +72,7 @@ export PROGRESS
 # long that took, and bin/made/CRATE has what the prover said. rt locks the crates that it reads, so a crate is proved in a folder of its
 # own, with links to its sources and to the libraries below.
 crates := $(shell sed -nE 's/^([a-z0-9_]+):.*/\1/p' crates.txt)
-programs := da65_cli as65 trace65 name65
+programs := da65_cli as65 trace65 name65 move65
 direct = $(filter $(crates),$(shell sed -nE 's/^$(1)://p' crates.txt))
 below = $(sort $(foreach name,$(call direct,$(1)),$(name) $(call below,$(name))))
 clear_line = if [ -t 1 ]; then printf '\r\033[K'; fi
@@ -103,11 +103,13 @@ test:
 	@cp crates/as65/out/as65 bin/as65
 	@cp crates/trace65/out/trace65 bin/trace65
 	@cp crates/name65/out/name65 bin/name65
+	@cp crates/move65/out/move65 bin/move65
 	tests/files.sh bin/da65 bin/as65 bin/trace65 bin/name65
 	tests/program.sh bin/da65
 	tests/as65.sh bin/as65 bin/da65
 	tests/trace65.sh bin/trace65 bin/da65 bin/as65 bin/name65
 	tests/name65.sh bin/name65 bin/da65 bin/as65 bin/trace65
+	tests/move65.sh bin/move65 bin/da65 bin/as65 bin/trace65 bin/name65
 	tests/run65.py crates/step65/out/step65
 	tests/corpus.py bin/trace65 bin/da65 bin/as65 bin/name65
 	tests/growth.sh bin/da65
@@ -133,8 +135,8 @@ speed: bin/da65
 
 share := $(DESTDIR)$(PREFIX)/share
 
-install: bin/da65 bin/as65 bin/trace65 bin/name65
-	@for program in da65 as65 trace65 name65; do \
+install: bin/da65 bin/as65 bin/trace65 bin/name65 bin/move65
+	@for program in da65 as65 trace65 name65 move65; do \
 	    name='$(PROGRAM_PREFIX)'$$program; \
 	    install -D -m 755 bin/$$program "$(DESTDIR)$(PREFIX)/bin/$$name"; \
 	    install -D -m 644 docs/$$program.1 "$(share)/man/man1/$$name.1"; \
@@ -147,7 +149,8 @@ install: bin/da65 bin/as65 bin/trace65 bin/name65
 	@install -D -m 644 -t '$(share)/$(PROGRAM_PREFIX)da65/names' names/*.inc
 
 uninstall:
-	@for name in '$(PROGRAM_PREFIX)da65' '$(PROGRAM_PREFIX)as65' '$(PROGRAM_PREFIX)trace65' '$(PROGRAM_PREFIX)name65'; do \
+	@for name in '$(PROGRAM_PREFIX)da65' '$(PROGRAM_PREFIX)as65' '$(PROGRAM_PREFIX)trace65' '$(PROGRAM_PREFIX)name65' \
+	    '$(PROGRAM_PREFIX)move65'; do \
 	    rm -f "$(DESTDIR)$(PREFIX)/bin/$$name" "$(share)/man/man1/$$name.1" \
 	        "$(share)/bash-completion/completions/$$name" "$(share)/zsh/site-functions/_$$name"; \
 	done

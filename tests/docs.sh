@@ -57,12 +57,12 @@ opens() {
     page=$1
     folder=$work/$(basename "$1")
     mkdir -p "$folder/bin/made" "$folder/docs" "$folder/crates"
-    touch "$folder"/bin/made/{da65_cli,as65,trace65,name65}
+    touch "$folder"/bin/made/{da65_cli,as65,trace65,name65,move65}
     cp -r "$root/examples" "$root/names" "$root/completions" "$root/Makefile" "$folder"
     cp "$root"/docs/*.[15] "$folder/docs"
     : >"$folder/crates.txt"
-    cp "$programs"/{da65,as65,trace65,name65} "$folder/bin"
-    ln -sf "$folder"/bin/{da65,as65,trace65,name65} "$work/path"
+    cp "$programs"/{da65,as65,trace65,name65,move65} "$folder/bin"
+    ln -sf "$folder"/bin/{da65,as65,trace65,name65,move65} "$work/path"
     cd "$folder" || exit 1
     : >printed
 }
@@ -205,15 +205,15 @@ fi
 # A checkout after `make`, in which nothing has to be built.
 mkdir -p "$work/installing/bin/made" "$work/installing/crates"
 cd "$work/installing" || exit 1
-touch bin/made/{da65_cli,as65,trace65,name65}
+touch bin/made/{da65_cli,as65,trace65,name65,move65}
 cp -r "$root/Makefile" "$root/completions" "$root/docs" "$root/names" .
 : >crates.txt
-cp "$programs"/{da65,as65,trace65,name65} bin
+cp "$programs"/{da65,as65,trace65,name65,move65} bin
 
 # installed PREFIX: the files of the programs whose names begin with it.
 installed() {
     local name
-    for name in "$1da65" "$1as65" "$1trace65" "$1name65"; do
+    for name in "$1da65" "$1as65" "$1trace65" "$1name65" "$1move65"; do
         printf '%s\n' "bin/$name" "share/man/man1/$name.1" "share/bash-completion/completions/$name" "share/zsh/site-functions/_$name"
     done
     echo "share/man/man5/$1da65.info.5"
@@ -245,7 +245,7 @@ for prefix in '' proved-; do
     make -s install DESTDIR="$made" PREFIX=/usr PROGRAM_PREFIX="$prefix" || fails installing "make install PROGRAM_PREFIX=$prefix"
     diff <(installed "$prefix" | sort) <(cd "$made/usr" && find . -type f | sed 's,^\./,,' | sort) ||
         fails installing "other files with PROGRAM_PREFIX=$prefix"
-    for program in da65 as65 trace65 name65; do
+    for program in da65 as65 trace65 name65 move65; do
         name=$prefix$program
         cmp -s "bin/$program" "$made/usr/bin/$name" || fails installing "$name is another program"
         listed=$(command -v zsh >/dev/null && zsh_completes "$made/usr/share/zsh/site-functions" "$name -" '-o ')
@@ -262,7 +262,8 @@ for prefix in '' proved-; do
     [ -z "$(find "$made" -type f -o -name names)" ] || fails installing "left after make uninstall: $(find "$made" -type f -o -name names)"
 done
 [ "$(options da65 | wc -l)" = 17 ] && [ "$(options as65 | wc -l)" = 11 ] && [ "$(options trace65 | wc -l)" = 13 ] &&
-    [ "$(options name65 | wc -l)" = 10 ] || fails installing 'the help texts have other options than these lists'
+    [ "$(options name65 | wc -l)" = 10 ] && [ "$(options move65 | wc -l)" = 12 ] ||
+    fails installing 'the help texts have other options than these lists'
 
 grep -nE '\.md\b|docs/|crates/|examples/' docs/*.[15] | grep -v ':1:' && fails installing 'a man page refers to what is not installed'
 if command -v mandoc >/dev/null; then

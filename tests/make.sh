@@ -63,9 +63,9 @@ makes() {
     ls bin/made/*.room >/dev/null 2>&1 && fails "$name" 'a room is left'
 }
 
-all='as65 da65 da65_cli files65 info65 isa65 map65 name65 reach65 stmt65 text65 trace65 usage65'
+all='as65 da65 da65_cli files65 info65 isa65 map65 move65 name65 reach65 run65 stmt65 text65 trace65 usage65'
 makes 'the first time' 0 da65_cli "$all" -j3
-for name in da65 as65 trace65 name65; do
+for name in da65 as65 trace65 name65 move65; do
     [ -x "bin/$name" ] || fails 'the first time' "no bin/$name"
 done
 makes 'nothing changed' 0 da65_cli '' -j3
@@ -74,13 +74,14 @@ KIT=rattle-kit-1 makes 'another kit' 0 da65_cli '' -j3
 grep -qx 'proved with rattle-kit-13f, not yet with rattle-kit-1' ../printed || fails 'another kit' "$(cat ../printed)"
 makes 'before any proof' 0 'try --data three.bin=../../examples/three.bin -- three.bin' da65_cli try
 echo '// two' >crates/map65/src/lib.rt
-makes 'map65 changed' 0 da65_cli 'as65 da65 da65_cli files65 map65 name65 reach65 trace65' -j3
+makes 'map65 changed' 0 da65_cli 'as65 da65 da65_cli files65 map65 move65 name65 reach65 trace65' -j3
 holds 'what was kept' crates/map65/out/incremental/kept '// one\n// two\n'
 echo '// three' >crates/text65/src/lib.rt
 REFUSED=text65 makes 'text65 is not proved' 2 'text65: not proved' text65 -j3
 holds 'what was kept of text65' crates/text65/out/incremental/kept '// one\n// three\n'
 echo '// four' | tee crates/{info65,stmt65}/src/lib.rt >/dev/null
-EVERY=1 SLOW=3 makes 'how far it is' 0 da65_cli "${all/ isa65/}" -j3
+above=$(sed 's/ isa65//; s/ run65//' <<<"$all")
+EVERY=1 SLOW=3 makes 'how far it is' 0 da65_cli "$above" -j3
 grep -qx 'info65 7 of 9, stmt65 10 of 66 functions' ../printed || fails 'how far it is' "printed: $(cat ../printed)"
 grep -q '^so far: 10 of 66' bin/made/stmt65 || fails 'how far it is' 'the words of the prover are not kept'
 echo '// five' | tee crates/{info65,stmt65}/src/lib.rt >/dev/null
@@ -92,5 +93,5 @@ else
     echo 'make: script is not installed, so nothing was run on a terminal'
 fi
 echo '// six' >crates/text65/src/lib.rt
-WAITS=0 makes 'one at a time' 0 da65_cli "$(echo "$all" | sed 's/ isa65//')" -j1
+WAITS=0 makes 'one at a time' 0 da65_cli "$above" -j1
 exit "$failed"

@@ -230,7 +230,8 @@ class State:
         cell = lambda k: 0x100 + (self.s + k & 255)
         self.peeks += [cell(-k) for k in range(PUSHES.get(self.mnemonic, 0))]
         if self.mnemonic in PULLS:
-            data = {'Rts': self.word(self.to - 1), 'Rti': [rng.randrange(256)] + self.word(self.to)}.get(self.mnemonic, [rng.randrange(256)])
+            byte = [rng.randrange(256)]
+            data = {'Rts': self.word(self.to - 1), 'Rti': byte + self.word(self.to)}.get(self.mnemonic, byte)
             for k, byte in enumerate(data):
                 self.poke(cell(k + 1), [byte])
         if self.mnemonic == 'Brk':

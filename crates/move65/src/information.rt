@@ -1,7 +1,12 @@
 //! What the information file says, and the program's options.
 
+ghost use Rattle.std.specs.Prelude.{◌≡◌, ◌++◌, [], ◌∷◌, IfOk, Ok};
+ghost use Rattle.info65.specs.Words.{information};
+
 use crate::failure::{Failure, Refused};
-use info65::{InfoFaultKind, Options, Settings, Tag, read_info, read_tags, without_numbers};
+use info65::{
+    Info, InfoFault, InfoFaultKind, Options, Settings, Tag, read_info, read_tags, without_numbers,
+};
 use isa65::Cpu;
 use map65::Marks;
 use std::alloc::Global;
@@ -59,27 +64,43 @@ pub fn information_of(
     })
 }
 
+/// The failure for a fault of the file with what is found.
+fn failure_of(fault: InfoFault) -> Failure {
+    if fault.kind == InfoFaultKind::Memory {
+        Failure::Memory
+    } else {
+        Failure::Own(Refused::Text(fault))
+    }
+}
+
+/// What the file of these bytes says under the options, with groups in its lines `#: ..` that can be read.
+fn accepted(alloc: Global, options: &Options, bytes: &[u8]) -> Result<Info, Failure>
+    ensures { IfOk result (λ info. information options.now bytes.now ≡ Ok info) }
+{
+    let info = match read_info(alloc, options, bytes) {
+        Ok(info) => info,
+        Err(fault) => return Err(failure_of(fault)),
+    };
+    if bytes.len() <= LIMIT
+        && let Err(fault) = read_tags(alloc, bytes)
+    {
+        return Err(failure_of(fault));
+    }
+    Ok(info)
+}
+
 /// Reads the information file with the text behind it. Fails with the fault that it would be refused for.
 pub fn read_back(
     alloc: Global,
     options: &Options,
     bytes: &[u8],
     text: &[u8],
-) -> Result<(), Failure> {
+) -> Result<Info, Failure>
+    ensures { IfOk result (λ info.
+        information options.now ((bytes.now ++ (10 ∷ [])) ++ text.now) ≡ Ok info) }
+{
     let mut whole = Vec::from_slice(alloc, bytes)?;
     whole.extend_from_slice(b"\n")?;
     whole.extend_from_slice(text)?;
-    let refused = match read_info(alloc, options, &whole) {
-        Ok(_) if LIMIT < whole.len() => return Ok(()),
-        Ok(_) => match read_tags(alloc, &whole) {
-            Ok(_) => return Ok(()),
-            Err(fault) => fault,
-        },
-        Err(fault) => fault,
-    };
-    Err(if refused.kind == InfoFaultKind::Memory {
-        Failure::Memory
-    } else {
-        Failure::Own(Refused::Text(refused))
-    })
+    accepted(alloc, options, &whole)
 }

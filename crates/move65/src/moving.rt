@@ -6,7 +6,7 @@ use crate::judge::{Findings, Ground};
 use crate::lines::Lines;
 use crate::report::Report;
 use crate::request::Moving;
-use crate::runs::{Both, run_all};
+use crate::runs::{Both, Starts, run_all};
 use crate::scene::Scene;
 use crate::world::World;
 use info65::{Tag, TagKind};
@@ -168,30 +168,22 @@ fn named(alloc: Global, names: &Symbols<'_, &Global>) -> Result<Marks, AllocErro
 fn find(
     machine: &mut Both,
     found: &mut Findings,
-    starts: (&[u16], &[u16]),
-    lines: &Lines,
-    ranges: &Marks,
-    tags: &[Tag],
+    starts: &Starts,
+    ground: &Ground<'_>,
 ) -> Result<(), AllocError> {
     for _ in 0..ROUNDS {
         machine.bus.seen.clear();
-        run_all(machine, starts.0, starts.1)?;
+        run_all(machine, starts)?;
         if machine.bus.is_out_of_memory {
             return Err(AllocError);
         }
-        let World {
-            scene,
-            reached,
-            seen,
-            ..
-        } = &mut machine.bus;
-        let ground = Ground {
-            numbers: &lines.numbers,
-            instructions: &lines.instructions,
-            ranges,
-            reached,
-        };
-        if !found.judge(scene, &ground, tags, seen)? {
+        let is_new = found.judge(
+            &mut machine.bus.scene,
+            ground,
+            &machine.bus.reached,
+            &machine.bus.seen,
+        )?;
+        if !is_new {
             break;
         }
     }
@@ -222,18 +214,18 @@ pub fn text_of(
     let scene = scene_of(alloc, &source, &assembly.bytes, moving.by, &tags)?;
     let lines = Lines::of(alloc, &scene, text, &assembly.ends)?;
     let named = named(alloc, &assembly.names)?;
-    let entries = entries_of(alloc, &moving.entries, &tags, &scene)?;
-    let routines = addresses_of(alloc, &lines.routines)?;
+    let starts = Starts {
+        entries: entries_of(alloc, &moving.entries, &tags, &scene)?,
+        routines: addresses_of(alloc, &lines.routines)?,
+    };
     let mut machine = Machine::new(cpu, Registers::at(start), World::new(alloc, scene)?);
     let mut found = Findings::new(alloc)?;
-    find(
-        &mut machine,
-        &mut found,
-        (&entries, &routines),
-        &lines,
-        &ranges,
-        &tags,
-    )?;
+    let ground = Ground {
+        lines: &lines,
+        ranges: &ranges,
+        tags: &tags,
+    };
+    find(&mut machine, &mut found, &starts, &ground)?;
     let report = Report {
         scene: &machine.bus.scene,
         lines: &lines,
@@ -244,7 +236,7 @@ pub fn text_of(
     };
     let mut written = Vec::new(alloc);
     report.put(&mut written, &mut Marks::none(alloc)?)?;
-    read_back(alloc, &options, bytes, &written)?;
+    let _ = read_back(alloc, &options, bytes, &written)?;
     Ok(Moved {
         text: written,
         parts: !found.claims.is_empty() || !found.numbers.is_empty() || !found.loose.is_empty(),

@@ -22,6 +22,13 @@ const BRK: u8 = 0x00;
 
 const RTI: u8 = 0x40;
 
+/// Where runs begin.
+#[derive(Drop)]
+pub struct Starts {
+    pub entries: Vec<u16>,
+    pub routines: Vec<u16>,
+}
+
 /// Both machines as one.
 pub type Both = Machine<Pair, World>;
 
@@ -61,16 +68,16 @@ pub fn run_from(machine: &mut Both, from: u16, steps: u32) -> Result<(), AllocEr
 }
 
 /// Runs from all entries, and then from each routine, each with memory of which only the image is known.
-pub fn run_all(machine: &mut Both, entries: &[u16], routines: &[u16]) -> Result<(), AllocError> {
+pub fn run_all(machine: &mut Both, starts: &Starts) -> Result<(), AllocError> {
     for seed in 0..ENTRY_SEEDS {
         machine.bus.reset(seed);
         machine.bus.clock = 0;
-        for &entry in entries {
+        for &entry in &starts.entries {
             run_from(machine, entry, LONG)?;
         }
     }
     machine.bus.reset(0);
-    for &routine in routines {
+    for &routine in &starts.routines {
         for seed in 0..ROUTINE_SEEDS {
             machine.bus.begin_trial(seed.saturating_add(10));
             run_from(machine, routine, SHORT)?;
