@@ -9,6 +9,7 @@ pub mod entries;
 pub mod ground;
 pub mod growth;
 pub mod halves;
+pub mod items;
 pub mod jumps;
 pub mod labels;
 pub mod loads;

@@ -8,6 +8,7 @@ use reach65::rules::entries::entries_of;
 use reach65::rules::ground::Ground;
 use reach65::rules::growth::{Followed, follow};
 use reach65::rules::halves::{Halves, Pair, halves_of};
+use reach65::rules::items::items_of;
 use reach65::rules::labels::labels_of;
 use reach65::rules::loads::mark_loaded;
 use reach65::rules::obstacles::Stops;
@@ -143,10 +144,18 @@ impl<'a, 'f, 'm: 'a> Advice<'a, 'f, 'm> {
             Some(&last) => usize::from(last),
             None => end,
         };
+        let items = items_of(alloc, steps, taken)?;
         let Halves {
             sure: pairs,
             likely,
-        } = halves_of(alloc, steps, &survey, said, behind.saturating_add(PAGE))?;
+        } = halves_of(
+            alloc,
+            steps,
+            &survey,
+            &items,
+            said,
+            behind.saturating_add(PAGE),
+        )?;
         mark_loaded(&mut ground, steps, &survey);
         mark_orphans(alloc, &mut ground, &survey, &pairs)?;
         let mut others = Vec::from_slice(alloc, &variables)?;

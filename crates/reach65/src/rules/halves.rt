@@ -347,9 +347,12 @@ fn is_broken(steps: &Steps<'_, '_>, survey: &Survey<'_>, pair: Pair) -> bool {
     false
 }
 
-/// Whether a pair is sure to be meant as an address: it is plausible, and nothing breaks it.
-fn is_sure(steps: &Steps<'_, '_>, survey: &Survey<'_>, pair: Pair) -> bool {
-    pair.is_plausible() && !is_broken(steps, survey, pair)
+/// Whether a pair is sure to be meant as an address: it is plausible, nothing breaks it, and its instructions are listed.
+fn is_sure(steps: &Steps<'_, '_>, survey: &Survey<'_>, items: &Marks, pair: Pair) -> bool {
+    pair.is_plausible()
+        && !is_broken(steps, survey, pair)
+        && items.get(pair.low.saturating_sub(1))
+        && items.get(pair.high.saturating_sub(1))
 }
 
 /// The pairs that are an address, and those that may be one.
@@ -400,27 +403,24 @@ fn pairs_of(
 
 /// Returns each pair of immediates in reached code that is an address, by the places of their low bytes: no reached instruction has that
 /// address, or a routine begins there; it lies before `limit`; each byte is in one pair, of two the likelier; and none is at a place that `said`
-/// has, nor where a segment begins or ends within its instruction. A pair that is not sure is only likely. Fails only if an allocation failed.
+/// has. A pair that is not sure, or not in `items`, which are listed, is only likely. Fails only if an allocation failed.
 pub fn halves_of(
     alloc: Global,
     steps: &Steps<'_, '_>,
     survey: &Survey<'_>,
+    items: &Marks,
     said: Marks,
     limit: usize,
 ) -> Result<Halves, AllocError> {
     let pairs = pairs_of(alloc, steps, survey, limit)?;
     let mut used = said;
-    for segment in steps.map().info().segments() {
-        used.set(segment.first);
-        used.set(segment.last.saturating_add(1));
-    }
     let mut sure = Vec::new(alloc);
     let mut likely = Vec::new(alloc);
     for is_last in [false, true] {
         for &pair in pairs.as_slice() {
             if used.get(pair.low)
                 || used.get(pair.high)
-                || is_sure(steps, survey, pair) == is_last
+                || is_sure(steps, survey, items, pair) == is_last
             {
                 continue;
             }

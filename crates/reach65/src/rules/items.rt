@@ -1,0 +1,52 @@
+//! Which instructions are listed as such.
+
+use crate::rules::bytes::{address, ends};
+use crate::rules::step::Steps;
+use map65::{Map, Marks};
+use std::alloc::{AllocError, Global};
+
+/// Whether the address is listed as code, once ranges have what neither the information file nor reached code has.
+fn is_code(map: &Map<'_>, taken: &Marks, at: usize) -> bool {
+    match address(at) {
+        Some(address) => taken.get(address) && map.is_code(address),
+        None => false,
+    }
+}
+
+/// Returns marks of where the instructions begin that are listed: each begins where the one before it ends, and neither a range nor a border of a
+/// segment cuts it. Fails only if an allocation failed.
+pub fn items_of(alloc: Global, steps: &Steps<'_, '_>, taken: &Marks) -> Result<Marks, AllocError> {
+    let map = steps.map();
+    let mut borders = Vec::new(alloc);
+    for segment in map.info().segments() {
+        borders.push(usize::from(segment.first))?;
+        borders.push(usize::from(segment.last) + 1)?;
+    }
+    borders.sort()?;
+    let mut items = Marks::none(alloc)?;
+    let (start, end) = ends(steps.image());
+    let mut next = start;
+    for at in start..end {
+        if at < next || !is_code(map, taken, at) {
+            continue;
+        }
+        let Some(first) = address(at) else {
+            continue;
+        };
+        let Some(step) = steps.at(first) else {
+            continue;
+        };
+        let after = at.saturating_add(step.len());
+        let mut is_whole = true;
+        for inner in at.saturating_add(1)..after {
+            if !is_code(map, taken, inner) || borders.binary_search(&inner).is_ok() {
+                is_whole = false;
+            }
+        }
+        if is_whole {
+            items.set(first);
+            next = after;
+        }
+    }
+    Ok(items)
+}
