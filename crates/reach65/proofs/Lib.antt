@@ -1,4 +1,5 @@
 pub mod FlowLemmas
+pub mod TableLemmas
 pub mod ReachedLemmas
 pub mod TakenLemmas
 pub mod RangesLemmas

@@ -1,5 +1,6 @@
 -- where an instruction leads, what is reached from given entries, which addresses are taken, and the ranges of the others
 pub mod Inlines
+pub mod Tables
 pub mod Flow
 pub mod Reached
 pub mod Taken

@@ -5,6 +5,7 @@ unfoldable pub use Rattle.reach65.specs.Flow.{end_after, goal_at, goal_of, instr
 unfoldable pub use Rattle.reach65.specs.Inlines.{inline_of, is_inline, text_end, zero_end}
 pub use Rattle.reach65.specs.Ranges.{AreInOrder, HaveAllFree, LieIn, LiesIn, is_free}
 pub use Rattle.reach65.specs.Reached.{AreReached, Reached, entry, leads_of, led}
+pub use Rattle.reach65.specs.Tables.{AreAsked, AreEnds, AreFirsts, Enters, coded, is_open, is_text}
 pub use Rattle.reach65.specs.Taken.{Adds, AreMarkedBy, is_code_of}
 unfoldable pub use Rattle.reach65.specs.Taken.{has_byte, is_code, is_given, is_taken}
 pub use Rattle.reach65.specs.Worked.{WorkedCode}

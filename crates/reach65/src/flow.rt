@@ -1,15 +1,16 @@
 //! Where instructions lead.
 
-ghost use Rattle.std.specs.Prelude.{◌≡◌, ◌+◌, ◌≤◌, ◌<◌, length, IfSome, Some};
+ghost use Rattle.std.specs.Prelude.{◌≡◌, ◌+◌, ◌≤◌, ◌<◌, length, IfOk, IfSome, None, Some, true};
+ghost use Rattle.std.specs.List.{list_any};
 ghost use Rattle.isa65.specs.Words.{len_of, row_len};
 ghost use Rattle.map65.specs.Words.{IsPlaced, byte_at, bytes_from, end_of};
-ghost use Rattle.reach65.specs.Words.{end_after, goal_at, goal_by, goal_of, instruction_at, is_last, next_at, next_of, row_goal, text_by, text_of};
+ghost use Rattle.reach65.specs.Words.{end_after, goal_at, goal_by, goal_of, inline_of, instruction_at, is_last, is_open, next_at, next_of, row_goal, text_by, text_end, text_of};
 
-use crate::inlines::{inline_of, text_end, zero_end_in};
+use crate::inlines::{ends_of, firsts_of};
 use info65::{RangeType, Tag};
 use isa65::{DecodeTable, Mnemonic, Op, OpcodeSet, OperandKind, Pattern, Row};
 use map65::{Image, Map, branch_target, is_jump, only_inside, word_of};
-use std::alloc::{Allocator, Global};
+use std::alloc::{AllocError, Allocator, Global};
 use std::marker::Model;
 
 /// The instructions of a map, and where they lead, with the groups `#: ..` of the information file.
@@ -18,17 +19,22 @@ pub struct Flow<'a, 'm, A: Allocator = Global> {
     map: &'a Map<'m, A>,
     opcodes: DecodeTable,
     tags: &'a [Tag],
+    /// By address, the number of its first group INLINE.
+    firsts: Vec<usize, A>,
+    /// By byte, the address after the next zero byte.
+    ends: Vec<u32, A>,
 }
 
 impl<'a, 'm, A: Allocator> Model for Flow<'a, 'm, A> {
     ghost use Rattle.std.specs.Prelude.{◌≡◌};
     ghost use Rattle.reach65.specs.Flow.{FlowView};
+    ghost use Rattle.reach65.specs.Tables.{AreTables};
 
     ghost Value = { FlowView };
 
     ghost view = { λ f. record { map = f.map.now; tags = f.tags.now } };
 
-    ghost invariant = { λ f. f.opcodes ≡ f.map.now.info.settings.cpu };
+    ghost invariant = { λ f. (f.opcodes ≡ f.map.now.info.settings.cpu) × AreTables f.map.now.image f.tags.now f.firsts.items f.ends.items };
 }
 
 /// Whether the next instruction does not run after it.
@@ -111,15 +117,29 @@ pub fn goal_of(op: Op, address: u16, bytes: &[u8]) -> Option<u16>
     row_goal(op.mnemonic, op.mode.row(), next, bytes)
 }
 
-impl<'a, 'm, A: Allocator> Flow<'a, 'm, A> {
-    /// The instructions of a map; the groups INLINE among these count.
-    pub fn new(map: &'a Map<'m, A>, tags: &'a [Tag]) -> Flow<'a, 'm, A>
-        ensures { result ≡ record { map = map.now; tags = tags.now } }
+impl<'a, 'm, A: Allocator + Copy> Flow<'a, 'm, A> {
+    /// The instructions of a map; the groups INLINE among these count. Fails if an allocation fails, of which there is none without such a
+    /// group.
+    pub fn new(
+        alloc: A,
+        map: &'a Map<'m, A>,
+        tags: &'a [Tag],
+    ) -> Result<Flow<'a, 'm, A>, AllocError>
+        ensures { IfOk result (λ f. f ≡ record { map = map.now; tags = tags.now }) }
     {
-        let opcodes = DecodeTable::new(map.info().settings().cpu);
-        Flow { map, opcodes, tags }
+        let firsts = firsts_of(alloc, tags)?;
+        let ends = ends_of(alloc, map.image(), tags)?;
+        Ok(Flow {
+            map,
+            opcodes: DecodeTable::new(map.info().settings().cpu),
+            tags,
+            firsts,
+            ends,
+        })
     }
+}
 
+impl<'a, 'm, A: Allocator> Flow<'a, 'm, A> {
     /// Returns the map.
     pub fn map(&self) -> &'a Map<'m, A>
         ensures { result.now ≡ self.now.map }
@@ -153,6 +173,34 @@ impl<'a, 'm, A: Allocator> Flow<'a, 'm, A> {
         }
     }
 
+    /// Returns the first group INLINE that names the address.
+    #[tactic(auto, using(crate::proofs::TableLemmas::inline_none, crate::proofs::TableLemmas::inline_some))]
+    pub fn inline_at(&self, address: u16) -> Option<Tag>
+        ensures { result ≡ inline_of self.now.tags address }
+    {
+        let number = self.firsts.get(usize::from(address)).copied().unwrap_or(0);
+        if number == 0 {
+            return None;
+        }
+        self.tags.get(number - 1).copied()
+    }
+
+    /// The address after the first zero byte of the image from an address on, if a group asks for that.
+    #[tactic(auto, using(crate::proofs::TableLemmas::text_inside))]
+    fn zero_end(&self, address: usize) -> Option<usize>
+        requires low { self.now.map.image.start ≤ address }
+        requires asked { list_any is_open self.now.tags ≡ true }
+        ensures value { result ≡ text_end self.now.map.image None address }
+        ensures below { IfSome result (λ _. address < 65536) }
+    {
+        let index = address - usize::from(self.map.image().start());
+        let end = self.ends.get(index).copied().unwrap_or(0);
+        if end == 0 {
+            return None;
+        }
+        Some(end as usize - 1)
+    }
+
     /// What the information file says of the text behind this instruction of the address.
     #[tactic(auto, unfolding(crate::specs::Flow::text_of))]
     fn text_of(&self, address: u16, op: Op) -> Option<Tag>
@@ -168,11 +216,11 @@ impl<'a, 'm, A: Allocator> Flow<'a, 'm, A> {
             return None;
         }
         let goal = goal_of(op, address, bytes_from(self.map.image(), address))?;
-        inline_of(self.tags, goal)
+        self.inline_at(goal)
     }
 
     /// The address after this instruction of the address, and after the text behind it.
-    #[tactic(auto, unfolding(crate::specs::Flow::end_after))]
+    #[tactic(auto, unfolding(crate::specs::Flow::end_after, crate::specs::Inlines::text_end), using(crate::proofs::FlowLemmas::open_text))]
     pub fn end_after(&self, address: u16, op: Op) -> Option<usize>
         requires low { self.now.map.image.start ≤ address }
         requires high { address < end_of self.now.map.image }
@@ -181,7 +229,13 @@ impl<'a, 'm, A: Allocator> Flow<'a, 'm, A> {
     {
         let end = usize::from(address) + usize::from(op.mode.len());
         match self.text_of(address, op) {
-            Some(tag) => text_end(self.map.image(), tag.size, end),
+            Some(Tag { size: None, .. }) => self.zero_end(end),
+            Some(
+                Tag {
+                    size: Some(size),
+                    ..
+                },
+            ) => Some(end + usize::from(size)),
             None => Some(end),
         }
     }
@@ -209,7 +263,7 @@ impl<'a, 'm, A: Allocator> Flow<'a, 'm, A> {
     }
 
     /// Returns the address of the text behind this instruction of the address, if it ends with a zero byte.
-    #[tactic(auto, unfolding(crate::specs::Flow::end_after))]
+    #[tactic(auto, unfolding(crate::specs::Flow::end_after), using(crate::proofs::FlowLemmas::open_text))]
     pub fn text_by(&self, address: u16, op: Op) -> Option<u16>
         requires low { self.now.map.image.start ≤ address }
         requires high { address < end_of self.now.map.image }
@@ -220,7 +274,7 @@ impl<'a, 'm, A: Allocator> Flow<'a, 'm, A> {
             return None;
         };
         let text = usize::from(address) + usize::from(op.mode.len());
-        zero_end_in(self.map.image(), text)?;
+        self.zero_end(text)?;
         Some(text as u16)
     }
 

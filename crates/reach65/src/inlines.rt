@@ -1,88 +1,121 @@
-//! Text behind calls.
+//! Tables by which the texts behind calls are found.
 
-ghost use Rattle.std.specs.Prelude.{◌≡◌, ◌+◌, ◌<◌, ◌≤◌, IfSome, None, length};
-ghost use Rattle.map65.specs.Words.{bytes_from, end_of};
-ghost use Rattle.reach65.specs.Words.{inline_of, is_inline, text_end, zero_end};
+ghost use Rattle.std.specs.Prelude.{◌≡◌, ℕ, IfOk, [], length, slice_index};
+ghost use Rattle.std.specs.List.{list_any};
+ghost use Rattle.reach65.specs.Words.{AreAsked, AreEnds, AreFirsts, Enters, is_open, is_text};
 
 use info65::{Tag, TagKind};
 use map65::Image;
-use std::alloc::Allocator;
+use std::alloc::{AllocError, Allocator};
 
-/// Whether the group says that text follows each call of the address.
+/// The number of addresses.
+const ADDRESSES: usize = 65_536;
+
+/// Whether the group says that text follows each call of an address.
+fn is_text(tag: Tag) -> bool
+    ensures { result ≡ is_text tag }
+{
+    tag.kind == TagKind::Inline
+}
+
+/// Whether the group says so of text that ends with a zero byte.
+fn is_open(tag: Tag) -> bool
+    ensures { result ≡ is_open tag }
+{
+    is_text(tag) && tag.size.is_none()
+}
+
+/// Whether a group says that text follows each call of an address.
+fn has_text(tags: &[Tag]) -> bool
+    ensures { result ≡ list_any is_text tags.now }
+{
+    tags.iter().any(|&tag| is_text(tag))
+}
+
+/// Whether a group says so of text that ends with a zero byte.
+fn has_open(tags: &[Tag]) -> bool
+    ensures { result ≡ list_any is_open tags.now }
+{
+    tags.iter().any(|&tag| is_open(tag))
+}
+
+/// That many zeros.
+#[tactic(auto, using(crate::proofs::TableLemmas::blank_at))]
+fn zeros<A: Allocator>(alloc: A, count: usize) -> Result<Vec<usize, A>, AllocError>
+    ensures len { IfOk result (λ zeros. length zeros.items ≡ count) }
+    ensures blank { IfOk result (λ zeros. (k : ℕ) → slice_index zeros.items k ≡ 0) }
+{
+    vec![in alloc; 0usize; count]
+}
+
+/// Enters the number of a group for its address, unless an earlier one is there.
 #[tactic(auto, unfolding(crate::specs::Inlines::is_inline))]
-fn is_inline(tag: Tag, address: u16) -> bool
-    ensures { result ≡ is_inline address tag }
+fn enter(firsts: &mut [usize], tag: Tag, number: usize)
+    requires { length firsts.old ≡ 65536 }
+    ensures len { length firsts.new ≡ length firsts.old }
+    ensures entered { Enters tag number firsts.old firsts.new }
 {
-    tag.kind == TagKind::Inline && tag.address == Some(address)
+    if is_text(tag)
+        && let Some(address) = tag.address
+        && firsts[usize::from(address)] == 0
+    {
+        firsts[usize::from(address)] = number;
+    }
 }
 
-/// The first group that says that text follows each call of the address.
-#[tactic(auto, unfolding(crate::specs::Inlines::inline_of))]
-pub fn inline_of(tags: &[Tag], address: u16) -> Option<Tag>
-    ensures { result ≡ inline_of tags.now address }
+/// Enters the numbers of the groups, from 1 on.
+#[tactic(auto, using(crate::proofs::TableLemmas::firsts_blank))]
+fn enter_all(firsts: &mut [usize], tags: &[Tag])
+    requires all { length firsts.old ≡ 65536 }
+    requires blank { (a : ℕ) → slice_index firsts.old a ≡ 0 }
+    ensures { AreFirsts tags.now [] firsts.new }
 {
-    let mut rest = tags;
-    'tags: while let Some((&tag, later)) = rest.split_first() {
-        if is_inline(tag, address) {
-            return Some(tag);
+    'tags: for (k, &tag) in tags.iter().enumerate() {
+        enter(firsts, tag, k + 1);
+    }
+}
+
+/// For each address the number of the first group that says that text follows each call of it, from 1 on, or 0. Empty if no group says so.
+#[tactic(auto, using(crate::proofs::TableLemmas::firsts_none))]
+pub fn firsts_of<A: Allocator>(alloc: A, tags: &[Tag]) -> Result<Vec<usize, A>, AllocError>
+    ensures { IfOk result (λ firsts. AreFirsts tags.now [] firsts.items) }
+{
+    if !has_text(tags) {
+        return Ok(Vec::new(alloc));
+    }
+    let mut firsts = zeros(alloc, ADDRESSES)?;
+    enter_all(firsts.as_mut_slice(), tags);
+    Ok(firsts)
+}
+
+/// Enters for each byte of the image the address after the next zero byte, and one more, or 0 if there is none.
+fn enter_ends<A: Allocator>(ends: &mut [u32], image: &Image<A>)
+    requires { length ends.old ≡ length image.now.bytes }
+    ensures { AreEnds image.now image.now.start ends.new }
+{
+    let start = usize::from(image.start());
+    let bytes = image.bytes();
+    let mut end = 0;
+    'bytes: for i in (0..bytes.len()).rev() {
+        if bytes[i] == 0 {
+            end = (start + i + 2) as u32;
         }
-        rest = later;
+        ends[i] = end;
     }
-    None
 }
 
-/// The address after the first zero byte of these, of which the first stands at the address.
-#[tactic(auto, unfolding(crate::specs::Inlines::zero_end))]
-fn zero_end(address: usize, bytes: &[u8]) -> Option<usize>
-    requires { address + length bytes.now ≤ 65536 }
-    ensures value { result ≡ zero_end address bytes.now }
-    ensures some { IfSome result (λ _. 0 < length bytes.now) }
+/// For each byte of the image the address after the next zero byte, and one more, or 0 if there is none. Empty if no group needs that.
+pub fn ends_of<A: Allocator, B: Allocator>(
+    alloc: A,
+    image: &Image<B>,
+    tags: &[Tag],
+) -> Result<Vec<u32, A>, AllocError>
+    ensures { IfOk result (λ ends. AreAsked image.now tags.now ends.items) }
 {
-    let mut end = address;
-    let mut rest = bytes;
-    'bytes: while let Some((&byte, later)) = rest.split_first() {
-        end += 1;
-        if byte == 0 {
-            return Some(end);
-        }
-        rest = later;
+    if !has_open(tags) {
+        return Ok(Vec::new(alloc));
     }
-    None
-}
-
-/// The bytes of the image from an address of it on, or from its end on.
-fn bytes_after<A: Allocator>(image: &Image<A>, address: usize) -> &[u8]
-    requires low { image.now.start ≤ address }
-    requires high { address ≤ end_of image.now }
-    ensures bytes { result.now ≡ bytes_from image.now address }
-    ensures len { address + length result.now ≡ end_of image.now }
-    ensures room { end_of image.now ≤ 65536 }
-{
-    let (_, bytes) = image.bytes().split_at(address - usize::from(image.start()));
-    bytes
-}
-
-/// The address after the first zero byte of the image from an address on.
-#[tactic(auto, unfolding(crate::specs::Inlines::text_end))]
-pub fn zero_end_in<A: Allocator>(image: &Image<A>, address: usize) -> Option<usize>
-    requires low { image.now.start ≤ address }
-    requires high { address ≤ end_of image.now }
-    ensures value { result ≡ text_end image.now None address }
-    ensures below { IfSome result (λ _. address < 65536) }
-{
-    zero_end(address, bytes_after(image, address))
-}
-
-/// The address after the text that stands at the address: up to and with the first zero byte of the image, or of this size.
-#[tactic(auto, unfolding(crate::specs::Inlines::text_end))]
-pub fn text_end<A: Allocator>(image: &Image<A>, size: Option<u16>, address: usize) -> Option<usize>
-    requires low { image.now.start ≤ address }
-    requires high { address ≤ end_of image.now }
-    requires room { address < 131072 }
-    ensures { result ≡ text_end image.now size address }
-{
-    match size {
-        Some(size) => Some(address + usize::from(size)),
-        None => zero_end_in(image, address),
-    }
+    let mut ends = vec![in alloc; 0u32; image.bytes().len()]?;
+    enter_ends(ends.as_mut_slice(), image);
+    Ok(ends)
 }

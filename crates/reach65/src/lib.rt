@@ -15,7 +15,6 @@ mod search;
 mod taken;
 
 pub use flow::Flow;
-pub use inlines::inline_of;
 pub use ranges::ranges_of;
 pub use search::reached;
 pub use taken::{code_of, taken_of};

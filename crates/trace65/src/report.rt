@@ -246,7 +246,7 @@ pub fn report_of(
     ensures accepted { IfOk result (IsAccepted tracing.now.options file.now map.now) }
     ensures written { IfOk result (IsWritten tracing.now.whole file.now) }
 {
-    let flow = Flow::new(map, file.tags);
+    let flow = Flow::new(alloc, map, file.tags)?;
     let found = find(alloc, &flow, tracing)?;
     let unshown = unshown_with(alloc, &tracing.options, file, &flow, &found)?;
     let text = written(alloc, tracing.whole, file, &found, &unshown)?;

@@ -3,7 +3,6 @@
 use crate::advice::Advice;
 use files65::{put_address, put_decimal};
 use isa65::Mnemonic;
-use reach65::inline_of;
 use reach65::rules::bytes::address;
 use std::alloc::{AllocError, Global};
 
@@ -81,7 +80,7 @@ fn put_routine(
 ) -> Result<(), AllocError> {
     if failing == 0
         || failing.saturating_mul(2) < calls
-        || inline_of(advice.flow.tags(), routine).is_some()
+        || advice.flow.inline_at(routine).is_some()
     {
         return Ok(());
     }
