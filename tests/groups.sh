@@ -10,6 +10,7 @@ groups() {
             if (kind == "ranges") printf "RANGE { START $%04X; END $%04X; TYPE CODE; };\n", a, a
             else if (kind == "segments") printf "SEGMENT{START $%04X;END $%04X;NAME \"s%04x\";};\n", a, a, a
             else if (kind == "definitions") printf "n%04x := $%04X\n", a, a
+            else if (kind == "inlines") printf "#: INLINE { ADDR $%04X; SIZE 3; };\n", a
             else if (size == 1) printf "LABEL { ADDR $%04X; NAME \"n%04x\"; };\n", a, a
             else printf "LABEL{ADDR $%04X;NAME \"n%04x\";SIZE %d;}\n", a, a, size
         }

@@ -70,11 +70,14 @@ names() {
     shows "$name" "$limit" "$ours" "$count" 44
 }
 
-# traces NAME LIMIT IMAGE: those of trace65 for the image, whose code begins at its first byte, at most that many millions.
+# traces NAME LIMIT WORD..: those of trace65 for the image that the words name, whose code begins at its first byte, at most that many
+# millions.
 traces() {
-    instructions "$tracer" -S 0 --entry 0 "$3"
-    printf '%-44s %12d\n' "$1" "$count"
-    ((count <= $2 * 1000000)) || fails "$1" "$count instructions of trace65, more than $2 million"
+    local name=$1 limit=$2
+    shift 2
+    instructions "$tracer" -S 0 --entry 0 "$@"
+    printf '%-44s %12d\n' "$name" "$count"
+    ((count <= limit * 1000000)) || fails "$name" "$count instructions of trace65, more than $limit million"
 }
 
 # memory COMMAND..: sets `peak` to the most memory that the command holds, in kilobytes.
@@ -255,12 +258,22 @@ printf '%b' "$(awk 'BEGIN { for (a = 16; a <= 65536; a += 16) {
 printf '%b' "$(awk 'BEGIN { for (k = 0; k < 16384; k++) {
     x = (x * 75 + 74) % 65537; y = (x * 75 + 74) % 65537; printf "\\xa9\\x%02x\\xa2\\x%02x", x % 256, y / 257; x = y } }')" >dense.bin
 { printf '\x60'; head -c 65535 /dev/zero | tr '\0' ' '; } >blanks.bin
+# Calls of the last byte, and groups INLINE: of other addresses, or of this one, so that texts that do not end follow its calls.
+{ printf '\x20\xff\xff%.0s' {1..21845}; printf '\x60'; } >calls.bin
+groups inlines 8000 >half.info
+groups inlines 16000 >whole.info
+echo '#: INLINE { ADDR $FFFF; };' >endless.info
 printf '\n%-44s %12s\n' 'instructions for 64 KiB' 'trace65'
 traces 'random bytes' 148 random.bin
 traces 'nop' 284 nop.bin
 traces 'a chain of routines' 241 chain.bin
 traces 'pairs of immediates' 265 dense.bin
 traces 'blanks' 205 blanks.bin
+traces 'calls, 8,000 groups INLINE' 109 -i half.info calls.bin
+half=$count
+traces 'calls, 16,000 groups INLINE' 139 -i whole.info calls.bin
+((10 * count <= 23 * half)) || fails '16,000 groups INLINE' 'more than 2.3 times the instructions of half as many'
+traces 'calls whose texts do not end' 136 -i endless.info calls.bin
 printf '\n%-44s %12s %12s\n' 'instructions for a line' '64 KiB' '128 KiB'
 lengthens 'a line that is one word' 1 n
 lengthens 'a long number after a half' 0 'x1 := 1\n .byte <x1,'

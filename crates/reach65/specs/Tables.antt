@@ -1,4 +1,4 @@
--- Tables by which the texts behind calls are found: numbers of groups by address, and ends of texts by their first byte.
+-- Tables by which the texts after calls are found: numbers of groups by address, and ends of texts by their first byte.
 use Rattle.std.specs.Prelude.{◌≡◌, ℕ, ◌+◌, ◌-◌, ◌≤◌, ◌==◌, ◌&&◌, Bool, true, List, [], if◌then◌else◌, Option, Some, None, is_none, slice_get, slice_index}
 use Rattle.std.specs.List.{list_any}
 use Rattle.map65.specs.Words.{ImageView}

@@ -19,9 +19,9 @@ pub struct Flow<'a, 'm, A: Allocator = Global> {
     map: &'a Map<'m, A>,
     opcodes: DecodeTable,
     tags: &'a [Tag],
-    /// By address, the number of its first group INLINE.
+    /// What [`firsts_of`] returns.
     firsts: Vec<usize, A>,
-    /// By byte, the address after the next zero byte.
+    /// What [`ends_of`] returns.
     ends: Vec<u32, A>,
 }
 
@@ -118,8 +118,7 @@ pub fn goal_of(op: Op, address: u16, bytes: &[u8]) -> Option<u16>
 }
 
 impl<'a, 'm, A: Allocator + Copy> Flow<'a, 'm, A> {
-    /// The instructions of a map; the groups INLINE among these count. Fails if an allocation fails, of which there is none without such a
-    /// group.
+    /// The instructions of a map; the groups INLINE among these count. Fails if an allocation fails; without such a group there is none.
     pub fn new(
         alloc: A,
         map: &'a Map<'m, A>,
@@ -228,15 +227,12 @@ impl<'a, 'm, A: Allocator> Flow<'a, 'm, A> {
         ensures { result ≡ end_after self.now address op }
     {
         let end = usize::from(address) + usize::from(op.mode.len());
-        match self.text_of(address, op) {
-            Some(Tag { size: None, .. }) => self.zero_end(end),
-            Some(
-                Tag {
-                    size: Some(size),
-                    ..
-                },
-            ) => Some(end + usize::from(size)),
-            None => Some(end),
+        let Some(tag) = self.text_of(address, op) else {
+            return Some(end);
+        };
+        match tag.size {
+            Some(size) => Some(end + usize::from(size)),
+            None => self.zero_end(end),
         }
     }
 

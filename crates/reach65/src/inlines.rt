@@ -1,4 +1,4 @@
-//! Tables by which the texts behind calls are found.
+//! Tables by which the texts after calls are found.
 
 ghost use Rattle.std.specs.Prelude.{◌≡◌, ℕ, IfOk, [], length, slice_index};
 ghost use Rattle.std.specs.List.{list_any};
