@@ -435,6 +435,11 @@ work() {
         '#: AFTER { START $1007; END $2000; };\n' >moves.info
     printf 'v1 := $1010\nu1 := $12\nx1: lda #$00\nldx #$10\n.word 6\ny1: rts\n' >moves.s
     program=$namer refuses_in_turn 'a listing by names' 60 0 1 -S 0x1000 --used -i moves.info moves.s
+    # Both tables of texts after calls are made, and none without a group INLINE.
+    printf '#: INLINE { ADDR $1000; };\n' >texts.info
+    program=$tracer refuses_in_turn 'texts after calls' 100 0 1 -S 0x1000 --entry 0x1000 -i texts.info three.bin
+    program=$tracer counts 'a group INLINE' 0 5 4 1 804500 1045000 135 -S 0x1000 --entry 0x1000 -i texts.info three.bin
+    program=$tracer counts 'no group INLINE' 0 4 2 1 276000 519000 116 -S 0x1000 --entry 0x1000 three.bin
     refuses_files 'an information file, include files and an output' -i all.info -o out.s
 }
 
