@@ -146,7 +146,7 @@ install: bin/da65 bin/as65 bin/trace65 bin/name65 bin/move65
 	        "$(share)/bash-completion/completions/$$name" "$(share)/zsh/site-functions/_$$name"; \
 	done
 	@install -D -m 644 docs/da65.info.5 '$(share)/man/man5/$(PROGRAM_PREFIX)da65.info.5'
-	@install -D -m 644 -t '$(share)/$(PROGRAM_PREFIX)da65/names' names/*.inc
+	@install -D -m 644 -t '$(share)/$(PROGRAM_PREFIX)da65/names' names/*.inc names/*.info
 
 uninstall:
 	@for name in '$(PROGRAM_PREFIX)da65' '$(PROGRAM_PREFIX)as65' '$(PROGRAM_PREFIX)trace65' '$(PROGRAM_PREFIX)name65' \
@@ -155,7 +155,7 @@ uninstall:
 	        "$(share)/bash-completion/completions/$$name" "$(share)/zsh/site-functions/_$$name"; \
 	done
 	@rm -f '$(share)/man/man5/$(PROGRAM_PREFIX)da65.info.5' \
-	    $(patsubst names/%,'$(share)/$(PROGRAM_PREFIX)da65/names/%',$(wildcard names/*.inc))
+	    $(patsubst names/%,'$(share)/$(PROGRAM_PREFIX)da65/names/%',$(wildcard names/*.inc names/*.info))
 	@rmdir '$(share)/$(PROGRAM_PREFIX)da65/names' '$(share)/$(PROGRAM_PREFIX)da65' 2>/dev/null || true
 
 help:

@@ -220,6 +220,9 @@ installed() {
     for name in apple2 atari atari2600 bbc c128 c64 nes pet vic20; do
         echo "share/$1da65/names/$name.inc"
     done
+    for name in apple2 c128; do
+        echo "share/$1da65/names/$name.info"
+    done
 }
 
 # options NAME: those of the help text, one a line.

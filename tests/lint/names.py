@@ -1,11 +1,13 @@
-"""The include files of names/: after lines that say what a file is about, one line for each name, with four digits and a comment, ordered
-by address. No address and no name stands twice in a file. tests/program.sh runs the program, which checks that no name is reserved."""
+"""The files of names/. An include file has, after lines that say what it is about, one line for each name, with four digits and a comment,
+ordered by address. No address and no name stands twice in a file. tests/program.sh runs the program, which checks that no name is reserved.
+An information file stands beside an include file, and has lines `#: INLINE`, each with a comment, after such lines."""
 
 import re
 
 from source import ROOT
 
 ROW = re.compile(r"(\w+) += \$([0-9A-F]{4})  ; \S.*")
+CALL = re.compile(r"#: INLINE \{ ADDR \$[0-9A-F]{4};( SIZE \d+;)? \};  # \S.*")
 
 
 def check(write):
@@ -26,3 +28,10 @@ def check(write):
             else:
                 names.add(found[1])
                 last = int(found[2], 16)
+    for file in sorted((ROOT / "names").glob("*.info")):
+        head, _, rows = file.read_text().partition("\n\n")
+        if not file.with_suffix(".inc") in files:
+            yield f"{file.name}: no include file stands beside it"
+        if not all(line.startswith("# ") for line in head.splitlines()):
+            yield f"{file.name}: its first lines do not say what it is about"
+        yield from (f"{file.name}: {row}" for row in rows.splitlines() if not CALL.fullmatch(row))
