@@ -254,8 +254,8 @@ from_stream() {
         } <given
         status=$?
         rm -f given
-        case $by$tool in
-        -da65 | -trace65) says "$input called -" $trouble "${missing#!}" ;;
+        case $by$tool-$input in
+        -da65-* | -trace65-one | -trace65-two) says "$input called -" $trouble "${missing#!}" ;;
         *)
             says "$input as $by" $fine ''
             case $input in info) wanted first.info ;; *) wanted ;; esac >wanted
@@ -282,15 +282,16 @@ from_streams() {
     wrote 'a listing without a name' stdout
 }
 
-# A stream has its bytes only once, by any name. Only as65 and name65 say so.
+# A stream has its bytes only once. as65 and name65 say so by any names, trace65 by those of standard input, and da65 never.
 one_stream_twice() {
-    local pair one other names pairs=(info,listing)
-    [ $main = listing ] || return
+    local pair one other names pairs=(info,$main) twice=('- -' '/dev/stdin -' '- /dev/stdin' '/dev/stdin /dev/stdin')
+    [ $run != da65 ] || return
     [ $run != compare ] || pairs+=(info,image image,listing)
+    [ $run = trace65 ] ||
+        twice+=('in/pipe in/pipe' 'in/pipe ./in/pipe' '/dev/fd/0 -' '- /proc/self/fd/0' '/dev/fd/0 /dev/../dev/fd/0')
     for pair in "${pairs[@]}"; do
         one=${pair%,*} other=${pair#*,}
-        for names in '- -' '/dev/stdin -' '- /dev/stdin' '/dev/stdin /dev/stdin' 'in/pipe in/pipe' 'in/pipe ./in/pipe' \
-            '/dev/fd/0 -' '- /proc/self/fd/0' '/dev/fd/0 /dev/../dev/fd/0'; do
+        for names in "${twice[@]}"; do
             begin
             mkfifo in/pipe
             name[$one]=${names% *} name[$other]=${names#* }
@@ -303,6 +304,7 @@ one_stream_twice() {
             esac
         done
     done
+    [ $main = listing ] || return
     # A plain file may be both, and a folder is no stream.
     begin
     name[info]=in/t.s
@@ -402,10 +404,10 @@ creates() {
     case $out in
     in/pipe) wrote 'an output that is a pipe' piped ;;
     /dev/null) says 'no output' $fine '' ;;
-    -) wrote 'an output called -' $([ $main = listing ] && echo stdout || echo ./-) ;;
+    -) wrote 'an output called -' $([ $run = da65 ] && echo ./- || echo stdout) ;;
     *) wrote "an output called $out" "$out" ;;
     esac
-    [ "$out$main" = -listing ] || has "an output called $out" stdout /dev/null
+    { [ "$out" = - ] && [ $run != da65 ]; } || has "an output called $out" stdout /dev/null
     rm -f ./-
 }
 
