@@ -34,4 +34,4 @@ def check(write):
             yield f"{file.name}: no include file stands beside it"
         if not all(line.startswith("# ") for line in head.splitlines()):
             yield f"{file.name}: its first lines do not say what it is about"
-        yield from (f"{file.name}: {row}" for row in rows.splitlines() if not CALL.fullmatch(row))
+        yield from (f"{file.name}: {row}" for row in rows.splitlines() if not CALL.fullmatch(row) or len(row) > 110)
