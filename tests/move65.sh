@@ -74,9 +74,10 @@ says 'a word that is jumped by' 1 \
     'LABEL { ADDR $1003; NAME "L1003"; };\nRANGE { START $1004; END $1008; TYPE ByteTable; };\n' \
     'L1000: jmp (L1006)\nL1003: rts\n.byte 1,2\nL1006: .byte $03,$10,0\n' \
     '#: HALVES { LOW $1006; HIGH $1007; }; # $1000 jumps to $1003\n# 2 of 2 instructions have run in both\n'
+carry='L1000: lda #<L1018\nclc\nadc #$F0\ntay\nlda #>L1018\nsta $21\nbcc L1\ninc $21\nL1: sty $20\nldy #0\n'
+carry+='lda ($20),y\nrts\n.res 3,$EA\nL1018: .res 300\n'
 says 'a carry to the high byte' 0 '#: HALVES { LOW $1001; HIGH $1007; };\nLABEL { ADDR $1018; NAME "L1018"; };\n' \
-    'L1000: lda #<L1018\nclc\nadc #$F0\ntay\nlda #>L1018\nsta $21\nbcc L1\ninc $21\nL1: sty $20\nldy #0\nlda ($20),y\nrts\n.res 3,$EA\nL1018: .res 300\n' \
-    '# 12 of 15 instructions have run in both; not run: $1015 to $1017\n'
+    "$carry" '# 12 of 12 instructions have run in both\n'
 count='L1000: ldx #<L1008\nL1002: dex\nbne L1002\nldy #>L1008\nrts\nL1008: rts\n'
 says 'a byte that counts is a number' 1 '#: HALVES { LOW $1001; HIGH $1006; };\nLABEL { ADDR $1008; NAME "L1008"; };\n' "$count" \
     '#: NUMBER { ADDR $1001; }; # $1003 branches by it at $1003\n# 6 of 6 instructions have run in both\n'
@@ -107,8 +108,10 @@ until_silent() {
 }
 
 # A table of words that a routine adds an index to, and a pointer that is built from it.
-printf '%b' 'jsr L1006\njmp L1003\nL1006: lda #$01\nasl a\nclc\nadc #$25\nsta $20\nlda #$10\nadc #0\nsta $21\nldy #0\n' \
-    'lda ($20),y\nsta $22\niny\nlda ($20),y\nsta $23\ndey\nlda ($22),y\nrts\nL1003 := $1003\nrts\nL1028: .byte $2C,$10,$2D,$10\n.byte 1,2,3\n' >words.s
+words='jsr L1006\njmp L1003\nL1006: lda #$01\nasl a\nclc\nadc #$25\nsta $20\nlda #$10\nadc #0\nsta $21\nldy #0\n'
+words+='lda ($20),y\nsta $22\niny\nlda ($20),y\nsta $23\ndey\nlda ($22),y\nrts\nL1003 := $1003\nrts\n'
+words+='L1028: .byte $2C,$10,$2D,$10\n.byte 1,2,3\n'
+printf '%b' "$words" >words.s
 "$as65" -S 0x1000 -o image.bin words.s
 until_silent 'a table of words'
 for seed in 1 2 3 4 5 6 7 8 9 10; do

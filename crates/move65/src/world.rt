@@ -318,7 +318,7 @@ impl Bus<Pair> for World {
             },
             // What waits for a change goes on some time.
             None => Pair::unknown(unknown_byte(
-                u32::from(address).wrapping_add(self.clock / 4096 * 0x10000),
+                u32::from(address).wrapping_add((self.clock / 4096).wrapping_mul(0x10000)),
                 self.seed,
             )),
         }
