@@ -96,7 +96,7 @@ pub fn read_back(
     bytes: &[u8],
     text: &[u8],
 ) -> Result<Info, Failure>
-    ensures { IfOk result (λ info.
+    ensures accepted { IfOk result (λ info.
         information options.now ((bytes.now ++ (10 ∷ [])) ++ text.now) ≡ Ok info) }
 {
     let mut whole = Vec::from_slice(alloc, bytes)?;
