@@ -95,6 +95,10 @@ names 'bytes of a table' 'HALVES { LOW $1002; HIGH $1005; };' \
 names 'a split table' 'HALVES { LOW $1000; HIGH $1003; SIZE 3; };' \
     'x1:     .byte   $00,$03,$06                     ; low\ny1:     .byte   $10,$10\n        .byte   $10\nz1: rts\n' \
     'x1:     .lobytes x1,y1,z1                       ; low\ny1:     .hibytes x1,y1\n        .hibytes z1\nz1: rts\n'
+names 'halves with a number count for nothing' 'HALVES { LOW $1001; HIGH $1003; };\nNUMBER { ADDR $1003; };' \
+    'x1000: lda #$00\nldx #$10\n' 'x1000: lda #$00\nldx #$10\n'
+names 'a pair of a table with a number counts for nothing' 'NUMBER { ADDR $1001; };\nHALVES { LOW $1000; HIGH $1002; SIZE 2; };' \
+    'x1000: .byte $00,$00\n.byte $10,$10\n' 'x1000: .byte <x1000,$00\n.byte >x1000,$10\n'
 names 'a low half alone' 'HALVES { LOW $1001; ADDR $1002; };' 'cmp #$02\nx1: rts\n' 'cmp #<x1\nx1: rts\n'
 names 'a high half alone, of a constant' 'HALVES { HIGH $1001; ADDR $20FF; };' 'v := $20FF\nlda #$20\n' 'v := $20FF\nlda #>v\n'
 names 'a label comes before a constant, and the first before another' 'HALVES { LOW $1001; HIGH $1003; };' \
