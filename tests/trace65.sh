@@ -216,8 +216,8 @@ proposes 'a table of the file leads to code as an entry does' '1004-1005 ByteTab
 image vectors.bin '\xff\x60\x60\x60\xf8\xff\xf7\xff\xf9\xff'
 proposes 'vectors' 'FFF6-FFF6 ByteTable;FFFA-FFFF AddrTable;' vectors.bin
 
-# Nothing is said of the monitor of the board: its commands are code, and the jumps to its routines; their table, the texts, the filler and the
-# vectors are apart.
+# Nothing is said of the monitor of the board: its commands are code, and so are the jumps to its routines; their table, the texts, the
+# filler and the vectors are apart.
 proposes 'the monitor' \
     'FE43-FE49 TextTable;FE4A-FE57 RtsTable;FE58-FE6C TextTable;FE6D-FE6E ByteTable;FE6F-FE7F TextTable;'\
 'FE80-FE84 ByteTable;FE85-FE8A TextTable;FE8B-FE8F ByteTable;FE90-FE9C TextTable;FE9D-FE9F ByteTable;'\

@@ -1,4 +1,4 @@
-; A text behind the call of a routine keeps bytes from being code: what stops reading there is said, and that the call has something behind it.
+; Bytes behind the call of a routine keep others from being code: what stops reading there is said, and that something follows the call.
 ; expect: code 7 of 31, constants as code 0 of 3, halves 0 right 0 wrong, rows 0 right 0 wrong, follows 0 of 0, wrong 0, runs 2 of 2
 ; shows: # what follows 1 of 1 calls of $BF00 does not decode: INLINE?
 ; shows: # the undefined opcode at @text keeps 19 bytes from being code
