@@ -2,7 +2,7 @@
 
 use crate::rules::bytes::address;
 use crate::rules::entries::pointers_of;
-use crate::rules::halves::{Pair, is_load, put_pairs_at, put_pushed};
+use crate::rules::halves::{Pair, is_first, put_pairs_at};
 use crate::rules::jumps::join_jumps;
 use crate::rules::obstacles::{Stops, worst_of};
 use crate::rules::readers::tables_of;
@@ -54,10 +54,15 @@ fn put_candidates_of(
     let Some(step) = search.steps.at(reason) else {
         return Ok(());
     };
-    if is_load(step.op) {
+    if is_first(step.op) {
         pairs.clear();
-        put_pairs_at(pairs, search.steps, &search.marks, reason)?;
-        put_pushed(pairs, search.steps, &search.marks, usize::from(reason))?;
+        put_pairs_at(
+            pairs,
+            search.steps,
+            &search.marks,
+            step,
+            usize::from(reason),
+        )?;
         for pair in pairs.as_slice() {
             if let Some(meant) = address(pair.meant())
                 && pair.is_plausible()

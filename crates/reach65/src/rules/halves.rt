@@ -1,8 +1,8 @@
 //! Addresses that code loads in halves.
 
-use crate::rules::bytes::{address, byte, ends};
+use crate::rules::bytes::byte;
 use crate::rules::sound::is_overlapped;
-use crate::rules::step::Steps;
+use crate::rules::step::{Step, Steps};
 use crate::rules::survey::Survey;
 use isa65::{Mnemonic, Mode, Op};
 use map65::{Image, Marks};
@@ -61,9 +61,9 @@ fn loaded(op: Op) -> Option<Register> {
     }
 }
 
-/// Returns whether the instruction loads an immediate.
-pub fn is_load(op: Op) -> bool {
-    loaded(op).is_some()
+/// Returns whether the instruction may be the first of a pair: it loads an immediate, or is `clc`.
+pub fn is_first(op: Op) -> bool {
+    op.mode == Mode::Imm || op.mnemonic == Mnemonic::Clc
 }
 
 /// The register that the instruction stores.
@@ -134,54 +134,81 @@ fn rank_of(low: Register, high: Register) -> u8 {
     }
 }
 
-/// Adds the pairs of which the first instruction begins at the address: two loads of different registers, one right behind the other; or
-/// a load and a store, and the same again of the same register and to a neighbour.
-pub fn put_pairs_at(
+/// Adds the pair of a load and a store, and the same again of the same register and to a neighbour, of which the first load is at the address.
+fn put_stored(
     found: &mut Vec<Pair>,
     steps: &Steps<'_, '_>,
     marks: &Marks,
-    address: u16,
+    first: Register,
+    at: usize,
 ) -> Result<(), AllocError> {
-    let image = steps.image();
-    let at = usize::from(address);
-    let place = at.saturating_add(1);
-    let Some(first) = load_at(steps, marks, at) else {
-        return Ok(());
-    };
-    if let Some(second) = load_at(steps, marks, at.saturating_add(2))
-        && first != second
-    {
-        put_joined(
-            found,
-            image,
-            rank_of(first, second),
-            place,
-            at.saturating_add(3),
-        )?;
-        put_joined(
-            found,
-            image,
-            rank_of(second, first),
-            at.saturating_add(3),
-            place,
-        )?;
-    }
-    let Some((register, to, then)) = store_at(steps, marks, at.saturating_add(2)) else {
+    let Some((_, to, then)) = store_at(steps, marks, at.saturating_add(2)) else {
         return Ok(());
     };
     let Some((other, other_to, _)) = store_at(steps, marks, then.saturating_add(2)) else {
         return Ok(());
     };
-    if register != first || other != first || load_at(steps, marks, then) != Some(first) {
+    if other != first || load_at(steps, marks, then) != Some(first) {
         return Ok(());
     }
-    let other_place = then.saturating_add(1);
+    let (place, other_place) = (at.saturating_add(1), then.saturating_add(1));
     if other_to == to.saturating_add(1) {
-        put_joined(found, image, 0, place, other_place)?;
+        put_joined(found, steps.image(), 0, place, other_place)?;
     } else if to == other_to.saturating_add(1) {
-        put_joined(found, image, 0, other_place, place)?;
+        put_joined(found, steps.image(), 0, other_place, place)?;
     }
     Ok(())
+}
+
+/// Adds the pairs of which the first load is at the address: two loads of different registers, one right behind the other, or one of the other
+/// forms below.
+fn put_loaded(
+    found: &mut Vec<Pair>,
+    steps: &Steps<'_, '_>,
+    marks: &Marks,
+    first: Register,
+    at: usize,
+) -> Result<(), AllocError> {
+    let Some(then) = steps.marked(marks, at.saturating_add(2)) else {
+        return Ok(());
+    };
+    if let Some(second) = loaded(then.op)
+        && first != second
+    {
+        let (one, two) = (at.saturating_add(1), at.saturating_add(3));
+        put_joined(found, steps.image(), rank_of(first, second), one, two)?;
+        put_joined(found, steps.image(), rank_of(second, first), two, one)?;
+    }
+    if stored(then.op) == Some(first) && then.op.mode != Mode::Indy {
+        put_stored(found, steps, marks, first, at)?;
+    }
+    if first == Register::A {
+        match (then.op.mnemonic, then.op.mode) {
+            (Mnemonic::Ldy, Mode::Imm) | (Mnemonic::Sta, Mode::Indy) => {
+                put_by_pointer(found, steps, marks, at)?;
+            }
+            (Mnemonic::Pha, _) => put_pushed(found, steps, marks, at)?,
+            _ => {}
+        }
+    }
+    Ok(())
+}
+
+/// Adds the pairs of which this first instruction begins at the address. Fails only if an allocation failed.
+pub fn put_pairs_at(
+    found: &mut Vec<Pair>,
+    steps: &Steps<'_, '_>,
+    marks: &Marks,
+    step: &Step,
+    at: usize,
+) -> Result<(), AllocError> {
+    if step.op.mnemonic == Mnemonic::Clc {
+        return put_added(found, steps, marks, at);
+    }
+    match loaded(step.op) {
+        Some(first) => put_loaded(found, steps, marks, first, at),
+        None => Ok(()),
+    }
 }
 
 /// Adds the pair that is stored through a pointer, of which the first load is at the address: `lda #`, `sta (p),y`, and the same again after one
@@ -192,9 +219,6 @@ fn put_by_pointer(
     marks: &Marks,
     at: usize,
 ) -> Result<(), AllocError> {
-    if load_at(steps, marks, at) != Some(Register::A) {
-        return Ok(());
-    }
     let mut store = at.saturating_add(2);
     if load_at(steps, marks, store) == Some(Register::Y) {
         store = store.saturating_add(2);
@@ -273,16 +297,14 @@ fn is_at(steps: &Steps<'_, '_>, marks: &Marks, at: usize, mnemonic: Mnemonic) ->
 
 /// Adds the pair that is pushed for `rts`, high half first, of which the first load is at the address: `lda #`, `pha`, `lda #`, `pha`. The address
 /// is one more.
-pub fn put_pushed(
+fn put_pushed(
     found: &mut Vec<Pair>,
     steps: &Steps<'_, '_>,
     marks: &Marks,
     at: usize,
 ) -> Result<(), AllocError> {
     let then = at.saturating_add(3);
-    if load_at(steps, marks, at) != Some(Register::A)
-        || !is_at(steps, marks, at.saturating_add(2), Mnemonic::Pha)
-        || load_at(steps, marks, then) != Some(Register::A)
+    if load_at(steps, marks, then) != Some(Register::A)
         || !is_at(steps, marks, then.saturating_add(2), Mnemonic::Pha)
     {
         return Ok(());
@@ -369,25 +391,14 @@ fn pairs_of(
     survey: &Survey<'_>,
     limit: usize,
 ) -> Result<Vec<Pair>, AllocError> {
-    let reached = survey.reached;
     let mut pairs = Vec::new(alloc);
     let mut here = Vec::new(alloc);
-    let (start, end) = ends(steps.image());
-    for at in start..end {
-        let Some(step) = steps.marked(reached, at) else {
+    for &at in &survey.firsts {
+        let Some(step) = steps.at(at) else {
             continue;
         };
         here.clear();
-        if step.op.mnemonic == Mnemonic::Clc {
-            put_added(&mut here, steps, reached, at)?;
-        }
-        if is_load(step.op)
-            && let Some(address) = address(at)
-        {
-            put_pairs_at(&mut here, steps, reached, address)?;
-            put_by_pointer(&mut here, steps, reached, at)?;
-            put_pushed(&mut here, steps, reached, at)?;
-        }
+        put_pairs_at(&mut here, steps, survey.reached, step, usize::from(at))?;
         for &pair in here.as_slice() {
             let meant = pair.meant();
             if meant < limit

@@ -19,7 +19,8 @@ fn loaded_from(steps: &Steps<'_, '_>, survey: &Survey<'_>, at: usize) -> Option<
 /// form an address of the image that no reached code has, or where a routine begins.
 pub fn mark_loaded(ground: &mut Ground<'_>, steps: &Steps<'_, '_>, survey: &Survey<'_>) {
     let (start, end) = ends(ground.image);
-    for at in start..end {
+    for &first in &survey.loads {
+        let at = usize::from(first);
         let Some(one) = loaded_from(steps, survey, at) else {
             continue;
         };

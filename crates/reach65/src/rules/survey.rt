@@ -1,8 +1,9 @@
 //! What reached code does with addresses.
 
-use crate::rules::bytes::ends;
+use crate::rules::bytes::{address, ends};
+use crate::rules::halves::is_first;
 use crate::rules::step::{Step, Steps};
-use isa65::Mnemonic;
+use isa65::{Mnemonic, Mode};
 use map65::{Marks, is_jump};
 use std::alloc::{AllocError, Global};
 
@@ -25,6 +26,12 @@ pub struct Survey<'r> {
     pub written: Marks,
     /// A text behind a call begins there that ends with a zero byte.
     pub texts: Marks,
+    /// Where those begin that may be the first of a pair of halves.
+    pub firsts: Vec<u16>,
+    /// Where those begin that load an absolute address.
+    pub loads: Vec<u16>,
+    /// Where those begin that have an absolute operand with an index.
+    pub indexed: Vec<u16>,
 }
 
 /// Returns whether an instruction stores to its operand, or changes it.
@@ -70,11 +77,18 @@ impl<'r> Survey<'r> {
             operands: Marks::none(alloc)?,
             written: Marks::none(alloc)?,
             texts: Marks::none(alloc)?,
+            firsts: Vec::new(alloc),
+            loads: Vec::new(alloc),
+            indexed: Vec::new(alloc),
         };
         let (start, end) = ends(steps.image());
         for at in start..end {
-            if let Some(step) = steps.marked(reached, at) {
+            if let Some(address) = address(at)
+                && reached.get(address)
+                && let Some(step) = steps.at(address)
+            {
                 survey.put(step);
+                survey.put_place(step, address)?;
             }
         }
         Ok(survey)
@@ -97,6 +111,19 @@ impl<'r> Survey<'r> {
             set_some(&mut self.written, step.operand);
         }
         set_some(&mut self.texts, step.text);
+    }
+
+    /// Keeps where the instruction begins, if that is asked for.
+    fn put_place(&mut self, step: &Step, address: u16) -> Result<(), AllocError> {
+        if is_first(step.op) {
+            self.firsts.push(address)?;
+        }
+        match step.op.mode {
+            Mode::Abs if step.to.is_none() => self.loads.push(address)?,
+            Mode::Absx | Mode::Absy => self.indexed.push(address)?,
+            _ => {}
+        }
+        Ok(())
     }
 
     /// Returns whether a routine begins at the address, which may lie past $FFFF: it is called, or no code goes on to it.

@@ -4,7 +4,6 @@ use crate::advice::Advice;
 use files65::put_address;
 use info65::TagKind;
 use isa65::Mode;
-use reach65::rules::bytes::address;
 use reach65::rules::step::Step;
 use reach65::rules::survey::writes;
 use std::alloc::AllocError;
@@ -42,14 +41,13 @@ fn is_said(advice: &Advice<'_, '_, '_>, at: u16) -> bool {
 
 /// Adds a comment for each reached instruction whose operand is likely counted from a table behind it.
 pub fn put_bases(out: &mut Vec<u8>, advice: &Advice<'_, '_, '_>) -> Result<(), AllocError> {
-    let (start, end) = advice.ends();
-    for at in start..end {
-        if let Some(step) = advice.steps.marked(advice.survey.reached, at)
+    for &reader in &advice.survey.indexed {
+        if let Some(step) = advice.steps.at(reader)
             && let Some(table) = table_of(advice, step)
             && let Some(operand) = step.operand
-            && let Some(reader) = address(at)
             && !is_said(advice, reader)
         {
+            let at = usize::from(reader);
             put_address(out, b"# the operand $", usize::from(operand))?;
             put_address(out, b" at $", at)?;
             put_address(out, b" lies in code: BASE { ADDR $", at)?;
