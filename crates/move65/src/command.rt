@@ -1,5 +1,9 @@
 //! The program's command line.
 
+ghost use Rattle.std.specs.Prelude.{◌≡◌};
+ghost use Rattle.usage65.specs.Words.{program_of};
+ghost use Rattle.move65.specs.Command.{this_program};
+
 use usage65::{CPU, Choice, HELP, INFO, OUTPUT, Program, START, VERSION};
 
 /// The options, in the order of the help text.
@@ -30,7 +34,9 @@ static CHOICES: [Choice<'static>; 8] = [
 ];
 
 /// The program: its options, and an optional listing.
-pub fn this_program() -> Program<'static> {
+pub fn this_program() -> Program<'static>
+    ensures { program_of result ≡ this_program }
+{
     Program {
         name: "move65",
         usage: "Usage: move65 [options] [listing]",

@@ -26,10 +26,10 @@ use failure::Failure;
 use files65::{
     Output, Placeholders, keep_apart, keep_inputs, read_information, read_listing, say, write_text,
 };
-use moving::text_of;
+use moving::{Moved, text_of};
 use request::{Moving, Request, request_of};
 use std::process::ExitCode;
-use usage65::{RequestFault, words_of};
+use usage65::{Names, RequestFault, words_of};
 
 /// What the program's words ask for.
 fn requested(rt: &HostRuntime) -> Result<Request, RequestFault> {
@@ -43,17 +43,31 @@ fn tell(rt: &HostRuntime, text: &[u8]) -> Result<bool, Failure> {
     Ok(false)
 }
 
-/// Reads the listing, and writes what is found. Returns whether something parts. The output is created once the text is there.
-fn move_listing(rt: &HostRuntime, moving: &mut Moving) -> Result<bool, Failure> {
-    let names = &moving.names;
+/// What is found of the listing.
+fn found(rt: &HostRuntime, moving: &Moving) -> Result<Moved, Failure> {
+    let bytes = read_information(rt, moving.names.info.as_deref())?;
+    let text = read_listing(rt, moving.names.listing.as_str())?;
+    text_of(rt.alloc(), moving, &bytes, &text)
+}
+
+/// Writes a text to the output of this name, which is created only now.
+fn write(rt: &HostRuntime, name: Option<String>, text: &[u8]) -> Result<(), Failure> {
+    let mut output = Output::create_new(rt, name)?;
+    Ok(write_text(&mut output, text)?)
+}
+
+/// Refuses an output that is an input, and a stream that is two inputs.
+fn keep_files(rt: &HostRuntime, names: &Names) -> Result<(), Failure> {
     let inputs = [names.info.as_deref(), Some(names.listing.as_str())];
     keep_inputs(rt, names.output.as_deref(), &inputs)?;
-    keep_apart(rt, &inputs)?;
-    let bytes = read_information(rt, names.info.as_deref())?;
-    let text = read_listing(rt, names.listing.as_str())?;
-    let moved = text_of(rt.alloc(), moving, &bytes, &text)?;
-    let mut output = Output::create_new(rt, moving.names.output.take())?;
-    write_text(&mut output, &moved.text)?;
+    Ok(keep_apart(rt, &inputs)?)
+}
+
+/// Reads the listing, and writes what is found. Returns whether something parts.
+fn move_listing(rt: &HostRuntime, moving: &mut Moving) -> Result<bool, Failure> {
+    keep_files(rt, &moving.names)?;
+    let moved = found(rt, moving)?;
+    write(rt, moving.names.output.take(), &moved.text)?;
     Ok(moved.parts)
 }
 

@@ -10,6 +10,7 @@ use crate::runs::{Both, Starts, run_all};
 use crate::scene::Scene;
 use crate::world::World;
 use info65::{Tag, TagKind};
+use isa65::Cpu;
 use map65::Marks;
 use run65::{Machine, Registers};
 use std::alloc::{AllocError, Global};
@@ -190,6 +191,129 @@ fn find(
     Ok(())
 }
 
+/// Where runs begin.
+fn starts_of(
+    alloc: Global,
+    moving: &Moving,
+    tags: &[Tag],
+    scene: &Scene,
+    lines: &Lines,
+) -> Result<Starts, AllocError> {
+    let entries = entries_of(alloc, &moving.entries, tags, scene)?;
+    let routines = addresses_of(alloc, &lines.routines)?;
+    Ok(Starts { entries, routines })
+}
+
+/// Both machines, with these images.
+fn machine_of(alloc: Global, cpu: Cpu, scene: Scene) -> Result<Both, AllocError> {
+    let start = scene.start;
+    let world = World::new(alloc, scene)?;
+    Ok(Machine::new(cpu, Registers::at(start), world))
+}
+
+/// A listing, where its runs begin, and the addresses that have a name.
+#[derive(Clone, Copy)]
+struct Listing<'a> {
+    lines: &'a Lines,
+    starts: &'a Starts,
+    named: &'a Marks,
+}
+
+/// The text of what is found.
+fn put_report(alloc: Global, report: &Report<'_>) -> Result<Vec<u8>, AllocError> {
+    let mut labels = Marks::none(alloc)?;
+    let mut text = Vec::new(alloc);
+    report.put(&mut text, &mut labels)?;
+    Ok(text)
+}
+
+/// Runs both images, and returns what is found.
+fn study(
+    alloc: Global,
+    machine: &mut Both,
+    info: &Information,
+    listing: Listing<'_>,
+) -> Result<Findings, AllocError> {
+    let mut found = Findings::new(alloc)?;
+    let ground = Ground {
+        lines: listing.lines,
+        ranges: &info.ranges,
+        tags: &info.tags,
+    };
+    find(machine, &mut found, listing.starts, &ground)?;
+    Ok(found)
+}
+
+/// Runs both images, and returns what is written of them.
+fn written(
+    alloc: Global,
+    machine: &mut Both,
+    info: &Information,
+    listing: Listing<'_>,
+) -> Result<Moved, AllocError> {
+    let found = study(alloc, machine, info, listing)?;
+    let text = put_report(
+        alloc,
+        &Report {
+            scene: &machine.bus.scene,
+            lines: listing.lines,
+            ran: &machine.bus.ran,
+            tags: &info.tags,
+            named: listing.named,
+            found: &found,
+        },
+    )?;
+    Ok(Moved {
+        text,
+        parts: found.parts(),
+    })
+}
+
+/// What is written of these images of a listing.
+fn written_of(
+    alloc: Global,
+    moving: &Moving,
+    info: &Information,
+    read: (&[u8], &Assembly<'_, '_, Global>),
+    scene: Scene,
+) -> Result<Moved, AllocError> {
+    let lines = Lines::of(alloc, &scene, read.0, &read.1.ends)?;
+    let starts = starts_of(alloc, moving, &info.tags, &scene, &lines)?;
+    let named = named(alloc, &read.1.names)?;
+    let mut machine = machine_of(alloc, info.cpu, scene)?;
+    let listing = Listing {
+        lines: &lines,
+        starts: &starts,
+        named: &named,
+    };
+    written(alloc, &mut machine, info, listing)
+}
+
+/// What is written of a listing.
+fn written_from(
+    alloc: Global,
+    moving: &Moving,
+    info: &Information,
+    source: &Source<'_, '_, '_>,
+) -> Result<Moved, Failure> {
+    let assembly = assembled(&alloc, moving.names.listing.as_str(), source)?;
+    let scene = scene_of(alloc, source, &assembly.bytes, moving.by, &info.tags)?;
+    Ok(written_of(alloc, moving, info, (source.text, &assembly), scene)?)
+}
+
+/// The start that is given, or the one from which the last byte is at $FFFF.
+fn start_of(
+    alloc: Global,
+    given: Option<u16>,
+    layout: &Layout<'_>,
+    text: &[u8],
+) -> Result<u16, Failure> {
+    match given {
+        Some(start) => Ok(start),
+        None => start_at_end(alloc, layout, text),
+    }
+}
+
 /// What is written of a listing, and of the information file of these bytes.
 pub fn text_of(
     alloc: Global,
@@ -198,47 +322,10 @@ pub fn text_of(
     text: &[u8],
 ) -> Result<Moved, Failure> {
     let options = options_with(moving.start, moving.cpu);
-    let Information {
-        start,
-        cpu,
-        tags,
-        ranges,
-    } = information_of(alloc, &options, bytes)?;
+    let info = information_of(alloc, &options, bytes)?;
     let layout = Layout::new(alloc, 0)?;
-    let start = match start {
-        Some(start) => start,
-        None => start_at_end(alloc, &layout, text)?,
-    };
-    let source = repair(&layout, start, text);
-    let assembly = assembled(&alloc, moving.names.listing.as_str(), &source)?;
-    let scene = scene_of(alloc, &source, &assembly.bytes, moving.by, &tags)?;
-    let lines = Lines::of(alloc, &scene, text, &assembly.ends)?;
-    let named = named(alloc, &assembly.names)?;
-    let starts = Starts {
-        entries: entries_of(alloc, &moving.entries, &tags, &scene)?,
-        routines: addresses_of(alloc, &lines.routines)?,
-    };
-    let mut machine = Machine::new(cpu, Registers::at(start), World::new(alloc, scene)?);
-    let mut found = Findings::new(alloc)?;
-    let ground = Ground {
-        lines: &lines,
-        ranges: &ranges,
-        tags: &tags,
-    };
-    find(&mut machine, &mut found, &starts, &ground)?;
-    let report = Report {
-        scene: &machine.bus.scene,
-        lines: &lines,
-        ran: &machine.bus.ran,
-        tags: &tags,
-        named: &named,
-        found: &found,
-    };
-    let mut written = Vec::new(alloc);
-    report.put(&mut written, &mut Marks::none(alloc)?)?;
-    let _ = read_back(alloc, &options, bytes, &written)?;
-    Ok(Moved {
-        text: written,
-        parts: !found.claims.is_empty() || !found.numbers.is_empty() || !found.loose.is_empty(),
-    })
+    let start = start_of(alloc, info.start, &layout, text)?;
+    let moved = written_from(alloc, moving, &info, &repair(&layout, start, text))?;
+    let _ = read_back(alloc, &options, bytes, &moved.text)?;
+    Ok(moved)
 }

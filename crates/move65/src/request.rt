@@ -34,6 +34,7 @@ pub struct Moving {
 const BY: u16 = 257;
 
 /// What the words ask for. The first word is the program's name.
+#[tactic(auto, using(crate::proofs::CommandLemmas::app_is_plain))]
 pub fn request_of(alloc: Global, words: &[String]) -> Result<Request, RequestFault> {
     let matches = this_program().matches(alloc, words)?;
     request_in(alloc, &matches)
