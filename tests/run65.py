@@ -145,6 +145,9 @@ def by_data_sheet(state, its):
         return 'N and Z of decimal sums on the 65C02', dict(its, p=nz(its['p'], its['a']))
     if state.mnemonic == 'Bit' and state.mode == 'Imm':
         return 'N and V of `bit #`', dict(its, p=its['p'] & 0x3F | p & 0xC0)
+    if state.mnemonic == 'Cmp' and state.mode in ('Indy', 'Zpind') and state.near == 0xFF:
+        difference = state.a - state.byte
+        return 'a pointer of `cmp` at $FF', dict(its, p=nz(p & 0xFE | (difference >= 0), difference & 255))
     return None, its
 
 
@@ -195,6 +198,7 @@ class State:
     def operand(self, rng):
         """The bytes behind the opcode; memory is set to what they need."""
         mode, far, near = self.mode, rng.randrange(0x3000, 0x7FFE), rng.randrange(256)
+        self.near = near
         byte = self.byte = rng.choice((rng.randrange(256), rng.randrange(256), rng.randrange(10) * 16 + rng.randrange(10), 0, 0x80, 0xFF))
         if rng.random() < 0.2:
             far |= 0xFF
