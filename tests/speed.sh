@@ -77,7 +77,17 @@ traces() {
     shift 2
     instructions "$tracer" -S 0 --entry 0 "$@"
     printf '%-44s %12d\n' "$name" "$count"
-    ((count <= limit * 1000000)) || fails "$name" "$count instructions of trace65, more than $limit million"
+    awk "BEGIN { exit !($count > 1000000 * $limit) }" && fails "$name" "$count instructions of trace65, more than $limit million"
+}
+
+# traces_twice NAME LIMIT IMAGE: the same for an image, which takes at most 2.3 times what its first half takes.
+traces_twice() {
+    local half
+    head -c $(($(wc -c <"$3") / 2)) "$3" >half.bin
+    instructions "$tracer" -S 0 --entry 0 half.bin
+    half=$count
+    traces "$@"
+    ((10 * count <= 23 * half)) || fails "$1" 'more than 2.3 times the instructions of its first half'
 }
 
 # memory COMMAND..: sets `peak` to the most memory that the command holds, in kilobytes.
@@ -252,8 +262,8 @@ names 'random bytes, used names' 163.0 random.s --used
 names 'a tenth of 8,000 pairs' 180.7 numbers.s -i few.info
 names '8,000 pairs' 266.5 numbers.s -i pairs.info
 # Routines of which each has the address of the next one in halves; pairs of immediates, one after the other; blanks.
-printf '%b' "$(awk 'BEGIN { for (a = 16; a <= 65536; a += 16) {
-    b = a % 65536; printf "\\xa9\\x%02x\\xa2\\x%02x\\xe8\\xe8\\xe8\\x60", b % 256, b / 256
+printf '%b' "$(awk 'BEGIN { printf "\\xea\\xea\\xea\\xea"; for (a = 20; a <= 65536; a += 16) {
+    printf "\\xa9\\x%02x\\xa2\\x%02x\\xe8\\xe8\\xe8\\x60", a % 256, a / 256
     for (k = 0; k < 8; k++) printf "\\xff" } }')" >chain.bin
 printf '%b' "$(awk 'BEGIN { for (k = 0; k < 16384; k++) {
     x = (x * 75 + 74) % 65537; y = (x * 75 + 74) % 65537; printf "\\xa9\\x%02x\\xa2\\x%02x", x % 256, y / 257; x = y } }')" >dense.bin
@@ -264,11 +274,13 @@ groups inlines 8000 >half.info
 groups inlines 16000 >whole.info
 echo '#: INLINE { ADDR $FFFF; };' >endless.info
 printf '\n%-44s %12s\n' 'instructions for 64 KiB' 'trace65'
-traces 'random bytes' 148 random.bin
-traces 'nop' 284 nop.bin
-traces 'a chain of routines' 241 chain.bin
-traces 'pairs of immediates' 265 dense.bin
-traces 'blanks' 205 blanks.bin
+head -c 1 nop.bin >byte.bin
+traces 'one byte' 0.9 byte.bin
+traces_twice 'random bytes' 148 random.bin
+traces_twice 'nop' 284 nop.bin
+traces_twice 'a chain of routines' 241 chain.bin
+traces_twice 'pairs of immediates' 265 dense.bin
+traces_twice 'blanks' 205 blanks.bin
 traces 'calls, 8,000 groups INLINE' 109 -i half.info calls.bin
 half=$count
 traces 'calls, 16,000 groups INLINE' 139 -i whole.info calls.bin
