@@ -275,17 +275,17 @@ groups inlines 16000 >whole.info
 echo '#: INLINE { ADDR $FFFF; };' >endless.info
 printf '\n%-44s %12s\n' 'instructions for 64 KiB' 'trace65'
 head -c 1 nop.bin >byte.bin
-traces 'one byte' 0.9 byte.bin
-traces_twice 'random bytes' 148 random.bin
-traces_twice 'nop' 284 nop.bin
-traces_twice 'a chain of routines' 241 chain.bin
-traces_twice 'pairs of immediates' 265 dense.bin
-traces_twice 'blanks' 205 blanks.bin
-traces 'calls, 8,000 groups INLINE' 109 -i half.info calls.bin
+traces 'one byte' 0.94 byte.bin
+traces_twice 'random bytes' 75 random.bin
+traces_twice 'nop' 86 nop.bin
+traces_twice 'a chain of routines' 113 chain.bin
+traces_twice 'pairs of immediates' 94 dense.bin
+traces_twice 'blanks' 77 blanks.bin
+traces 'calls, 8,000 groups INLINE' 97 -i half.info calls.bin
 half=$count
-traces 'calls, 16,000 groups INLINE' 139 -i whole.info calls.bin
+traces 'calls, 16,000 groups INLINE' 126 -i whole.info calls.bin
 ((10 * count <= 23 * half)) || fails '16,000 groups INLINE' 'more than 2.3 times the instructions of half as many'
-traces 'calls whose texts do not end' 136 -i endless.info calls.bin
+traces 'calls whose texts do not end' 102 -i endless.info calls.bin
 printf '\n%-44s %12s %12s\n' 'instructions for a line' '64 KiB' '128 KiB'
 lengthens 'a line that is one word' 1 n
 lengthens 'a long number after a half' 0 'x1 := 1\n .byte <x1,'
