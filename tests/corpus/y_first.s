@@ -1,5 +1,5 @@
-; Halves in two registers, of which Y is loaded before X.
-; expect: code 15 of 15, constants as code 0 of 4, halves 1 right 0 wrong, rows 0 right 0 wrong, follows 2 of 2, wrong 0, runs 2 of 2
+; Halves in Y and then in X are two numbers more often than an address: they are only likely one.
+; expect: code 15 of 15, constants as code 0 of 4, halves 0 right 0 wrong, rows 0 right 0 wrong, follows 0 of 2, wrong 0, runs 0 of 2
         .code
         ldy     #>table
         ldx     #<table

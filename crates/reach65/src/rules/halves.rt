@@ -34,12 +34,13 @@ impl Pair {
     }
 
     /// Returns whether it is an address more often than two numbers: its low half is not zero, its high half is not in A if the low one is in X or
-    /// Y, and it is not in Y and then X.
+    /// Y, and the first load is not one of Y and the second one of X.
     pub fn is_plausible(&self) -> bool {
         self.meant() % 256 != 0
             && self.rank != 4
             && self.rank != 5
             && !(self.rank == 6 && self.low < self.high)
+            && !(self.rank == 2 && self.high < self.low)
     }
 }
 
