@@ -1,8 +1,7 @@
 //! Messages on standard error.
 
 ghost use Rattle.std.specs.Prelude.{◌≡◌, ◌++◌, IfOk, OnOk};
-ghost use Rattle.std.specs.List.{flat_map};
-ghost use Rattle.files65.specs.Message.{in_line, message};
+ghost use Rattle.files65.specs.Message.{in_line, is_control, message, shown};
 
 use crate::fault::FileFault;
 use crate::output::write_text;
@@ -10,23 +9,39 @@ use arrayvec::ArrayVec;
 use map65::{Sink, Told};
 use std::alloc::{AllocError, Global};
 
-/// Appends bytes, with `\n` for each line feed.
-fn put_in_line(out: &mut Vec<u8>, bytes: &[u8]) -> Result<(), AllocError>
-    ensures { OnOk result (out.new.items ≡ out.old.items ++ flat_map in_line bytes.now) }
+/// Whether a terminal may take a byte for a command: those from $80 to $9F do that after $C2, as controls of 8 bits in UTF-8.
+fn is_control(after_c2: bool, byte: u8) -> bool
+    ensures { result ≡ is_control after_c2 byte }
 {
-    'bytes: for byte in bytes {
-        put_byte(out, *byte)?;
-    }
-    Ok(())
+    byte.is_ascii_control() || after_c2 && 128 <= byte && byte <= 159
 }
 
-fn put_byte(out: &mut Vec<u8>, byte: u8) -> Result<(), AllocError>
-    ensures { OnOk result (out.new.items ≡ out.old.items ++ in_line byte) }
+fn put_byte(out: &mut Vec<u8>, after_c2: bool, byte: u8) -> Result<(), AllocError>
+    ensures { OnOk result (out.new.items ≡ out.old.items ++ in_line after_c2 byte) }
 {
     if byte == b'\n' {
         return out.extend_from_slice(b"\\n");
     }
-    out.extend_from_slice(&[byte])
+    out.extend_from_slice(&[if is_control(after_c2, byte) {
+        b'?'
+    } else {
+        byte
+    }])
+}
+
+/// Appends bytes, with `\n` for each line feed and `?` for each other control byte.
+#[tactic(auto, unfolding(crate::specs::Message::shown_from))]
+fn put_in_line(out: &mut Vec<u8>, bytes: &[u8]) -> Result<(), AllocError>
+    ensures { OnOk result (out.new.items ≡ out.old.items ++ shown bytes.now) }
+{
+    let mut after_c2 = false;
+    let mut rest = bytes;
+    'bytes: while let Some((byte, later)) = rest.split_first() {
+        put_byte(out, after_c2, *byte)?;
+        after_c2 = *byte == 0xC2;
+        rest = later;
+    }
+    Ok(())
 }
 
 /// A message of a program, as one line: a text, and what is said after it, which need not be valid UTF-8.

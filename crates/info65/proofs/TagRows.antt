@@ -63,3 +63,61 @@ backward = refl
 unended : tags_of (codes "#: ENTRY { ADDR 1;\n") ≡ Err (fault 2 Expected)
 unfolding tags_of tags_from tag_step tag_end tag_named tag_attribute tagged_from tagged_byte spot_after tokens_after lexeme_at word_at number_at number_in in_class
 unended = refl
+
+-- what is just allowed
+edges : tags_of (codes "#: INLINE { ADDR $FFFF; SIZE 256; };\n#: HALVES { LOW 1; HIGH 2; SIZE 1; };\n#: HALVES { HIGH 1; ADDR 0; };\n#: AFTER { START 3; END 3; };\n#: DIFFERENCE { ADDR 1; FROM 3; TO 2; };\n#: NUMBER { ADDR 7; };")
+    ≡ Ok (
+    record { kind = kind.Inline; line = 1; address = Some 0xFFFF; size = Some 256; low = None; high = None; first = None; last = None }
+    ∷ record { kind = kind.Halves; line = 2; address = None; size = Some 1; low = Some 1; high = Some 2; first = None; last = None }
+    ∷ record { kind = kind.Halves; line = 3; address = Some 0; size = None; low = None; high = Some 1; first = None; last = None }
+    ∷ record { kind = kind.After; line = 4; address = None; size = None; low = None; high = None; first = Some 3; last = Some 3 }
+    ∷ record { kind = kind.Difference; line = 5; address = Some 1; size = None; low = None; high = None; first = Some 3; last = Some 2 }
+    ∷ record { kind = kind.Number; line = 6; address = Some 7; size = None; low = None; high = None; first = None; last = None } ∷ []
+    )
+unfolding tags_of tags_from tag_step tag_end tag_named tag_attribute tagged_from tagged_byte spot_after tokens_after lexeme_at word_at number_at number_in in_class
+edges = refl
+
+-- what each kind of group needs
+sizeless : tags_of (codes "#: HALVES { LOW 1; HIGH 2; SIZE 0; };") ≡ Err (fault 1 OutOfRange)
+unfolding tags_of tags_from tag_step tag_end tag_named tag_attribute tagged_from tagged_byte spot_after tokens_after lexeme_at word_at number_at number_in in_class
+sizeless = refl
+
+halfless : tags_of (codes "#: HALVES { ADDR 1; };") ≡ Err (fault 1 Missing)
+unfolding tags_of tags_from tag_step tag_end tag_named tag_attribute tagged_from tagged_byte spot_after tokens_after lexeme_at word_at number_at number_in in_class
+halfless = refl
+
+lowless : tags_of (codes "#: HALVES { HIGH 1; };") ≡ Err (fault 1 Missing)
+unfolding tags_of tags_from tag_step tag_end tag_named tag_attribute tagged_from tagged_byte spot_after tokens_after lexeme_at word_at number_at number_in in_class
+lowless = refl
+
+entryless : tags_of (codes "#: ENTRY { };") ≡ Err (fault 1 Missing)
+unfolding tags_of tags_from tag_step tag_end tag_named tag_attribute tagged_from tagged_byte spot_after tokens_after lexeme_at word_at number_at number_in in_class
+entryless = refl
+
+callless : tags_of (codes "#: INLINE { SIZE 1; };") ≡ Err (fault 1 Missing)
+unfolding tags_of tags_from tag_step tag_end tag_named tag_attribute tagged_from tagged_byte spot_after tokens_after lexeme_at word_at number_at number_in in_class
+callless = refl
+
+numberless : tags_of (codes "#: NUMBER { };") ≡ Err (fault 1 Missing)
+unfolding tags_of tags_from tag_step tag_end tag_named tag_attribute tagged_from tagged_byte spot_after tokens_after lexeme_at word_at number_at number_in in_class
+numberless = refl
+
+endless : tags_of (codes "#: AFTER { START 1; };") ≡ Err (fault 1 Missing)
+unfolding tags_of tags_from tag_step tag_end tag_named tag_attribute tagged_from tagged_byte spot_after tokens_after lexeme_at word_at number_at number_in in_class
+endless = refl
+
+startless : tags_of (codes "#: AFTER { END 1; };") ≡ Err (fault 1 Missing)
+unfolding tags_of tags_from tag_step tag_end tag_named tag_attribute tagged_from tagged_byte spot_after tokens_after lexeme_at word_at number_at number_in in_class
+startless = refl
+
+wordless : tags_of (codes "#: DIFFERENCE { FROM 1; TO 2; };") ≡ Err (fault 1 Missing)
+unfolding tags_of tags_from tag_step tag_end tag_named tag_attribute tagged_from tagged_byte spot_after tokens_after lexeme_at word_at number_at number_in in_class
+wordless = refl
+
+fromless : tags_of (codes "#: DIFFERENCE { ADDR 1; TO 2; };") ≡ Err (fault 1 Missing)
+unfolding tags_of tags_from tag_step tag_end tag_named tag_attribute tagged_from tagged_byte spot_after tokens_after lexeme_at word_at number_at number_in in_class
+fromless = refl
+
+toless : tags_of (codes "#: DIFFERENCE { ADDR 1; FROM 2; };") ≡ Err (fault 1 Missing)
+unfolding tags_of tags_from tag_step tag_end tag_named tag_attribute tagged_from tagged_byte spot_after tokens_after lexeme_at word_at number_at number_in in_class
+toless = refl
