@@ -27,5 +27,6 @@ pub use Rattle.map65.specs.declared.name.NameKind.{NameKind}
 pub use Rattle.map65.specs.declared.name.Place.{Place}
 pub use Rattle.stmt65.specs.declared.directive.Directive.{Directive}
 pub use Rattle.stmt65.specs.declared.directive.Directive.TheVariants.{Dbyt, Dword}
+pub use Rattle.stmt65.specs.declared.language.Language.TheVariants.{Repair}
 pub use Rattle.stmt65.specs.declared.printing.columns.Columns.{Columns}
 pub use Rattle.usage65.specs.declared.fault.UsageFault.{UsageFault}

@@ -13,7 +13,7 @@ use Rattle.da65_cli.specs.Code.Reporting.{FlushesThenReports}
 took : (image : ImageView) (taken out : Option (List ℕ)) → Keeps taken out → Took image (Some []) taken → Took image (Some []) out
 took image None out k t = absurd t.taken
 took image (Some xs) None k t = absurd k
-took image (Some xs) (Some ys) k t = record { text = t.text; taken = k ∙ t.taken; means = t.means }
+took image (Some xs) (Some ys) k t = record { text = t.text; taken = k ∙ t.taken; means = t.means; repaired = t.repaired }
 
 took_image : (i : InfoView) (image : Result ImageView ImageFault) (taken out : Option (List ℕ)) → Keeps taken out → TookImage i image (Some []) taken → TookImage i image (Some []) out
 took_image i (Ok image) taken out k t = λ none. took image taken out k (t none)

@@ -3,6 +3,7 @@ mod NumberLemmas
 mod ListLemmas
 mod Cases
 mod SpacingLemmas
+mod PlaceLemmas
 mod ReadIsSpelled
 mod SpelledIsRead
 mod LineLemmas
@@ -27,6 +28,7 @@ mod PassLaws
 mod KnownLaws
 mod TextLemmas
 mod AddressLemmas
+mod RepairLaw
 mod ModeLemmas
 mod FaultLemmas
 pub mod Public

@@ -3,3 +3,4 @@ pub use Rattle.stmt65.proofs.EntryLaws.{entry_size, bytes_back, number_fits}
 pub use Rattle.stmt65.proofs.ModeLemmas.{takes_modes, needs_mode}
 pub use Rattle.stmt65.proofs.OneLine.{one_line}
 pub use Rattle.stmt65.proofs.ReadBack.{reads_back}
+pub use Rattle.stmt65.proofs.RepairLaw.{keeps_listings}

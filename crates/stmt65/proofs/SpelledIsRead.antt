@@ -204,7 +204,7 @@ operation_again (SetCpu t) ps h =
     rw (w.2, no_directive w.0 _ w.3 no_directives.3, other w.0 (codes ".setcpu") (codes ".byte") w.3 refl, other w.0 (codes ".setcpu") (codes ".segment") w.3 refl, other w.0 (codes ".setcpu") (codes ".code") w.3 refl, w.3, un_last (string t) w.1 w.4) refl
 
 -- a word with which nothing can go on is no operation
-none_at : (w : List ℕ) (ps : List Part) → ((d : Directive) → values_of Listing d ps ≡ None) → data_of (next_datum Listing) ps ≡ None → segment_of ps ≡ None → whole Code ps ≡ None → set_cpu_of ps ≡ None → form_of Listing ps ≡ None → operation_at Listing w ps ≡ None
+pub none_at : (w : List ℕ) (ps : List Part) → ((d : Directive) → values_of Listing d ps ≡ None) → data_of (next_datum Listing) ps ≡ None → segment_of ps ≡ None → whole Code ps ≡ None → set_cpu_of ps ≡ None → form_of Listing ps ≡ None → operation_at Listing w ps ≡ None
 unfolding operation_at other_at further_at
 none_at w ps values bytes segment code cpu form = grind arith
 

@@ -13,6 +13,7 @@ pub mod SourceLine
 pub mod Forms
 pub mod Signs
 pub mod Parts
+pub mod Places
 pub mod Lexing
 pub mod Spacing
 pub mod Names

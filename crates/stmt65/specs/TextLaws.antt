@@ -3,12 +3,12 @@
 -- line that has one.
 use Rattle.std.specs.Prelude.{◌≡◌, ◌↔◌, ℕ, ◌+◌, List, [], ◌∷◌, ◌++◌, length, Option, Some, None, Ok, Err}
 use Rattle.std.specs.List.{All, flat_map}
-use Rattle.stmt65.specs.Types.{AsmFaultKind}
+use Rattle.stmt65.specs.Types.{AsmFaultKind, Listing, Repair}
 use Rattle.stmt65.specs.SourceLine.{SourceLine}
 use Rattle.stmt65.specs.Symbols.{Definition}
 use Rattle.stmt65.specs.Layout.{Layout}
 use Rattle.stmt65.specs.Coding.{State}
-use Rattle.stmt65.specs.Meaning.{initial, after, final, fault_of, bytes_of, meaning_of}
+use Rattle.stmt65.specs.Meaning.{initial, after, final, fault_of, bytes_of, meaning_in, meaning_of}
 
 -- a line, and what stands above it
 pub record Line : Type 0 where
@@ -60,3 +60,7 @@ MeansFault = (layout : Layout) (start : ℕ) (ls : List (Option SourceLine)) (n 
 abbrev pub StandsAtItsBytes : Type 0
 StandsAtItsBytes = (all : List Definition) (layout : Layout) (start : ℕ) (ls : List (Option SourceLine)) (above below : List Line) (line : Line)
     → lines_of layout start ls ≡ above ++ line ∷ below → line.state.at ≡ start + length (flat_map (line_bytes all) above)
+
+-- What a text means in a listing it means in a repair.
+abbrev pub KeepsListings : Type 0
+KeepsListings = (layout : Layout) (start : ℕ) (text bytes : List ℕ) → meaning_in Listing layout start text ≡ Ok bytes → meaning_in Repair layout start text ≡ Ok bytes

@@ -1,4 +1,5 @@
 -- The types of the code that these definitions speak of, from one place.
+pub use Rattle.stmt65.specs.declared.assembling.about.Explained.{Explained}
 pub use Rattle.stmt65.specs.declared.assembling.coding.Coded.{Coded}
 pub use Rattle.stmt65.specs.declared.assembling.coding.Instruction.{Instruction}
 pub use Rattle.stmt65.specs.declared.assembling.coding.Operand.{Operand}

@@ -1,6 +1,6 @@
 -- The words of clauses and proofs, here and in the crates above, from one place.
 pub use Rattle.stmt65.specs.Types.{ALL, Abs, Absindx, AbsoluteX, AbsoluteY, Absx, Absy, Acc, Addr, AddressSize, Asl, AsmFault, AsmFaultKind, Automatic, BigEndian, ByteOrder, Coded, Columns, Cpu, Dbyt, DefinedTwice, Direct, DirectX, DirectY, Directive, Dword, High, Imm, Immediate, Imp, Inc, Ind, Indirect, IndirectX, IndirectY, Indx, Indy, Language, Late, Listing, LittleEndian, Low, M6502, Memory, Minus, Mnemonic, Mode, NoSuchForm, OperandKind, OutOfRange, PastEnd, PastStart, Pattern, Placed, Plain, Rel, Repair, Ror, Row, Syntax, Undefined, UnknownCpu, Work, Zero, Zp, Zpind, Zprel, Zpx, Zpy}
-pub use Rattle.stmt65.specs.Answer.{Assembles, out_of_memory}
+pub use Rattle.stmt65.specs.Answer.{Assembles, IsExplained, out_of_memory}
 pub use Rattle.stmt65.specs.Code.CodingViews.{Adds, AddsAll, AddsOne, IsFirstOf, IsFirstWay, Puts, PutsAll, coded_of, data_fragments, entry_fragments, fragment_of, operand_of}
 pub use Rattle.stmt65.specs.Code.Found.{Gives, GivesIfOk, Reads}
 pub use Rattle.stmt65.specs.Code.Held.{held, held_value}
@@ -41,6 +41,7 @@ unfoldable pub use Rattle.stmt65.specs.Names.{is_name}
 pub use Rattle.stmt65.specs.Operands.{in_pattern, in_row, kind_text, kind_texts, long_text, named_text, prefix_text, row_operands, short_text}
 unfoldable pub use Rattle.stmt65.specs.Operands.{operand_text}
 pub use Rattle.stmt65.specs.Parts.{Define, Mark, Number, Part, Text, Word, begins_with}
+pub use Rattle.stmt65.specs.Places.{GoesOver, IsAmong, IsRemarkOf, ReadsAs, StandsIn, bytes_in, parts_left, value_alone, part_text}
 pub use Rattle.stmt65.specs.Printable.{AreOperands, IsLong, IsNameLong, IsOperand, IsPrintable, IsShort, IsTable, IsWrittenIn, MayBeForced, MayBeLabelled, TakesLabel}
 pub use Rattle.stmt65.specs.Printed.{HasLabelName, HasName, HasNames, HasNamesIn, PrintsAs, ReadsBack, address_size, entry_value, row_form, source_line, source_value, with_label}
 unfoldable pub use Rattle.stmt65.specs.Printed.{source_form}
@@ -59,7 +60,7 @@ unfoldable pub use Rattle.stmt65.specs.Symbols.{find_name, has_zero_page_size, i
 pub use Rattle.stmt65.specs.TableLaws.{CutsTexts, EndsStretch, IsCut, datum_bytes}
 pub use Rattle.stmt65.specs.Tables.{entry_len, entry_number, in_order, is_plain, onto_stretch, order_of}
 unfoldable pub use Rattle.stmt65.specs.Tables.{cut_text, entries, low_number, pieces}
-pub use Rattle.stmt65.specs.TextLaws.{IsFaultless, IsFirstFault, Line, MeansBytes, MeansFault, StandsAtItsBytes, line_bytes, lines_of, names_of}
+pub use Rattle.stmt65.specs.TextLaws.{IsFaultless, IsFirstFault, KeepsListings, Line, MeansBytes, MeansFault, StandsAtItsBytes, line_bytes, lines_of, names_of}
 unfoldable pub use Rattle.stmt65.specs.TextLaws.{lines_below}
 pub use Rattle.stmt65.specs.Views.{ExprView, OperandsView, RemarksView, StatementView, TargetView, none, one, two}
 pub use Rattle.stmt65.specs.declared.assembling.assembler.Pass.{Pass}

@@ -1,9 +1,9 @@
 //! From a text to its bytes, or to its first fault.
 
+pub(crate) mod about;
 pub(crate) mod addresses;
 pub(crate) mod assembler;
 mod coding;
-pub(crate) mod definitions;
 mod emit;
 mod entries;
 pub(crate) mod fault;

@@ -7,4 +7,5 @@ pub(crate) mod numeral;
 mod operands;
 mod operations;
 mod parts;
+pub(crate) mod places;
 pub(crate) mod whole_line;

@@ -9,5 +9,6 @@ mod inputs;
 mod long_lines;
 mod maps;
 mod marks;
+mod places;
 mod said;
 mod told;

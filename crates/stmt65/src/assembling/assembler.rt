@@ -1,10 +1,13 @@
 //! The assembler: a pass over the lines of a text, and one over those that wait for a name below them.
 
 ghost use Rattle.std.specs.Prelude.{◌≡◌, ◌<◌, ◌++◌, [], ◌∷◌, if◌then◌else◌, map, true, Some, Ok, IfOk, OnOk};
-ghost use Rattle.stmt65.specs.Words.{Assembles, GoesOn, IsIdle, IsPassed, TakesEarly, definitions_in, held, meaning, parts, reading_of, source_addresses, source_meaning, source_of, source_state, state_in, work_of};
+ghost use Rattle.stmt65.specs.Words.{Assembles, GoesOn, IsExplained, IsIdle, IsPassed, TakesEarly, definitions_in, held, meaning, parts, reading_of, source_addresses, source_meaning, source_of, source_state, state_in, work_of};
 
+use crate::assembling::about::Explained;
 use crate::assembling::fault::AsmFault;
-use crate::assembling::late::{Late, Work, code_again, code_early, cut, idle, keep, refuse};
+use crate::assembling::late::{
+    Late, Work, code_again, code_early, cut, explain_late, idle, keep, refuse,
+};
 use crate::assembling::layout::Layout;
 use crate::assembling::state::{State, advance, first_state, place};
 use crate::assembling::symbols::{Definition, Symbols};
@@ -166,27 +169,51 @@ pub fn second_pass<'a, L: Allocator + Clone, A: Allocator + Clone, C: Allocator 
     names: &Symbols<'a, A>,
     work: &Work<'a, A>,
     mut out: Vec<u8, C>,
-) -> Result<Vec<u8, C>, AsmFault>
+) -> Result<Vec<u8, C>, Explained<'a>>
     requires { out.items ≡ [] }
-    ensures { Assembles result (work_of names.now state.old.layout.now work.now (Ok [])) }
+    ensures { IsExplained result (work_of names.now state.old.layout.now work.now (Ok [])) }
 {
     let mut rest = work.settled.as_slice();
     'late: for late in &work.late {
         let (front, more) = cut(rest, late.front);
         out.extend_from_slice(front)?;
         if let Some(kind) = code_again(state, names, late, &mut out)? {
-            return Err(AsmFault {
-                line: late.number,
-                kind,
+            return Err(Explained {
+                fault: AsmFault {
+                    line: late.number,
+                    kind,
+                },
+                about: explain_late(state, names, late, kind),
             });
         }
         rest = more;
     }
     if let Some(fault) = work.fault {
-        return Err(fault);
+        return Err(Explained {
+            fault,
+            about: work.about,
+        });
     }
     out.extend_from_slice(rest)?;
     Ok(out)
+}
+
+/// The bytes that a text means, as [`assemble_source`] answers them; or its fault, with what that is about.
+#[tactic(auto, using(crate::proofs::PassLaws::means))]
+pub fn assemble_explained<'a, L: Allocator + Clone, A: Allocator + Clone>(
+    alloc: A,
+    source: &Source<'a, '_, '_, L>,
+) -> Result<Vec<u8, A>, Explained<'a>>
+    ensures { IsExplained result (source_meaning source.now) }
+{
+    let out = Vec::new(alloc.clone()?);
+    let mut ends = Vec::new(&alloc);
+    let Pass {
+        mut state,
+        names,
+        work,
+    } = first_pass(&alloc, source, false, &mut ends)?;
+    second_pass(&mut state, &names, &work, out)
 }
 
 /// The bytes that a text means in its language from its start, with its segments where the layout says; or the fault of its lowest
@@ -198,21 +225,16 @@ pub fn second_pass<'a, L: Allocator + Clone, A: Allocator + Clone, C: Allocator 
 /// defined as `name := number` on a line above.
 ///
 /// A fault of kind `Memory`, at line 0, comes only if an allocation was refused.
-#[tactic(auto, using(crate::proofs::PassLaws::means))]
 pub fn assemble_source<L: Allocator + Clone, A: Allocator + Clone>(
     alloc: A,
     source: &Source<'_, '_, '_, L>,
 ) -> Result<Vec<u8, A>, AsmFault>
     ensures { Assembles result (source_meaning source.now) }
 {
-    let out = Vec::new(alloc.clone()?);
-    let mut ends = Vec::new(&alloc);
-    let Pass {
-        mut state,
-        names,
-        work,
-    } = first_pass(&alloc, source, false, &mut ends)?;
-    second_pass(&mut state, &names, &work, out)
+    match assemble_explained(alloc, source) {
+        Ok(bytes) => Ok(bytes),
+        Err(explained) => Err(explained.fault),
+    }
 }
 
 /// The bytes that a listing means from a start address, as [`assemble_source`] answers them.

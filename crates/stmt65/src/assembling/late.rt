@@ -3,6 +3,7 @@
 ghost use Rattle.std.specs.Prelude.{◌≡◌, IfOk, OnOk, None, take, drop};
 ghost use Rattle.stmt65.specs.Words.{AddsAll, Codes, CodesEarly, IsIdle, IsPlaced, Keeps, State as AState, Takes, fault_at, fault_past, fragments_in, late_state, source_of, state_of};
 
+use crate::assembling::about::{About, explain};
 use crate::assembling::emit::put_coded;
 use crate::assembling::fault::{AsmFault, AsmFaultKind};
 use crate::assembling::line_faults::{are_names_known, fault_of};
@@ -34,6 +35,8 @@ pub struct Work<'a, A: Allocator> {
     /// How many bytes stand before the last late line.
     pub mark: usize,
     pub fault: Option<AsmFault>,
+    /// What the fault is about.
+    pub about: About<'a>,
 }
 
 /// No line so far.
@@ -45,6 +48,7 @@ pub fn idle<'a, 'b, A: Allocator>(alloc: &'b A) -> Result<Work<'a, &'b A>, Alloc
         late: Vec::new(alloc),
         mark: 0,
         fault: None,
+        about: About::Line,
     })
 }
 
@@ -108,6 +112,7 @@ pub fn code_early<'a, L: Allocator + Clone, A: Allocator + Clone, B: Allocator>(
         return Ok(false);
     }
     let kind = code_placed(above, state, above, source, placed, &mut work.settled)?;
+    work.about = explain(kind, above, state.layout, placed.next, source);
     work.fault = fault_at(number, kind);
     Ok(true)
 }
@@ -186,4 +191,21 @@ pub fn code_again<'a, L: Allocator + Clone, A: Allocator + Clone, C: Allocator>(
     let above = names.first(late.count);
     let placed = place(state, &above, &late.source);
     code_placed(&names.all(), state, &above, &late.source, &placed, out)
+}
+
+/// What the fault of a late line is about, in the state in which it was coded by all names.
+pub fn explain_late<'a, L: Allocator + Clone, A: Allocator + Clone>(
+    state: &State<'_, '_, L>,
+    names: &Symbols<'a, A>,
+    late: &Late<'a, A>,
+    kind: AsmFaultKind,
+) -> About<'a> {
+    let placed = place(state, &names.first(late.count), &late.source);
+    explain(
+        Some(kind),
+        &names.all(),
+        state.layout,
+        placed.next,
+        &late.source,
+    )
 }

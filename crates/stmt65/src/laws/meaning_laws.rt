@@ -1,7 +1,7 @@
 //! What a text means, in the words of the manual: which mode an instruction has, which faults a line
 //! has, and what the lines of a text make of it.
 
-ghost use Rattle.stmt65.specs.Words.{FindsLine, FindsLowest, FindsNone, MeansBytes, MeansFault, ModesAreWays, NeedsMode, StandsAtItsBytes, TakesModes, WaysAreModes};
+ghost use Rattle.stmt65.specs.Words.{FindsLine, FindsLowest, FindsNone, KeepsListings, MeansBytes, MeansFault, ModesAreWays, NeedsMode, StandsAtItsBytes, TakesModes, WaysAreModes};
 
 /// The ways to code an operand are the modes that are written like it, after `a:` only the absolute
 /// one, and each way is as long as its mode.
@@ -41,4 +41,11 @@ pub fn means_its_lines()
 /// The fault of a text is that of the first line that has one.
 pub fn means_first_fault()
     ensures { MeansFault }
+{}
+
+/// A text that assembles in the language of listings assembles to the same bytes in that of repairs, from the same start and with the same
+/// segments.
+#[tactic(auto, using(crate::proofs::RepairLaw::keeps_listings))]
+pub fn keeps_listings()
+    ensures { KeepsListings }
 {}

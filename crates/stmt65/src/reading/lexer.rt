@@ -120,7 +120,7 @@ fn alone_at(language: Language, bytes: &[u8]) -> (Part<'_>, usize)
 
 /// The part that begins with the first byte, and how many of the bytes after it belong to it.
 #[tactic(auto, unfolding(crate::specs::Lexing::part_at))]
-fn part_at(language: Language, bytes: &[u8]) -> (Part<'_>, usize)
+pub fn part_at(language: Language, bytes: &[u8]) -> (Part<'_>, usize)
     requires { 0 < length bytes.now }
     ensures part { part_of result.0 ≡ (cut_by (part_at language) bytes.now).0 }
     ensures more { result.1 ≡ (cut_by (part_at language) bytes.now).1 }

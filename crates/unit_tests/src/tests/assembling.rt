@@ -309,7 +309,7 @@ fn lines_of_many_operands(rt: HostRuntime) {
     }
 }
 
-/// The texts of all faults.
+/// The texts of all faults, by their numbers from 1.
 const TEXTS: &[(AsmFaultKind, &str)] = &[
     (AsmFaultKind::Syntax, "1: syntax error"),
     (AsmFaultKind::UnknownCpu, "1: unknown CPU"),
@@ -317,16 +317,17 @@ const TEXTS: &[(AsmFaultKind, &str)] = &[
     (AsmFaultKind::Undefined, "1: undefined name"),
     (AsmFaultKind::DefinedTwice, "1: name defined twice"),
     (AsmFaultKind::OutOfRange, "1: value out of range"),
-    (AsmFaultKind::PastStart, "1: segment past its start"),
     (
         AsmFaultKind::PastEnd,
         "1: past the end of the address space",
     ),
     (AsmFaultKind::Memory, "1: out of memory"),
+    (AsmFaultKind::PastStart, "1: segment past its start"),
 ];
 
 #[test]
-fn texts_of_faults(rt: HostRuntime) {
+fn texts_and_numbers_of_faults(rt: HostRuntime) {
+    let mut number: u8 = 0;
     for (kind, text) in TEXTS {
         let fault = AsmFault {
             line: 1,
@@ -334,6 +335,8 @@ fn texts_of_faults(rt: HostRuntime) {
         };
         let shown = format!(in rt.alloc(); "{fault}").expect(&rt, "format");
         assert_equal(&rt, &shown.as_str(), text);
+        number = number.saturating_add(1);
+        assert_equal_at(&rt, &(*kind as u8), &number, text);
     }
 }
 

@@ -1,0 +1,126 @@
+-- Where the parts of a line stand.
+use Rattle.std.proofs.Common.{◌≡◌, ◌≢◌, ℕ, zero, suc, Bool, true, false, ◌+◌, ◌-◌, ◌<◌, List, [], ◌∷◌, ◌++◌, length, take, drop, get_or, eqb, refl, sym, ap, ◌∙◌, arith, add-one}
+use Rattle.std.specs.Prelude.{◌&&◌, ◌==◌, nat_lt}
+use Rattle.std.specs.List.{prefix_len}
+use Rattle.std.specs.Char.{is_ascii_digit}
+use Rattle.std.proofs.lemmas.Bool.{and_parts, eqb-true}
+use Rattle.std.proofs.lemmas.List.{drop-drop, length-drop, take_rest}
+use Rattle.text65.specs.Names.{is_blank}
+use Rattle.stmt65.specs.Signs.{apostrophe, colon, dollar, equals, percent, quote}
+use Rattle.stmt65.specs.Words.{Language, Listing, Part, Repair, alone_at, begins_with, hex_len, is_binary_digit, is_character, is_text_byte, is_word_start, part_at, part_text, parts}
+use Rattle.stmt65.proofs.Cases.{by_test}
+use Rattle.stmt65.proofs.PartLemmas.{parts_blank, parts_here}
+
+one_more : (b n : ℕ) (bs : List ℕ) → drop (1 + n) (b ∷ bs) ≡ drop n bs
+one_more b n bs = let e : 1 + n ≡ suc n = omega arith in rw e refl
+
+after_blank : (b : ℕ) (bs : List ℕ) → is_blank b ≡ true → drop (prefix_len is_blank (b ∷ bs)) (b ∷ bs) ≡ drop (prefix_len is_blank bs) bs
+after_blank b bs e = rw e (one_more b (prefix_len is_blank bs) bs)
+
+-- blanks at the beginning are no parts
+pub parts_begin : (l : Language) (bs : List ℕ) → parts l (drop (prefix_len is_blank bs) bs) ≡ parts l bs
+parts_begin l [] = refl
+parts_begin l (b ∷ bs) = by_test (is_blank b) (λ e. ap (parts l) (after_blank b bs e) ∙ parts_begin l bs ∙ sym (parts_blank l b bs e)) (λ e. rw e refl)
+
+-- what follows them is none
+pub no_blank : (bs : List ℕ) → 0 < length (drop (prefix_len is_blank bs) bs) → is_blank (get_or (drop (prefix_len is_blank bs) bs) 0 0) ≡ false
+no_blank [] lt = absurd (omega arith)
+no_blank (b ∷ bs) lt = by_test (is_blank b) (λ e. let f = after_blank b bs e in rw f (no_blank bs (rw f at lt))) (λ e. rw e e)
+
+-- ---- what a part is written with
+
+take_one : (b n : ℕ) (bs : List ℕ) → b ∷ take n bs ≡ take (n + 1) (b ∷ bs)
+take_one b n bs = rw add-one refl
+
+-- one byte more
+take_next : (c n : ℕ) (bs : List ℕ) → begins_with c (drop n bs) ≡ true → take n bs ++ c ∷ [] ≡ take (n + 1) bs
+take_next c zero [] h = absurd cc
+take_next c (suc n) [] h = absurd cc
+take_next c zero (b ∷ bs) h = ap (λ (x : ℕ). x ∷ []) (sym (eqb-true b c h))
+take_next c (suc n) (b ∷ bs) h = rw add-one (ap (λ (xs : List ℕ). b ∷ xs) (take_next c n bs h ∙ ap (λ (k : ℕ). take k bs) (add-one n)))
+
+define_text : (b : ℕ) (bs : List ℕ) → b ≡ 58 → begins_with 61 bs ≡ true → 58 ∷ 61 ∷ [] ≡ take 2 (b ∷ bs)
+define_text b [] e h = absurd cc
+define_text b (c ∷ bs) e h = rw (e, eqb-true c 61 h) refl
+
+alone_text : (l : Language) (b : ℕ) (bs : List ℕ) → part_text (alone_at l b bs).0 ≡ take ((alone_at l b bs).1 + 1) (b ∷ bs)
+alone_text Listing b bs = refl
+alone_text Repair b bs =
+    by_test ((b == percent) && nat_lt 0 (prefix_len is_binary_digit bs))
+    (λ e. rw e (take_one b (prefix_len is_binary_digit bs) bs))
+    (λ e. rw e (by_test ((b == apostrophe) && is_character bs)
+    (λ c. rw c (take_one b 2 bs))
+    (λ c. rw c refl)))
+
+quoted_text : (b n : ℕ) (bs : List ℕ) → b ≡ 34 → begins_with 34 (drop n bs) ≡ true → 34 ∷ (take n bs ++ 34 ∷ []) ≡ take ((n + 1) + 1) (b ∷ bs)
+quoted_text b n bs e h = ap (λ (xs : List ℕ). 34 ∷ xs) (take_next 34 n bs h) ∙ rw e (take_one 34 (n + 1) bs)
+
+pub text_at : (l : Language) (b : ℕ) (bs : List ℕ) → part_text (part_at l b bs).0 ≡ take ((part_at l b bs).1 + 1) (b ∷ bs)
+unfolding part_at
+text_at l b bs =
+    by_test (is_word_start b)
+    (λ e. rw e (take_one b _ bs))
+    (λ e. rw e (by_test (is_ascii_digit b)
+    (λ d. rw d (take_one b _ bs))
+    (λ d. rw d (by_test ((b == dollar) && nat_lt 0 (hex_len bs))
+    (λ x. rw x (take_one b (hex_len bs) bs))
+    (λ x. rw x (by_test ((b == quote) && begins_with quote (drop (prefix_len is_text_byte bs) bs))
+    (λ q. let two = and_parts (b == quote) (begins_with quote (drop (prefix_len is_text_byte bs) bs)) q in
+    rw q (quoted_text b (prefix_len is_text_byte bs) bs (eqb-true b quote two.0) two.1))
+    (λ q. rw q (by_test ((b == colon) && begins_with equals bs)
+    (λ c. let two = and_parts (b == colon) (begins_with equals bs) c in
+    rw c (define_text b bs (eqb-true b colon two.0) two.1))
+    (λ c. rw c (alone_text l b bs))))))))))
+
+-- ---- the same for a slice, and for a line and its places
+
+pub part_text_here : (l : Language) (bytes : List ℕ) (p : Part) (more : ℕ) → 0 < length bytes → p ≡ (part_at l (get_or bytes 0 0) (drop 1 bytes)).0 → more ≡ (part_at l (get_or bytes 0 0) (drop 1 bytes)).1 → part_text p ≡ take (more + 1) bytes
+part_text_here l [] p more lt e f = absurd (omega arith)
+part_text_here l (b ∷ bs) p more lt e f = rw (e, f) (text_at l b bs)
+
+-- the part with which a slice begins
+pub part_step : (l : Language) (bytes : List ℕ) (p : Part) (more : ℕ) → 0 < length bytes → (0 < length bytes → is_blank (get_or bytes 0 0) ≡ false) → get_or bytes 0 0 ≢ 59
+    → p ≡ (part_at l (get_or bytes 0 0) (drop 1 bytes)).0 → more ≡ (part_at l (get_or bytes 0 0) (drop 1 bytes)).1 → parts l bytes ≡ p ∷ parts l (drop (more + 1) bytes)
+part_step l bytes p more lt blank remark e f = rw (e, f) (parts_here l bytes lt (blank lt) remark)
+
+pub ruleset parts_of_slices = (part_text_here, part_step)
+
+rest_after : (line : List ℕ) (at n : ℕ) → drop (at + n) line ≡ drop n (drop at line)
+rest_after line at n = sym (drop-drop n at line)
+
+pub begin_parts : (l : Language) (line : List ℕ) (at n : ℕ) → n ≡ prefix_len is_blank (take (length line - at) (drop at line)) → parts l (drop (at + n) line) ≡ parts l (drop at line)
+begin_parts l line at n e = let e' = rw take_rest at e in rw (rest_after line at n, e') (parts_begin l (drop at line))
+
+pub begin_stop : (line : List ℕ) (at n : ℕ) → n ≡ prefix_len is_blank (take (length line - at) (drop at line)) → at + n < length line → is_blank (get_or (drop (at + n) line) 0 0) ≡ false
+begin_stop line at n e lt =
+    let e' = rw take_rest at e in
+    let same : drop (at + n) line ≡ drop (prefix_len is_blank (drop at line)) (drop at line) = rest_after line at n ∙ ap (λ (k : ℕ). drop k (drop at line)) e' in
+    let some : 0 < length (drop (at + n) line) = omega (arith, length-drop (at + n) line, lt) in
+    rw same (no_blank (drop at line) (rw same at some))
+
+pub ruleset begins = (begin_parts, begin_stop)
+
+-- the place of a part that begins at a place of a line
+pub place_text : (line : List ℕ) (from len : ℕ) (text : List ℕ) → text ≡ take len (take (length line - from) (drop from line)) → take ((from + len) - from) (drop from line) ≡ text
+place_text line from len text e =
+    let e' = rw take_rest at e in
+    let same : (from + len) - from ≡ len = omega arith in
+    rw (same, e') refl
+
+pub place_next : (l : Language) (line : List ℕ) (from len : ℕ) (p : Part) (old : List Part) → parts l (drop from line) ≡ old
+    → parts l (take (length line - from) (drop from line)) ≡ p ∷ parts l (drop len (take (length line - from) (drop from line))) → old ≡ p ∷ parts l (drop (from + len) line)
+place_next l line from len p old e h =
+    let h' = rw take_rest at h in
+    sym e ∙ h' ∙ rw (rest_after line from len) refl
+
+pub place_end : (l : Language) (line : List ℕ) (from : ℕ) (old : List Part) → parts l (drop from line) ≡ old → parts l (take (length line - from) (drop from line)) ≡ [] → old ≡ []
+place_end l line from old e h =
+    let h' = rw take_rest at h in
+    sym e ∙ h'
+
+pub place_stop : (line : List ℕ) (from : ℕ) → (from < length line → is_blank (get_or (drop from line) 0 0) ≡ false) → 0 < length (take (length line - from) (drop from line)) → is_blank (get_or (take (length line - from) (drop from line)) 0 0) ≡ false
+place_stop line from stop some =
+    let some' = rw take_rest at some in
+    rw take_rest (stop (omega (arith, length-drop from line, some')))
+
+pub ruleset places = (place_text, place_next, place_end, place_stop)

@@ -1,0 +1,328 @@
+//! Where the parts of a line stand.
+
+ghost use Rattle.std.specs.Prelude.{◌≡◌, ◌<◌, ◌≤◌, [], ◌∷◌, MatchOption, IfSome, drop, false, get_or, length, take};
+ghost use Rattle.std.specs.List.{prefix_len};
+ghost use Rattle.text65.specs.Names.{is_blank};
+ghost use Rattle.stmt65.specs.Words.{Gives, GoesOver, IsAmong, IsRemarkOf, ReadsAs, StandsIn, bytes_in, datum_of, part_of, part_text, parts, parts_left, value_alone, value_of};
+
+use crate::language::Language;
+use crate::reading::expressions::next_value;
+use crate::reading::lexer::{Part, part_at};
+use crate::reading::names::is_name;
+use crate::reading::parts::Parts;
+use crate::source_line::{Datum, Half, Value};
+use std::marker::Model;
+use text65::is_blank;
+
+/// From which byte of a line to before which one something stands.
+#[derive(Clone, Copy, Debug, PartialEq, Eq)]
+pub struct Span {
+    pub from: usize,
+    pub to: usize,
+}
+
+/// A part of a line, and where it stands.
+#[derive(Clone, Copy)]
+pub struct Place<'a> {
+    pub part: Part<'a>,
+    pub span: Span,
+}
+
+/// An operand of a line: a string, or an expression and which half of it is meant, and where it stands. The place of an expression
+/// has no `<`, `>` and no parentheses.
+#[derive(Clone, Copy)]
+pub struct Operand<'a> {
+    /// A string, an expression, or the half of one. A number is an expression.
+    pub datum: Datum<'a>,
+    pub span: Span,
+}
+
+/// What stands before the operands of a line: the name before `:`, `:=` or `=`, and the mnemonic or directive.
+#[derive(Clone, Copy)]
+pub struct Head<'a> {
+    pub name: Option<Place<'a>>,
+    pub operation: Option<Place<'a>>,
+}
+
+/// Goes over the parts of a line.
+#[derive(Drop)]
+pub struct Places<'a> {
+    language: Language,
+    line: &'a [u8],
+    at: usize,
+}
+
+impl<'a> Model for Places<'a> {
+    ghost use Rattle.std.specs.Prelude.{◌≤◌, length};
+    ghost use Rattle.stmt65.specs.Places.{PlacesView};
+
+    ghost Value = { PlacesView };
+
+    ghost view = { λ p. record { language = p.language; line = p.line.now; at = p.at } };
+
+    ghost invariant = { λ p. p.at ≤ length p.line.now };
+}
+
+/// How many blanks are at the beginning of a line.
+fn blank_len(bytes: &[u8]) -> usize
+    ensures value { result ≡ prefix_len is_blank bytes.now }
+    ensures fits { result ≤ length bytes.now }
+{
+    bytes.iter().take_while(|byte| is_blank(**byte)).count()
+}
+
+/// The part with which the bytes begin, and how many of them it has. They begin with no blank.
+#[tactic(auto, using(crate::proofs::PartLemmas::lexing, crate::proofs::PlaceLemmas::parts_of_slices))]
+fn part_here(language: Language, bytes: &[u8]) -> Option<(Part<'_>, usize)>
+    requires stop { 0 < length bytes.now → is_blank (get_or bytes.now 0 0) ≡ false }
+    ensures parts { MatchOption result (parts language bytes.now ≡ [])
+        (λ f. parts language bytes.now ≡ part_of f.0 ∷ parts language (drop f.1 bytes.now)) }
+    ensures text { IfSome result (λ f. part_text (part_of f.0) ≡ take f.1 bytes.now) }
+    ensures fits { IfSome result (λ f. f.1 ≤ length bytes.now) }
+{
+    match bytes {
+        [] => None,
+        [first, ..] => {
+            if *first == b';' {
+                return None;
+            }
+            let (part, more) = part_at(language, bytes);
+            Some((part, more + 1))
+        }
+    }
+}
+
+/// The expression that the bytes are, if they are one and nothing else.
+pub fn read_value<'a>(language: Language, bytes: &'a [u8]) -> Option<Value<'a>>
+    ensures { Gives value_of result (value_alone language (parts language bytes.now)) }
+{
+    let mut parts = Parts::new(language, bytes);
+    let value = next_value(language, &mut parts)?;
+    if parts.is_done() { Some(value) } else { None }
+}
+
+impl<'a> Places<'a> {
+    /// Over a whole line, without its line feed, in a language.
+    pub fn new(language: Language, line: &'a [u8]) -> Self
+        ensures { result ≡ record { language = language; line = line.now; at = 0 } }
+    {
+        Places {
+            language,
+            line,
+            at: 0,
+        }
+    }
+
+    /// The same places.
+    pub fn copied(&self) -> Self
+        ensures { result ≡ self.now }
+    {
+        Places {
+            language: self.language,
+            line: self.line,
+            at: self.at,
+        }
+    }
+
+    /// Where the last part ends that was passed over; 0 if none was.
+    pub fn end(&self) -> usize
+        ensures { result ≡ self.now.at }
+    {
+        self.at
+    }
+
+    /// Where the next part begins, or the remark or the end of the line.
+    #[tactic(auto, using(crate::proofs::PlaceLemmas::begins))]
+    fn begin(&self) -> usize
+        ensures parts { parts self.now.language (drop result self.now.line) ≡ parts_left self.now }
+        ensures stop { result < length self.now.line
+            → is_blank (get_or (drop result self.now.line) 0 0) ≡ false }
+        ensures on { self.now.at ≤ result }
+        ensures fits { result ≤ length self.now.line }
+    {
+        self.at + blank_len(&self.line[self.at..])
+    }
+
+    /// The next part, and where it stands. At the end the answer is `None`, again and again.
+    #[tactic(auto, using(crate::proofs::PlaceLemmas::places))]
+    pub fn next(&mut self) -> Option<Place<'a>>
+        ensures over { GoesOver self.old self.new }
+        ensures parts { MatchOption result (parts_left self.old ≡ [])
+            (λ p. parts_left self.old ≡ part_of p.part ∷ parts_left self.new) }
+        ensures text { IfSome result (StandsIn self.old.line) }
+        ensures among { IfSome result (λ p. IsAmong p.span self.old self.new) }
+    {
+        let from = self.begin();
+        let (part, len) = part_here(self.language, &self.line[from..])?;
+        let to = from + len;
+        self.at = to;
+        Some(Place {
+            part,
+            span: Span { from, to },
+        })
+    }
+
+    /// The next part and where it stands, if it is a word.
+    fn word(&mut self) -> Option<Place<'a>>
+        ensures over { GoesOver self.old self.new }
+        ensures text { IfSome result (StandsIn self.old.line) }
+    {
+        let place = self.next()?;
+        match place.part {
+            Part::Word(_) => Some(place),
+            _ => None,
+        }
+    }
+
+    /// What stands before the operands.
+    pub fn head(&mut self) -> Head<'a>
+        ensures over { GoesOver self.old self.new }
+        ensures name { IfSome result.name (StandsIn self.old.line) }
+        ensures operation { IfSome result.operation (StandsIn self.old.line) }
+    {
+        let first = self.word();
+        let mut ahead = self.copied();
+        match ahead.next() {
+            Some(
+                Place {
+                    part: Part::Mark(b':'),
+                    ..
+                },
+            ) => {
+                let operation = ahead.word();
+                *self = ahead;
+                Head {
+                    name: first,
+                    operation,
+                }
+            }
+            Some(
+                Place {
+                    part: Part::Define | Part::Mark(b'='),
+                    ..
+                },
+            ) => {
+                *self = ahead;
+                Head {
+                    name: first,
+                    operation: None,
+                }
+            }
+            _ => Head {
+                name: None,
+                operation: first,
+            },
+        }
+    }
+
+    /// Passes over what is added and subtracted after the first part of an expression, and returns where the expression ends.
+    fn pass_terms(&mut self, to: usize) -> usize {
+        let mut to = to;
+        for _ in 0..self.line.len() {
+            let mut ahead = self.copied();
+            match (ahead.next(), ahead.next()) {
+                (
+                    Some(
+                        Place {
+                            part: Part::Mark(b'+' | b'-'),
+                            ..
+                        },
+                    ),
+                    Some(
+                        Place {
+                            part: Part::Number(_) | Part::Word(_),
+                            span,
+                        },
+                    ),
+                ) => {
+                    to = span.to;
+                    *self = ahead;
+                }
+                _ => break,
+            }
+        }
+        to
+    }
+
+    /// The next operand, and where it stands. Marks and words that are no names are passed over.
+    pub fn operand(&mut self) -> Option<Operand<'a>>
+        ensures { IfSome result (λ o.
+            ReadsAs self.old.language (bytes_in o.span self.old.line) (datum_of o.datum)) }
+    {
+        let (language, line) = (self.language, self.line);
+        let mut half = None;
+        'parts: for _ in 0..=line.len() {
+            let Place { part, span } = self.next()?;
+            match part {
+                Part::Text(text) => {
+                    let datum = Datum::String(text);
+                    return Some(Operand { datum, span });
+                }
+                Part::Number(_) => {}
+                Part::Word(word) if is_name(word) => {}
+                part => {
+                    half = half_after(half, part);
+                    continue;
+                }
+            }
+            let to = self.pass_terms(span.to);
+            return operand_at(
+                language,
+                line,
+                half,
+                Span {
+                    from: span.from,
+                    to,
+                },
+            );
+        }
+        None
+    }
+
+    /// Where the remark after all parts stands, with its `;`.
+    pub fn remark(&mut self) -> Option<Span>
+        ensures { IfSome result (IsRemarkOf self.old.line) }
+    {
+        let line = self.line;
+        for _ in 0..=line.len() {
+            if self.next().is_none() {
+                break;
+            }
+        }
+        let from = self.begin();
+        match line.get(from) {
+            Some(b';') => Some(Span {
+                from,
+                to: line.len(),
+            }),
+            _ => None,
+        }
+    }
+}
+
+/// Which half is meant by what stands before an expression.
+fn half_after(half: Option<Half>, part: Part<'_>) -> Option<Half> {
+    match part {
+        Part::Mark(b'<') => Some(Half::Low),
+        Part::Mark(b'>') => Some(Half::High),
+        Part::Mark(b'(') => half,
+        _ => None,
+    }
+}
+
+/// An expression that stands at a place of a line, or half of it.
+fn operand_at<'a>(
+    language: Language,
+    line: &'a [u8],
+    half: Option<Half>,
+    span: Span,
+) -> Option<Operand<'a>>
+    ensures { IfSome result (λ o. ReadsAs language (bytes_in o.span line.now) (datum_of o.datum)) }
+{
+    let value = read_value(language, line.get(span.from..span.to)?)?;
+    let datum = match half {
+        None => Datum::Value(value),
+        Some(half) => Datum::Half(half, value),
+    };
+    Some(Operand { datum, span })
+}
