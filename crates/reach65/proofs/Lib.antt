@@ -1,4 +1,5 @@
 pub mod FlowLemmas
+pub mod StepsLemmas
 pub mod TableLemmas
 pub mod ReachedLemmas
 pub mod TakenLemmas

@@ -6,7 +6,7 @@ use Rattle.std.proofs.lemmas.Bool.Decides.{nat_tests}
 use Rattle.std.proofs.lemmas.List.{drop_all, drop_more, get_or-replicate, get_or-set_other, get_or-set_same, get_or_past, length-replicate}
 use Rattle.std.proofs.lemmas.Option.{get_or_from_slice_get, slice_get_within}
 use Rattle.map65.specs.Words.{ImageView, byte_at, end_of}
-use Rattle.reach65.specs.Words.{AreEnds, AreFirsts, Enters, Tag, coded, inline_of, is_inline, is_open, is_text, text_end, zero_end}
+use Rattle.reach65.specs.Words.{AreEnds, AreFirsts, Enters, Tag, coded, inline_of, is_inline, is_text, text_end, zero_end}
 
 -- ---- groups
 
@@ -14,12 +14,6 @@ no_inline : (tags : List Tag) (a : ℕ) → list_any is_text tags ≡ false → 
 unfolding inline_of is_inline
 no_inline [] a none = refl
 no_inline (t ∷ tags) a none = grind (arith, (no_inline tags a))
-
--- a group whose text ends with a zero byte is one of those
-pub open_inline : (tags : List Tag) (a : ℕ) (t : Tag) → inline_of tags a ≡ Some t → t.size ≡ None → list_any is_open tags ≡ true
-unfolding inline_of is_inline
-open_inline [] a t is none = cc
-open_inline (u ∷ tags) a t is none = grind (arith, (open_inline tags a t))
 
 pub blank_at : (n k : ℕ) → get_or {A = ℕ} (replicate n 0) k 0 ≡ 0
 blank_at n k =

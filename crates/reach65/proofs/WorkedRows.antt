@@ -2,7 +2,7 @@
 use Rattle.std.proofs.Common.{◌≡◌, ℕ, [], ◌∷◌, arith, inl, inr, refl, subst, sym, ◌⊎◌, ⊎_elim}
 use Rattle.std.proofs.lemmas.List.Elements.{Contains-push, Contains-push_cases}
 use Rattle.map65.specs.Words.{addresses, role_at, role_in, target_of}
-use Rattle.reach65.specs.Words.{LeadsTo, Reached, WorkedCode, end_after, entry, goal_at, goal_of, has_byte, inline_of, instruction_at, is_code, is_given, is_inline, is_taken, led, next_at, text_at, text_end, text_of, zero_end}
+use Rattle.reach65.specs.Words.{LeadsTo, Reached, WorkedCode, end_after, entry, goal_at, goal_of, has_byte, inline_of, instruction_at, is_code, is_given, is_inline, is_taken, led, next_at, text_end, text_of, zero_end}
 use Rattle.reach65.proofs.ReachedLemmas.{reached_inside}
 use Rattle.reach65.specs.Worked.{a_call, a_jump, bytes, flow}
 
@@ -25,7 +25,7 @@ jump-reaches _ (led b a from leads) =
     (jump-reaches b from)
 
 pub worked_code : WorkedCode
-unfolding addresses end_after goal_at goal_of has_byte inline_of instruction_at is_code is_given is_inline is_taken next_at role_at role_in target_of text_at text_end text_of zero_end
+unfolding addresses end_after goal_at goal_of has_byte inline_of instruction_at is_code is_given is_inline is_taken next_at role_at role_in target_of text_end text_of zero_end
 worked_code = record {
   nexts = refl;
   goals = refl;
@@ -35,8 +35,6 @@ worked_code = record {
   texts = refl;
   entry = refl;
   endless = refl;
-  text_addresses = refl;
-  no_text = refl;
   jump = led 0x1000 0x1004 (entry 0x1000 (Contains-push [] 0x1000) refl) (inr refl);
   passed_over = λ reached. ⊎_elim (λ first. omega (arith, first)) (λ last. omega (arith, last)) (jump-reaches 0x1003 reached);
   outside = λ reached. let never = reached_inside (flow (bytes a_call)) (0x2000 ∷ []) 0x2000 reached in cc;

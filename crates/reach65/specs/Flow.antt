@@ -3,7 +3,7 @@
 -- The instruction of an address begins there: the address is code of the image, its opcode is defined, and all its bytes lie in the
 -- image. It leads to the address after it, but for `jmp`, `bra`, `rts`, `rti` and `brk`, and to the target of a relative mode, of `jmp`
 -- or of `jsr` to an absolute address; to each of them only inside the image. A call that text follows leads to the address after the text.
-use Rattle.std.specs.Prelude.{◌≡◌, ◌⊎◌, ℕ, ◌+◌, ◌&&◌, ◌||◌, nat_le, Bool, false, List, if◌then◌else◌, Option, Some, None, option_and_then, is_none, is_some}
+use Rattle.std.specs.Prelude.{◌≡◌, ◌⊎◌, ℕ, ◌+◌, ◌||◌, nat_le, Bool, false, List, if◌then◌else◌, Option, Some, None, option_and_then}
 use denote.Enum.Bare.{sameb}
 use Rattle.isa65.specs.Words.{decoded, len_of, row_of}
 use Rattle.isa65.specs.contracts.mnemonic.Mnemonic as mnemonic
@@ -60,9 +60,13 @@ goal_at m a = goal_by m a (instruction_at m a)
 
 -- ---- what comes after it
 
--- what the information file says of the text behind the instruction, if it calls an address with such a group
+-- what the groups say of the text behind an instruction that goes to this address by its operand, if it calls that
+abbrev pub text_by : List Tag → Mnemonic → Option ℕ → Option Tag
+text_by tags m to = if is m Jsr then option_and_then (inline_of tags) to else None
+
+-- what the information file says of the text behind the instruction
 unfoldable pub text_of : FlowView → ℕ → Op → Option Tag
-text_of f a op = if is op.mnemonic Jsr then option_and_then (inline_of f.tags) (goal_of op.mnemonic op.mode a (bytes_from f.map.image a)) else None
+text_of f a op = text_by f.tags op.mnemonic (goal_of op.mnemonic op.mode a (bytes_from f.map.image a))
 
 abbrev pub end_by : ImageView → ℕ → Option Tag → Option ℕ
 end_by image a None = Some a
@@ -72,9 +76,13 @@ end_by image a (Some t) = text_end image t.size a
 unfoldable pub end_after : FlowView → ℕ → Op → Option ℕ
 end_after f a op = end_by f.map.image (a + len_of op.mode) (text_of f a op)
 
+-- the same, if code goes on there, in the image
+abbrev pub next_by : ImageView → Mnemonic → Option ℕ → Option ℕ
+next_by image m end = if is_last m then None else option_and_then (only_inside image) end
+
 abbrev pub next_of : FlowView → ℕ → Option Op → Option ℕ
 next_of f a None = None
-next_of f a (Some op) = if is_last op.mnemonic then None else option_and_then (only_inside f.map.image) (end_after f a op)
+next_of f a (Some op) = next_by f.map.image op.mnemonic (end_after f a op)
 
 -- the address after the instruction and its text, if it leads there
 unfoldable pub next_at : FlowView → ℕ → Option ℕ
@@ -83,17 +91,3 @@ next_at f a = next_of f a (instruction_at f.map a)
 -- the instruction at the first address leads to the second, in the image
 abbrev pub LeadsTo : FlowView → ℕ → ℕ → Type 0
 LeadsTo f a b = (next_at f a ≡ Some b) ⊎ (goal_at f.map a ≡ Some b)
-
--- ---- texts that end with a zero byte
-
-abbrev pub ends_with_zero : Option Tag → Bool
-ends_with_zero None = false
-ends_with_zero (Some t) = is_none t.size
-
-abbrev pub text_by : FlowView → ℕ → Option Op → Option ℕ
-text_by f a None = None
-text_by f a (Some op) = if ends_with_zero (text_of f a op) && is_some (end_after f a op) then Some (a + len_of op.mode) else None
-
--- the address of the text behind the instruction, if it ends with a zero byte
-unfoldable pub text_at : FlowView → ℕ → Option ℕ
-text_at f a = text_by f a (instruction_at f.map a)

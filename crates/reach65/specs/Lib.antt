@@ -2,6 +2,7 @@
 pub mod Inlines
 pub mod Tables
 pub mod Flow
+pub mod Steps
 pub mod Reached
 pub mod Taken
 pub mod Ranges

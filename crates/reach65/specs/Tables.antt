@@ -1,6 +1,5 @@
 -- Tables by which the texts after calls are found: numbers of groups by address, and ends of texts by their first byte.
-use Rattle.std.specs.Prelude.{◌≡◌, ℕ, ◌+◌, ◌-◌, ◌≤◌, ◌==◌, ◌&&◌, Bool, true, List, [], if◌then◌else◌, Option, Some, None, is_none, slice_get, slice_index}
-use Rattle.std.specs.List.{list_any}
+use Rattle.std.specs.Prelude.{◌≡◌, ℕ, ◌+◌, ◌-◌, ◌≤◌, ◌==◌, ◌&&◌, Bool, List, [], if◌then◌else◌, Option, Some, None, slice_get, slice_index}
 use Rattle.map65.specs.Words.{ImageView}
 use Rattle.reach65.specs.Types.{Tag}
 use Rattle.reach65.specs.Inlines.{inline_of, is_inline, is_kind, text_end}
@@ -8,10 +7,6 @@ use Rattle.reach65.specs.Inlines.{inline_of, is_inline, is_kind, text_end}
 -- the group says of some address that text follows its calls
 abbrev pub is_text : Tag → Bool
 is_text t = is_kind t.kind
-
--- and the text ends with a zero byte
-abbrev pub is_open : Tag → Bool
-is_open t = is_kind t.kind && is_none t.size
 
 -- the group of this number, from 1 on, or for 0 the group of the address among the rest
 abbrev pub numbered : List Tag → List Tag → ℕ → ℕ → Option Tag
@@ -34,11 +29,7 @@ coded (Some a) = a + 1
 pub record AreEnds (image : ImageView) (from : ℕ) (ends : List ℕ) : Type 0 where
   pub found : (a : ℕ) → from ≤ a → slice_index ends (a - image.start) ≡ coded (text_end image None a)
 
--- from its start on, if a group needs that
-abbrev pub AreAsked : ImageView → List Tag → List ℕ → Type 0
-AreAsked image tags ends = list_any is_open tags ≡ true → AreEnds image image.start ends
-
 -- both tables
 pub record AreTables (image : ImageView) (tags : List Tag) (firsts ends : List ℕ) : Type 0 where
   pub groups : AreFirsts tags [] firsts
-  pub zero_ends : AreAsked image tags ends
+  pub zero_ends : AreEnds image image.start ends

@@ -12,3 +12,4 @@ pub use Rattle.isa65.specs.declared.row.OperandKind.TheVariants.{Word}
 pub use Rattle.isa65.specs.declared.row.Pattern.TheVariants.{Direct}
 pub use Rattle.isa65.specs.declared.row.Row.{Row}
 pub use Rattle.isa65.specs.declared.row.Row.TheVariants.{One}
+pub use Rattle.reach65.specs.declared.steps.Step.{Step}

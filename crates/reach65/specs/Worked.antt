@@ -4,7 +4,7 @@ use Rattle.reach65.specs.Types.{M6502, M65C02, RangeType, Tag}
 use Rattle.info65.specs.declared.information.range.RangeType.TheVariants as role
 use Rattle.info65.specs.declared.tags.tag.TagKind.TheVariants as kind
 use Rattle.map65.specs.Words.{MapView, code_at, map_of}
-use Rattle.reach65.specs.Flow.{FlowView, goal_at, next_at, text_at}
+use Rattle.reach65.specs.Flow.{FlowView, goal_at, next_at}
 use Rattle.reach65.specs.Reached.{Reached}
 use Rattle.reach65.specs.Taken.{is_code, is_taken}
 
@@ -67,10 +67,6 @@ pub record WorkedCode : Type 0 where
   pub entry : next_at (with_groups (record (inline 0x1007 None) { kind = kind.Entry } ∷ []) a_text) 0x1000 ≡ Some 0x1003
   -- a text of a routine outside the image, without a zero byte; one byte of it; more bytes than there are
   pub endless : map (λ s. next_at (with_groups (inline 0x2000 s ∷ []) (0x20 ∷ 0x00 ∷ 0x20 ∷ 0x48 ∷ 0x49 ∷ [])) 0x1000) (None ∷ Some 1 ∷ Some 2 ∷ []) ≡ None ∷ Some 0x1004 ∷ None ∷ []
-  -- a text with a zero byte; one of two bytes; none; a jump is no call
-  pub text_addresses :
-      map (λ t. text_at (with_groups t a_text) 0x1000) ((inline 0x1007 None ∷ []) ∷ (inline 0x1007 (Some 2) ∷ []) ∷ [] ∷ []) ≡ Some 0x1003 ∷ None ∷ None ∷ []
-  pub no_text : text_at (with_groups (inline 0x1005 None ∷ []) (0x4C ∷ 0x05 ∷ 0x10 ∷ 0x48 ∷ 0x00 ∷ 0x60 ∷ [])) 0x1000 ≡ None
   -- the target of a jump is reached, and what it passes over is not
   pub jump : Reached (flow (bytes a_jump)) (0x1000 ∷ []) 0x1004
   pub passed_over : (Reached (flow (bytes a_jump)) (0x1000 ∷ []) 0x1003 → ⊥)

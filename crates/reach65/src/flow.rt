@@ -1,31 +1,30 @@
 //! Where instructions lead.
 
-ghost use Rattle.std.specs.Prelude.{◌≡◌, ◌+◌, ◌≤◌, ◌<◌, length, IfOk, IfSome, None, Some, true};
-ghost use Rattle.std.specs.List.{list_any};
+ghost use Rattle.std.specs.Prelude.{◌≡◌, ◌+◌, ◌≤◌, ◌<◌, length, IfOk, IfSome, None};
 ghost use Rattle.isa65.specs.Words.{len_of, row_len};
-ghost use Rattle.map65.specs.Words.{IsPlaced, byte_at, bytes_from, end_of};
-ghost use Rattle.reach65.specs.Words.{end_after, goal_at, goal_by, goal_of, inline_of, instruction_at, is_last, is_open, next_at, next_of, row_goal, text_by, text_end, text_of};
+ghost use Rattle.map65.specs.Words.{bytes_from, end_of};
+ghost use Rattle.reach65.specs.Words.{end_by, goal_of, inline_of, instruction_at, is_last, row_goal, text_by, text_end};
 
 use crate::inlines::{ends_of, firsts_of};
 use info65::{RangeType, Tag};
 use isa65::{DecodeTable, Mnemonic, Op, OpcodeSet, OperandKind, Pattern, Row};
-use map65::{Image, Map, branch_target, is_jump, only_inside, word_of};
-use std::alloc::{AllocError, Allocator, Global};
+use map65::{Image, Map, branch_target, is_jump, word_of};
+use std::alloc::{AllocError, Global};
 use std::marker::Model;
 
-/// The instructions of a map, and where they lead, with the groups `#: ..` of the information file.
+/// What instructions are read by: a map, and the groups `#: ..` of its information file.
 #[derive(Drop)]
-pub struct Flow<'a, 'm, A: Allocator = Global> {
-    map: &'a Map<'m, A>,
+pub struct Flow<'a, 'm> {
+    map: &'a Map<'m>,
     opcodes: DecodeTable,
     tags: &'a [Tag],
     /// What [`firsts_of`] returns.
-    firsts: Vec<usize, A>,
+    firsts: Vec<usize>,
     /// What [`ends_of`] returns.
-    ends: Vec<u32, A>,
+    ends: Vec<u32>,
 }
 
-impl<'a, 'm, A: Allocator> Model for Flow<'a, 'm, A> {
+impl<'a, 'm> Model for Flow<'a, 'm> {
     ghost use Rattle.std.specs.Prelude.{◌≡◌};
     ghost use Rattle.reach65.specs.Flow.{FlowView};
     ghost use Rattle.reach65.specs.Tables.{AreTables};
@@ -48,36 +47,8 @@ pub fn is_last(mnemonic: Mnemonic) -> bool
         || mnemonic == Mnemonic::Brk
 }
 
-/// The image.
-pub fn image_of<'m, A: Allocator>(flow: &Flow<'_, 'm, A>) -> &'m Image<A>
-    ensures image { result.now ≡ flow.now.map.image }
-    ensures placed { IsPlaced flow.now.map.image }
-{
-    flow.map().image()
-}
-
-/// Where the image begins, and how many bytes it has.
-pub fn start_and_len<A: Allocator>(flow: &Flow<'_, '_, A>) -> (usize, usize)
-    ensures start { result.0 ≡ flow.now.map.image.start }
-    ensures len { result.1 ≡ length flow.now.map.image.bytes }
-    ensures room { result.0 + result.1 ≤ 65536 }
-{
-    let image = image_of(flow);
-    (usize::from(image.start()), image.bytes().len())
-}
-
-/// The byte at an address of the image.
-pub fn byte_at<A: Allocator>(image: &Image<A>, address: usize) -> u8
-    requires low { image.now.start ≤ address }
-    requires high { address < end_of image.now }
-    ensures value { result ≡ byte_at image.now address }
-    ensures fits { address < 65536 }
-{
-    image.bytes()[address - usize::from(image.start())]
-}
-
 /// The bytes of the image from an address of it on.
-pub fn bytes_from<A: Allocator>(image: &Image<A>, address: u16) -> &[u8]
+pub fn bytes_from(image: &Image, address: u16) -> &[u8]
     requires low { image.now.start ≤ address }
     requires high { address < end_of image.now }
     ensures bytes { result.now ≡ bytes_from image.now address }
@@ -117,17 +88,13 @@ pub fn goal_of(op: Op, address: u16, bytes: &[u8]) -> Option<u16>
     row_goal(op.mnemonic, op.mode.row(), next, bytes)
 }
 
-impl<'a, 'm, A: Allocator + Copy> Flow<'a, 'm, A> {
-    /// The instructions of a map; the groups INLINE among these count. Fails if an allocation fails; without such a group there is none.
-    pub fn new(
-        alloc: A,
-        map: &'a Map<'m, A>,
-        tags: &'a [Tag],
-    ) -> Result<Flow<'a, 'm, A>, AllocError>
+impl<'a, 'm> Flow<'a, 'm> {
+    /// The instructions of a map; the groups INLINE among these count. Fails if an allocation fails.
+    pub fn new(alloc: Global, map: &'a Map<'m>, tags: &'a [Tag]) -> Result<Flow<'a, 'm>, AllocError>
         ensures { IfOk result (λ f. f ≡ record { map = map.now; tags = tags.now }) }
     {
         let firsts = firsts_of(alloc, tags)?;
-        let ends = ends_of(alloc, map.image(), tags)?;
+        let ends = ends_of(alloc, map.image())?;
         Ok(Flow {
             map,
             opcodes: DecodeTable::new(map.info().settings().cpu),
@@ -136,11 +103,9 @@ impl<'a, 'm, A: Allocator + Copy> Flow<'a, 'm, A> {
             ends,
         })
     }
-}
 
-impl<'a, 'm, A: Allocator> Flow<'a, 'm, A> {
     /// Returns the map.
-    pub fn map(&self) -> &'a Map<'m, A>
+    pub fn map(&self) -> &'a Map<'m>
         ensures { result.now ≡ self.now.map }
     {
         self.map
@@ -184,11 +149,10 @@ impl<'a, 'm, A: Allocator> Flow<'a, 'm, A> {
         self.tags.get(number - 1).copied()
     }
 
-    /// The address after the first zero byte of the image from an address on, if a group asks for that.
+    /// The address after the first zero byte of the image from an address on.
     #[tactic(auto, using(crate::proofs::TableLemmas::text_inside))]
     fn zero_end(&self, address: usize) -> Option<usize>
-        requires low { self.now.map.image.start ≤ address }
-        requires asked { list_any is_open self.now.tags ≡ true }
+        requires { self.now.map.image.start ≤ address }
         ensures value { result ≡ text_end self.now.map.image None address }
         ensures below { IfSome result (λ _. address < 65536) }
     {
@@ -200,98 +164,32 @@ impl<'a, 'm, A: Allocator> Flow<'a, 'm, A> {
         Some(end as usize - 1)
     }
 
-    /// What the information file says of the text behind this instruction of the address.
-    #[tactic(auto, unfolding(crate::specs::Flow::text_of))]
-    fn text_of(&self, address: u16, op: Op) -> Option<Tag>
-        requires low { self.now.map.image.start ≤ address }
-        requires high { address < end_of self.now.map.image }
-        requires whole { address + len_of op.mode ≤ end_of self.now.map.image }
-        ensures { result ≡ text_of self.now address op }
+    /// Returns what the information file says of the text behind an instruction that goes to this address by its operand.
+    pub fn text_by(&self, mnemonic: Mnemonic, to: Option<u16>) -> Option<Tag>
+        ensures { result ≡ text_by self.now.tags mnemonic to }
     {
-        if op.mnemonic != Mnemonic::Jsr {
+        if mnemonic != Mnemonic::Jsr {
             return None;
         }
-        if self.tags.is_empty() {
-            return None;
+        self.inline_at(to?)
+    }
+
+    /// Returns the address after the text of this group, if there is one, which stands at the address.
+    #[tactic(auto, unfolding(crate::specs::Inlines::text_end))]
+    pub fn end_by(&self, address: usize, text: Option<Tag>) -> Option<usize>
+        requires low { self.now.map.image.start ≤ address }
+        requires high { address ≤ 65536 }
+        ensures { result ≡ end_by self.now.map.image address text }
+    {
+        match text {
+            None => Some(address),
+            Some(
+                Tag {
+                    size: Some(size),
+                    ..
+                },
+            ) => Some(address + usize::from(size)),
+            Some(_) => self.zero_end(address),
         }
-        let goal = goal_of(op, address, bytes_from(self.map.image(), address))?;
-        self.inline_at(goal)
-    }
-
-    /// The address after this instruction of the address, and after the text behind it.
-    #[tactic(auto, unfolding(crate::specs::Flow::end_after, crate::specs::Inlines::text_end), using(crate::proofs::FlowLemmas::open_text))]
-    pub fn end_after(&self, address: u16, op: Op) -> Option<usize>
-        requires low { self.now.map.image.start ≤ address }
-        requires high { address < end_of self.now.map.image }
-        requires whole { address + len_of op.mode ≤ end_of self.now.map.image }
-        ensures { result ≡ end_after self.now address op }
-    {
-        let end = usize::from(address) + usize::from(op.mode.len());
-        let Some(tag) = self.text_of(address, op) else {
-            return Some(end);
-        };
-        match tag.size {
-            Some(size) => Some(end + usize::from(size)),
-            None => self.zero_end(end),
-        }
-    }
-
-    /// Returns the address after the instruction and its text, if it leads there.
-    #[tactic(auto, unfolding(crate::specs::Flow::next_at))]
-    pub fn next_at(&self, address: u16) -> Option<u16>
-        ensures { result ≡ next_at self.now address }
-    {
-        let op = self.instruction_at(address)?;
-        self.next_of(address, op)
-    }
-
-    /// Returns the address after this instruction of the address and its text, if it leads there.
-    pub fn next_of(&self, address: u16, op: Op) -> Option<u16>
-        requires low { self.now.map.image.start ≤ address }
-        requires high { address < end_of self.now.map.image }
-        requires whole { address + len_of op.mode ≤ end_of self.now.map.image }
-        ensures { result ≡ next_of self.now address (Some op) }
-    {
-        if is_last(op.mnemonic) {
-            return None;
-        }
-        only_inside(self.map.image(), self.end_after(address, op)?)
-    }
-
-    /// Returns the address of the text behind this instruction of the address, if it ends with a zero byte.
-    #[tactic(auto, unfolding(crate::specs::Flow::end_after), using(crate::proofs::FlowLemmas::open_text))]
-    pub fn text_by(&self, address: u16, op: Op) -> Option<u16>
-        requires low { self.now.map.image.start ≤ address }
-        requires high { address < end_of self.now.map.image }
-        requires whole { address + len_of op.mode ≤ end_of self.now.map.image }
-        ensures { result ≡ text_by self.now address (Some op) }
-    {
-        let Some(Tag { size: None, .. }) = self.text_of(address, op) else {
-            return None;
-        };
-        let text = usize::from(address) + usize::from(op.mode.len());
-        self.zero_end(text)?;
-        Some(text as u16)
-    }
-
-    /// Returns the address that the instruction goes to by its operand, if it lies in the image.
-    #[tactic(auto, unfolding(crate::specs::Flow::goal_at))]
-    pub fn goal_at(&self, address: u16) -> Option<u16>
-        ensures { result ≡ goal_at self.now.map address }
-    {
-        let op = self.instruction_at(address)?;
-        self.goal_by(address, op)
-    }
-
-    /// Returns the address that this instruction of the address goes to by its operand, if it lies in the image.
-    pub fn goal_by(&self, address: u16, op: Op) -> Option<u16>
-        requires low { self.now.map.image.start ≤ address }
-        requires high { address < end_of self.now.map.image }
-        requires whole { address + len_of op.mode ≤ end_of self.now.map.image }
-        ensures { result ≡ goal_by self.now.map address (Some op) }
-    {
-        let image = self.map.image();
-        let goal = goal_of(op, address, bytes_from(image, address))?;
-        only_inside(image, usize::from(goal))
     }
 }

@@ -2,11 +2,11 @@
 
 ghost use Rattle.std.specs.Prelude.{◌≡◌, ℕ, IfOk, [], length, slice_index};
 ghost use Rattle.std.specs.List.{list_any};
-ghost use Rattle.reach65.specs.Words.{AreAsked, AreEnds, AreFirsts, Enters, is_open, is_text};
+ghost use Rattle.reach65.specs.Words.{AreEnds, AreFirsts, Enters, is_text};
 
 use info65::{Tag, TagKind};
 use map65::Image;
-use std::alloc::{AllocError, Allocator};
+use std::alloc::{AllocError, Global};
 
 /// The number of addresses.
 const ADDRESSES: usize = 65_536;
@@ -18,13 +18,6 @@ fn is_text(tag: Tag) -> bool
     tag.kind == TagKind::Inline
 }
 
-/// Whether the group says so of text that ends with a zero byte.
-fn is_open(tag: Tag) -> bool
-    ensures { result ≡ is_open tag }
-{
-    is_text(tag) && tag.size.is_none()
-}
-
 /// Whether a group says that text follows each call of an address.
 fn has_text(tags: &[Tag]) -> bool
     ensures { result ≡ list_any is_text tags.now }
@@ -32,16 +25,9 @@ fn has_text(tags: &[Tag]) -> bool
     tags.iter().any(|&tag| is_text(tag))
 }
 
-/// Whether a group says so of text that ends with a zero byte.
-fn has_open(tags: &[Tag]) -> bool
-    ensures { result ≡ list_any is_open tags.now }
-{
-    tags.iter().any(|&tag| is_open(tag))
-}
-
 /// That many zeros.
 #[tactic(auto, using(crate::proofs::TableLemmas::blank_at))]
-fn zeros<A: Allocator>(alloc: A, count: usize) -> Result<Vec<usize, A>, AllocError>
+fn zeros(alloc: Global, count: usize) -> Result<Vec<usize>, AllocError>
     ensures len { IfOk result (λ zeros. length zeros.items ≡ count) }
     ensures blank { IfOk result (λ zeros. (k : ℕ) → slice_index zeros.items k ≡ 0) }
 {
@@ -77,7 +63,7 @@ fn enter_all(firsts: &mut [usize], tags: &[Tag])
 
 /// For each address the number of the first group that says that text follows each call of it, from 1 on, or 0. Empty if no group says so.
 #[tactic(auto, using(crate::proofs::TableLemmas::firsts_none))]
-pub fn firsts_of<A: Allocator>(alloc: A, tags: &[Tag]) -> Result<Vec<usize, A>, AllocError>
+pub fn firsts_of(alloc: Global, tags: &[Tag]) -> Result<Vec<usize>, AllocError>
     ensures { IfOk result (λ firsts. AreFirsts tags.now [] firsts.items) }
 {
     if !has_text(tags) {
@@ -89,7 +75,7 @@ pub fn firsts_of<A: Allocator>(alloc: A, tags: &[Tag]) -> Result<Vec<usize, A>, 
 }
 
 /// Enters for each byte of the image the address after the next zero byte, and one more, or 0 if there is none.
-fn enter_ends<A: Allocator>(ends: &mut [u32], image: &Image<A>)
+fn enter_ends(ends: &mut [u32], image: &Image)
     requires { length ends.old ≡ length image.now.bytes }
     ensures { AreEnds image.now image.now.start ends.new }
 {
@@ -104,17 +90,10 @@ fn enter_ends<A: Allocator>(ends: &mut [u32], image: &Image<A>)
     }
 }
 
-/// For each byte of the image the address after the next zero byte, and one more, or 0 if there is none. Empty if no group needs that.
-pub fn ends_of<A: Allocator, B: Allocator>(
-    alloc: A,
-    image: &Image<B>,
-    tags: &[Tag],
-) -> Result<Vec<u32, A>, AllocError>
-    ensures { IfOk result (λ ends. AreAsked image.now tags.now ends.items) }
+/// For each byte of the image the address after the next zero byte, and one more, or 0 if there is none.
+pub fn ends_of(alloc: Global, image: &Image) -> Result<Vec<u32>, AllocError>
+    ensures { IfOk result (λ ends. AreEnds image.now image.now.start ends.items) }
 {
-    if !has_open(tags) {
-        return Ok(Vec::new(alloc));
-    }
     let mut ends = vec![in alloc; 0u32; image.bytes().len()]?;
     enter_ends(ends.as_mut_slice(), image);
     Ok(ends)

@@ -1,10 +1,14 @@
 //! What guides: which addresses may be code, and what bytes that are no code may be.
 //!
 //! Each module is one rule. A rule may be wrong: what comes of it is checked before it is written, and programs whose truth is known
-//! (`tests/corpus`) say how often it is. `step` says where an instruction leads, `search` tries entries, `growth` lets sound ones join by
+//! (`tests/corpus`) say how often it is. `search` tries entries, `growth` lets sound ones join by
 //! the other rules. `survey` has what reached code does with addresses, and the rest says what the other bytes are.
 
+pub use crate::steps as step;
+
+pub mod bases;
 pub mod bytes;
+pub mod declared;
 pub mod entries;
 pub mod ground;
 pub mod growth;
@@ -16,11 +20,11 @@ pub mod loads;
 pub mod obstacles;
 pub mod orphans;
 pub mod pieces;
+pub mod pointers;
 pub mod readers;
 pub mod rows;
 pub mod search;
 pub mod sound;
-pub mod step;
 pub mod survey;
 pub mod tables;
 pub mod texts;

@@ -5,12 +5,12 @@ ghost use Rattle.std.specs.Option.{option_to_list};
 ghost use Rattle.map65.specs.Words.{is_marked};
 ghost use Rattle.reach65.specs.Words.{AreReached, leads_of};
 
-use crate::flow::{Flow, image_of};
+use crate::steps::Steps;
 use map65::{Marks, is_inside};
-use std::alloc::{AllocError, Allocator};
+use std::alloc::{AllocError, Global};
 
 /// Adds the address, if there is one.
-fn push_some<A: Allocator>(todo: &mut Vec<u16, A>, address: Option<u16>) -> Result<(), AllocError>
+fn push_some(todo: &mut Vec<u16>, address: Option<u16>) -> Result<(), AllocError>
     ensures { OnOk result (todo.new.items ≡ todo.old.items ++ option_to_list address) }
 {
     if let Some(address) = address {
@@ -20,38 +20,29 @@ fn push_some<A: Allocator>(todo: &mut Vec<u16, A>, address: Option<u16>) -> Resu
 }
 
 /// Adds the addresses that the instruction of this one leads to.
-#[tactic(auto, unfolding(crate::specs::Flow::next_at, crate::specs::Flow::goal_at))]
-fn push_leads<A: Allocator, B: Allocator>(
-    todo: &mut Vec<u16, A>,
-    flow: &Flow<'_, '_, B>,
-    address: u16,
-) -> Result<(), AllocError>
-    ensures { OnOk result (todo.new.items ≡ todo.old.items ++ leads_of flow.now address) }
+fn push_leads(todo: &mut Vec<u16>, steps: &Steps<'_, '_>, address: u16) -> Result<(), AllocError>
+    ensures { OnOk result (todo.new.items ≡ todo.old.items ++ leads_of steps.now address) }
 {
-    let Some(op) = flow.instruction_at(address) else {
+    let Some(step) = steps.at(address) else {
         return Ok(());
     };
-    push_some(todo, flow.next_of(address, op))?;
-    push_some(todo, flow.goal_by(address, op))
+    push_some(todo, step.next)?;
+    push_some(todo, step.goal)
 }
 
 /// Returns marks of exactly the addresses that are reached from the entries. Entries outside the image are ignored. Each reached
 /// instruction is decoded once, so the time grows with the number of entries and of reached addresses. Fails only if an allocation fails.
 #[tactic(auto, using(crate::proofs::ReachedLemmas::search_first, crate::proofs::ReachedLemmas::search_skipped, crate::proofs::ReachedLemmas::search_marked, crate::proofs::ReachedLemmas::search_end))]
-pub fn reached<A: Allocator + Copy, B: Allocator>(
-    alloc: A,
-    flow: &Flow<'_, '_, B>,
-    entries: &[u16],
-) -> Result<Marks<A>, AllocError>
-    ensures { IfOk result (λ marks. AreReached flow.now entries.now (is_marked marks)) }
+pub fn reached(alloc: Global, steps: &Steps<'_, '_>, entries: &[u16]) -> Result<Marks, AllocError>
+    ensures { IfOk result (λ marks. AreReached steps.now entries.now (is_marked marks)) }
 {
-    let image = image_of(flow);
+    let image = steps.image();
     let mut marks = Marks::none(alloc)?;
     let mut todo = Vec::from_slice(alloc, entries)?;
     'search: while let Some(address) = todo.pop() {
         if is_inside(image, usize::from(address)) && !marks.get(address) {
             marks.set(address);
-            push_leads(&mut todo, flow, address)?;
+            push_leads(&mut todo, steps, address)?;
         }
     }
     Ok(marks)

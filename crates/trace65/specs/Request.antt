@@ -50,10 +50,6 @@ entries_given (Some text) = entries_in text
 abbrev pub options_with : Option Text → Option Text → Option ℕ → Option Cpu → OptionsView
 options_with info input start cpu = record no_options { info = info; input = input; start = start; cpu = cpu }
 
--- the name of the image, if there is one: `-` is standard input
-abbrev pub image_named : Option Text → Option Text
-image_named name = info_named name
-
 -- standard input would have to be the image and the information file
 abbrev pub is_twice : Option Text → Option Text → Bool
 is_twice info None = false
@@ -66,8 +62,8 @@ files_apart info image asked = if is_twice info image then Err TwoOfStandardInpu
 -- what is to be traced, once the start, the CPU and the entries are known
 abbrev pub traced_with : List Row → Option ℕ → Option Cpu → List ℕ → Result Asked Refusal
 traced_with rows start cpu entries =
-    files_apart (info_named (first_of (codes "info") rows)) (image_named (first_of (codes "image") rows))
-    (AskTrace (options_with (info_named (first_of (codes "info") rows)) (image_named (first_of (codes "image") rows)) start cpu)
+    files_apart (info_named (first_of (codes "info") rows)) (info_named (first_of (codes "image") rows))
+    (AskTrace (options_with (info_named (first_of (codes "info") rows)) (info_named (first_of (codes "image") rows)) start cpu)
     entries (is_set (codes "plain") rows) (is_set (codes "whole") rows) (output_named (first_of (codes "output") rows)))
 
 -- the image that is to be traced, or the first fault in the order of start, CPU and entries

@@ -2,8 +2,9 @@
 
 use info65::{Tag, TagKind};
 use map65::{Image, Marks};
-use reach65::Flow;
+use reach65::rules::bases::{Base, bases_of};
 use reach65::rules::bytes::ends;
+use reach65::rules::declared::{addresses_of, declared_of};
 use reach65::rules::entries::entries_of;
 use reach65::rules::ground::Ground;
 use reach65::rules::growth::{Followed, follow};
@@ -13,8 +14,9 @@ use reach65::rules::labels::labels_of;
 use reach65::rules::loads::mark_loaded;
 use reach65::rules::obstacles::Stops;
 use reach65::rules::orphans::mark_orphans;
-use reach65::rules::readers::tables_of;
-use reach65::rules::rows::mark_rows;
+use reach65::rules::pointers::mark_pointers;
+use reach65::rules::readers::{Table, tables_of};
+use reach65::rules::rows::{mark_rows, words_of};
 use reach65::rules::step::Steps;
 use reach65::rules::survey::Survey;
 use reach65::rules::tables::{Split, mark_tables};
@@ -40,7 +42,6 @@ pub struct Reach<'a> {
 /// What is found of an image.
 #[derive(Drop)]
 pub struct Advice<'a, 'f, 'm> {
-    pub flow: &'a Flow<'f, 'm>,
     pub steps: &'a Steps<'f, 'm>,
     /// What the ranges of the information file and reached instructions have.
     pub taken: &'a Marks,
@@ -50,12 +51,18 @@ pub struct Advice<'a, 'f, 'm> {
     pub survey: Survey<'a>,
     /// What nothing speaks for, with the words among it.
     pub ground: Ground<'a>,
+    /// Where words begin that may be addresses of routines and names.
+    pub words: Vec<u16>,
     /// The addresses in halves.
     pub pairs: Vec<Pair>,
     /// Those that may be one.
     pub likely: Vec<Pair>,
     /// The tables of halves.
     pub splits: Vec<Split>,
+    /// The halves of the information file.
+    pub declared: Vec<Split>,
+    /// The operands that are likely counted from a table behind them.
+    pub bases: Vec<Base>,
     /// The variables right after the image.
     pub variables: Vec<u16>,
     /// The addresses that get labels.
@@ -81,7 +88,7 @@ pub fn entries(
     given: &[u16],
     plain: bool,
 ) -> Result<Followed, AllocError> {
-    let entries = entries_of(alloc, steps.map(), given, plain)?;
+    let entries = entries_of(alloc, steps, given, plain)?;
     if plain {
         return Ok(Followed {
             entries,
@@ -110,73 +117,103 @@ fn said_places(alloc: Global, tags: &[Tag]) -> Result<Marks, AllocError> {
     Ok(marks)
 }
 
+/// The addresses that nothing speaks for, with the words and halves of tables among them, and the tables of halves.
+fn ground_of<'a, 'm: 'a>(
+    alloc: Global,
+    steps: &Steps<'_, 'm>,
+    survey: &Survey<'_>,
+    reach: Reach<'a>,
+    said: &Marks,
+    tables: &[Table],
+) -> Result<(Ground<'a>, Vec<Split>), AllocError> {
+    let numbers = said.copy(alloc)?;
+    let texts = survey.texts.copy(alloc)?;
+    let mut ground = Ground::of(alloc, steps.image(), reach.taken, numbers, texts)?;
+    mark_vectors(&mut ground, reach.reached);
+    let splits = mark_tables(alloc, &mut ground, steps, survey, tables)?;
+    Ok((ground, splits))
+}
+
+/// The pairs of halves, whose addresses lie in the image or little behind the last of these variables. None is at a place that `said` has.
+fn pairs_of(
+    alloc: Global,
+    steps: &Steps<'_, '_>,
+    survey: &Survey<'_>,
+    taken: &Marks,
+    said: Marks,
+    variables: &[u16],
+) -> Result<Halves, AllocError> {
+    let (_, end) = ends(steps.image());
+    let behind = match variables.last() {
+        Some(&last) => usize::from(last),
+        None => end,
+    };
+    let items = items_of(alloc, steps, taken)?;
+    let limit = behind.saturating_add(PAGE);
+    halves_of(alloc, steps, survey, &items, said, limit)
+}
+
+/// Adds the addresses of the tables from which operands are counted, and those in these tables of halves.
+fn put_others(
+    others: &mut Vec<u16>,
+    alloc: Global,
+    image: &Image,
+    bases: &[Base],
+    tables: [&[Split]; 2],
+) -> Result<(), AllocError> {
+    for base in bases {
+        others.push(base.table)?;
+    }
+    for splits in tables {
+        others.extend_from_slice(&addresses_of(alloc, image, splits)?)?;
+    }
+    Ok(())
+}
+
 impl<'a, 'f, 'm: 'a> Advice<'a, 'f, 'm> {
     /// Looks at an image of which this is reached. Fails only if an allocation failed.
     pub fn of(
         alloc: Global,
-        flow: &'a Flow<'f, 'm>,
         steps: &'a Steps<'f, 'm>,
         reach: Reach<'a>,
     ) -> Result<Advice<'a, 'f, 'm>, AllocError> {
-        let Reach {
-            reached,
-            code,
-            taken,
-            stops,
-        } = reach;
-        let image = flow.map().image();
-        let survey = Survey::of(alloc, steps, reached, code)?;
-        let said = said_places(alloc, flow.tags())?;
-        let mut ground = Ground::of(
-            alloc,
-            image,
-            taken,
-            said.copy(alloc)?,
-            survey.texts.copy(alloc)?,
-        )?;
-        mark_vectors(&mut ground, reached);
-        let tables = tables_of(alloc, steps, reached)?;
-        let splits = mark_tables(alloc, &mut ground, &survey, &tables)?;
-        mark_rows(&mut ground, &survey);
-        let variables = variables_of(alloc, flow.map(), &survey)?;
-        let (_, end) = ends(image);
-        let behind = match variables.last() {
-            Some(&last) => usize::from(last),
-            None => end,
-        };
-        let items = items_of(alloc, steps, taken)?;
+        let survey = Survey::of(alloc, steps, reach.reached, reach.code)?;
+        let said = said_places(alloc, steps.tags())?;
+        let tables = tables_of(alloc, steps, reach.reached, reach.code)?;
+        let declared = declared_of(alloc, steps, &tables)?;
+        let (mut ground, splits) = ground_of(alloc, steps, &survey, reach, &said, &tables)?;
+        let words = words_of(alloc, &ground, &survey, steps.map().info())?;
+        mark_rows(&mut ground, &survey, &words);
+        let variables = variables_of(alloc, steps.map(), &survey)?;
         let Halves {
             sure: pairs,
             likely,
-        } = halves_of(
-            alloc,
-            steps,
-            &survey,
-            &items,
-            said,
-            behind.saturating_add(PAGE),
-        )?;
+        } = pairs_of(alloc, steps, &survey, reach.taken, said, &variables)?;
         mark_loaded(&mut ground, steps, &survey);
-        mark_orphans(alloc, &mut ground, &survey, &pairs)?;
+        mark_pointers(&mut ground);
+        mark_orphans(alloc, &mut ground, &survey, &pairs, &words)?;
+        let bases = bases_of(alloc, steps, &survey)?;
         let mut others = Vec::from_slice(alloc, &variables)?;
-        for split in &splits {
-            for index in 0..split.count {
-                if let Some(address) = split.table.entry(image, index) {
-                    others.push(address)?;
-                }
-            }
-        }
-        let labels = labels_of(alloc, flow.map().info(), &pairs, &others)?;
+        put_others(
+            &mut others,
+            alloc,
+            steps.image(),
+            &bases,
+            [&splits, &declared],
+        )?;
+        let labels = labels_of(alloc, steps, &pairs, &others)?;
         Ok(Advice {
-            flow,
             steps,
-            taken,
-            stops,
+            taken: reach.taken,
+            stops: reach.stops,
             survey,
             ground,
+            words,
             pairs,
             likely,
             splits,
+            declared,
+            bases,
             variables,
             labels,
         })
@@ -197,6 +234,6 @@ impl<'a, 'f, 'm: 'a> Advice<'a, 'f, 'm> {
     }
 
     fn image(&self) -> &'a Image {
-        self.flow.map().image()
+        self.steps.image()
     }
 }

@@ -17,8 +17,7 @@ use map65::{Image, Map, Marks};
 use reach65::rules::growth::Followed;
 use reach65::rules::obstacles::Stops;
 use reach65::rules::pieces::Pieces;
-use reach65::rules::step::Steps;
-use reach65::{Flow, code_of, ranges_of, reached, taken_of};
+use reach65::{Steps, code_of, ranges_of, reached, taken_of};
 use std::alloc::{AllocError, Global};
 
 /// An information file, and what it says without its include files.
@@ -97,19 +96,18 @@ fn ranges_by(
 /// Looks at an image of which this is reached. Fails only if an allocation failed.
 fn propose_from<'a, 'f, 'm>(
     alloc: Global,
-    flow: &'a Flow<'f, 'm>,
     steps: &'a Steps<'f, 'm>,
     given: &[u16],
     reach: Reach<'a>,
 ) -> Result<Proposals, AllocError>
     ensures cover { IfOk result (λ p.
-        HaveAllFree flow.entry.now.map.image (is_marked reach.entry.taken.now) p.ranges.items) }
-    ensures inside { IfOk result (λ p. LieIn flow.entry.now.map.image p.ranges.items) }
+        HaveAllFree steps.entry.now.map.image (is_marked reach.entry.taken.now) p.ranges.items) }
+    ensures inside { IfOk result (λ p. LieIn steps.entry.now.map.image p.ranges.items) }
     ensures apart { IfOk result (λ p. AreInOrder p.ranges.items) }
 {
-    let advice = Advice::of(alloc, flow, steps, reach)?;
+    let advice = Advice::of(alloc, steps, reach)?;
     let pieces = Pieces::of(alloc, &advice.ground)?;
-    let ranges = ranges_by(alloc, flow.map().image(), reach.taken, &pieces)?;
+    let ranges = ranges_by(alloc, steps.image(), reach.taken, &pieces)?;
     let mut text = Vec::new(alloc);
     put_text(&mut text, alloc, &advice, given, &ranges)?;
     let labels = Vec::from_slice(alloc, &advice.labels)?;
@@ -123,40 +121,38 @@ fn propose_from<'a, 'f, 'm>(
 /// Looks at an image of which these instructions are reached. Fails only if an allocation failed.
 fn propose<'f, 'm>(
     alloc: Global,
-    flow: &Flow<'f, 'm>,
     steps: &Steps<'f, 'm>,
     given: &[u16],
     reached: &Marks,
     stops: &Stops,
 ) -> Result<Proposals, AllocError>
-    ensures cover { IfOk result (λ p. HaveTheRest flow.now.map reached.now p.ranges.items) }
-    ensures inside { IfOk result (λ p. LieIn flow.now.map.image p.ranges.items) }
+    ensures cover { IfOk result (λ p. HaveTheRest steps.now.map reached.now p.ranges.items) }
+    ensures inside { IfOk result (λ p. LieIn steps.now.map.image p.ranges.items) }
     ensures apart { IfOk result (λ p. AreInOrder p.ranges.items) }
 {
-    let code = code_of(alloc, flow, reached)?;
-    let taken = taken_of(alloc, flow, &code)?;
+    let code = code_of(alloc, steps, reached)?;
+    let taken = taken_of(alloc, steps, &code)?;
     let reach = Reach {
         reached,
         code: &code,
         taken: &taken,
         stops,
     };
-    propose_from(alloc, flow, steps, given, reach)
+    propose_from(alloc, steps, given, reach)
 }
 
 /// Looks at an image. Fails only if an allocation failed.
-fn find(alloc: Global, flow: &Flow<'_, '_>, tracing: &Tracing) -> Result<Findings, AllocError>
-    ensures { IfOk result (AreFindings flow.now tracing.now) }
+fn find(alloc: Global, steps: &Steps<'_, '_>, tracing: &Tracing) -> Result<Findings, AllocError>
+    ensures { IfOk result (AreFindings steps.now tracing.now) }
 {
-    let given = given_entries(alloc, &tracing.entries, flow.tags())?;
-    let steps = Steps::of(alloc, flow)?;
-    let Followed { entries, stops } = all_entries(alloc, &steps, tracing, &given)?;
-    let reached = reached(alloc, flow, &entries)?;
+    let given = given_entries(alloc, &tracing.entries, steps.tags())?;
+    let Followed { entries, stops } = all_entries(alloc, steps, tracing, &given)?;
+    let reached = reached(alloc, steps, &entries)?;
     let Proposals {
         ranges,
         labels,
         text,
-    } = propose(alloc, flow, &steps, &given, &reached, &stops)?;
+    } = propose(alloc, steps, &given, &reached, &stops)?;
     Ok(Findings {
         entries,
         reached,
@@ -192,10 +188,10 @@ fn unshown_with(
     alloc: Global,
     options: &Options,
     file: &InfoFile<'_>,
-    flow: &Flow<'_, '_>,
+    steps: &Steps<'_, '_>,
     found: &Findings,
 ) -> Result<Vec<u16>, Failure>
-    ensures { IfOk result (λ list. IsReadBack options.now file.now flow.now.map found.now list.items) }
+    ensures { IfOk result (λ list. IsReadBack options.now file.now steps.now.map found.now list.items) }
 {
     let mut text = Vec::from_slice(alloc, file.bytes)?;
     text.extend_from_slice(&found.text)?;
@@ -207,8 +203,8 @@ fn unshown_with(
         &found.ranges,
         &found.labels,
     )?;
-    let map = Map::build(alloc, &info, flow.map().image())?;
-    let unshown = unshown_of(alloc, &map, flow, &found.reached)?;
+    let map = Map::build(alloc, &info, steps.image())?;
+    let unshown = unshown_of(alloc, &map, steps, &found.reached)?;
     add_unshown(&mut text, alloc, options, &info, &unshown)?;
     Ok(unshown)
 }
@@ -246,9 +242,9 @@ pub fn report_of(
     ensures accepted { IfOk result (IsAccepted tracing.now.options file.now map.now) }
     ensures written { IfOk result (IsWritten tracing.now.whole file.now) }
 {
-    let flow = Flow::new(alloc, map, file.tags)?;
-    let found = find(alloc, &flow, tracing)?;
-    let unshown = unshown_with(alloc, &tracing.options, file, &flow, &found)?;
+    let steps = Steps::of(alloc, map, file.tags)?;
+    let found = find(alloc, &steps, tracing)?;
+    let unshown = unshown_with(alloc, &tracing.options, file, &steps, &found)?;
     let text = written(alloc, tracing.whole, file, &found, &unshown)?;
     Ok(Report {
         found,

@@ -5,7 +5,7 @@ ghost use Rattle.clap.specs.Words.{found_of, rows_of};
 ghost use Rattle.info65.specs.Words.{name_seen};
 ghost use Rattle.usage65.specs.Requests.{Gives};
 ghost use Rattle.usage65.specs.Words.{text_seen, texts_seen};
-ghost use Rattle.trace65.specs.Words.{asked, asked_in, asked_of, image_named, is_twice, options_with, traced_in};
+ghost use Rattle.trace65.specs.Words.{asked, asked_in, asked_of, is_twice, options_with, traced_in};
 
 use crate::command::this_program;
 use crate::entries::entries_given;
@@ -83,13 +83,6 @@ fn options_with(
     options
 }
 
-/// The name of the image, if there is one. `-` is standard input.
-fn image_named(name: Option<&str>) -> Option<&str>
-    ensures { text_seen result ≡ image_named (text_seen name.entry) }
-{
-    info_named(name)
-}
-
 /// Whether standard input would have to be the image and the information file.
 fn is_twice(info: Option<&str>, image: Option<&str>) -> bool
     ensures { result ≡ is_twice (text_seen info.entry) (text_seen image.entry) }
@@ -109,7 +102,7 @@ fn traced_in(alloc: Global, matches: &ArgMatches) -> Result<Request, RequestFaul
     let cpu = cpu_of(matches, "cpu")?;
     let entries = entries_given(alloc, text_of(matches, "entry"))?;
     let info = info_named(text_of(matches, "info"));
-    let image = image_named(text_of(matches, "image"));
+    let image = info_named(text_of(matches, "image"));
     if is_twice(info, image) {
         return Err(RequestFault::StandardTwice);
     }

@@ -8,6 +8,7 @@ pub mod misplaced;
 pub mod moves;
 pub mod picture;
 pub mod ranges;
+pub mod room;
 pub mod stops;
 pub mod tables;
 
@@ -16,7 +17,7 @@ use info65::RangeSpec;
 use std::alloc::{AllocError, Global};
 
 /// Adds the text: a picture and counts, what is given where it counts for nothing, the ranges, the labels, the lines `#: ..`, and what is only
-/// likely. `given` has the entries of the command line and of the information file. Fails only if an allocation failed.
+/// likely, what keeps bytes from being code, and where there is room. `given` has the entries of the command line and of the information file. Fails only if an allocation failed.
 pub fn put_text(
     out: &mut Vec<u8>,
     alloc: Global,
@@ -25,6 +26,7 @@ pub fn put_text(
     ranges: &[RangeSpec],
 ) -> Result<(), AllocError> {
     picture::put_picture(out, advice)?;
+    picture::put_help(out, advice)?;
     misplaced::put_misplaced(out, advice, given)?;
     ranges::put_ranges(out, advice, ranges)?;
     labels::put_labels(out, &advice.labels)?;
@@ -36,5 +38,6 @@ pub fn put_text(
     likely::put_words(out, advice)?;
     bases::put_bases(out, advice)?;
     calls::put_calls(out, alloc, advice)?;
-    stops::put_stops(out, advice)
+    stops::put_stops(out, advice)?;
+    room::put_room(out, advice, ranges)
 }

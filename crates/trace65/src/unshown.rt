@@ -6,18 +6,18 @@ ghost use Rattle.trace65.specs.Words.{is_unshown, unshown_in, unshown_item, unsh
 
 use files65::put_address;
 use map65::{Map, Marks};
-use reach65::Flow;
+use reach65::Steps;
 use std::alloc::{AllocError, Global};
 
 /// Whether an instruction is reached that begins at the address, and no item of the map begins there that is as long.
 #[tactic(auto, unfolding(crate::specs::Unshown::is_unshown))]
-fn is_unshown(shown: &Map<'_>, flow: &Flow<'_, '_>, reached: &Marks, address: u16) -> bool
-    ensures { result ≡ is_unshown shown.now flow.now.map reached.now address }
+fn is_unshown(shown: &Map<'_>, steps: &Steps<'_, '_>, reached: &Marks, address: u16) -> bool
+    ensures { result ≡ is_unshown shown.now steps.now.map reached.now address }
 {
     if !reached.get(address) {
         return false;
     }
-    match flow.instruction_at(address) {
+    match steps.instruction_at(address) {
         Some(op) => shown.item_len(address) != op.mode.len(),
         None => false,
     }
@@ -29,17 +29,17 @@ fn is_unshown(shown: &Map<'_>, flow: &Flow<'_, '_>, reached: &Marks, address: u1
 pub fn unshown_of(
     alloc: Global,
     shown: &Map<'_>,
-    flow: &Flow<'_, '_>,
+    steps: &Steps<'_, '_>,
     reached: &Marks,
 ) -> Result<Vec<u16>, AllocError>
-    ensures { IfOk result (λ found. found.items ≡ unshown_in shown.now flow.now.map reached.now) }
+    ensures { IfOk result (λ found. found.items ≡ unshown_in shown.now steps.now.map reached.now) }
 {
-    let image = flow.map().image();
+    let image = steps.image();
     let start = usize::from(image.start());
     let mut found = Vec::new(alloc);
     'image: for k in 0..image.bytes().len() {
         let address = (start + k) as u16;
-        if is_unshown(shown, flow, reached, address) {
+        if is_unshown(shown, steps, reached, address) {
             found.push(address)?;
         }
     }

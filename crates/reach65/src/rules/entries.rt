@@ -1,6 +1,9 @@
 //! Where reading begins.
 
 use crate::rules::bytes::{ends, word};
+use crate::rules::growth::LEAST;
+use crate::rules::sound::reads_on;
+use crate::rules::step::Steps;
 use info65::{Entry, RangeType};
 use map65::{Image, Map, return_target};
 use std::alloc::{AllocError, Global};
@@ -42,14 +45,16 @@ pub fn pointers_of(alloc: Global, map: &Map<'_>) -> Result<Vec<u16>, AllocError>
 }
 
 /// Returns where reading begins: what the tables of the information file refer to, if these are followed; the first address of each
-/// range of code; the vectors, if the image has them; without any of these the first address of the image; and the addresses that are
-/// given. Fails only if an allocation failed.
+/// range of code; the vectors, if the image has them; without any of these the first address of the image, but one that reads as no code if
+/// addresses are given; and these. Fails only if an allocation failed.
 pub fn entries_of(
     alloc: Global,
-    map: &Map<'_>,
+    steps: &Steps<'_, '_>,
     given: &[u16],
     with_tables: bool,
 ) -> Result<Vec<u16>, AllocError> {
+    let map = steps.map();
+    let start = map.image().start();
     let mut found = Vec::new(alloc);
     if with_tables {
         found = pointers_of(alloc, map)?;
@@ -66,8 +71,8 @@ pub fn entries_of(
             }
         }
     }
-    if found.is_empty() {
-        found.push(map.image().start())?;
+    if found.is_empty() && (given.is_empty() || reads_on(steps, Some(start), LEAST)) {
+        found.push(start)?;
     }
     found.extend_from_slice(given)?;
     Ok(found)

@@ -1,6 +1,7 @@
 //! Which other addresses join the entries.
 
 use crate::rules::bytes::address;
+use crate::rules::declared::{addresses_of, declared_of};
 use crate::rules::entries::pointers_of;
 use crate::rules::halves::{Pair, is_first, put_pairs_at};
 use crate::rules::jumps::join_jumps;
@@ -16,7 +17,7 @@ use std::alloc::{AllocError, Global};
 pub const IN_TABLE: usize = 3;
 
 /// The least number of instructions of any other sound beginning.
-const LEAST: usize = 4;
+pub const LEAST: usize = 4;
 
 /// How often the image is searched for rows of words. Most images have none that leads on after the first time.
 const SCANS: usize = 8;
@@ -189,31 +190,55 @@ fn grow(alloc: Global, search: &mut Search<'_, '_, '_>, fresh: Vec<u16>) -> Resu
     Ok(())
 }
 
-/// Lets the sound beginnings join to which the entries of tables lead that reached code reads, up to one that leads to no code. Returns what is
-/// reached from them.
+/// Lets the address of an entry of a table join, if it is a sound beginning, which may be an instruction in the operand of a reached `bit`. Adds what
+/// is reached from it to `fresh`. Returns whether code begins there.
+fn join_entry(
+    search: &mut Search<'_, '_, '_>,
+    fresh: &mut Vec<u16>,
+    to: u16,
+    least: usize,
+) -> Result<bool, AllocError> {
+    let least = if search.code.get(to) { 1 } else { least };
+    if search.marks.get(to) {
+        return Ok(true);
+    }
+    let joins = search.join(to, Least::Count(least))?;
+    if joins {
+        fresh.extend_from_slice(search.added.as_slice())?;
+    }
+    Ok(joins)
+}
+
+/// Lets the sound beginnings join to which the entries of tables lead: of a table that reached code reads, up to one that leads to no code, unless
+/// it is whole, and of one that the information file has in halves. Returns what is reached from them.
 fn join_tables(alloc: Global, search: &mut Search<'_, '_, '_>) -> Result<Vec<u16>, AllocError> {
     let mut fresh = Vec::new(alloc);
-    let image = search.steps.image();
-    for &table in &tables_of(alloc, search.steps, &search.marks)? {
+    let steps = search.steps;
+    let tables = tables_of(alloc, steps, &search.marks, &search.code)?;
+    for &table in &tables {
         if !table.is_code {
             continue;
         }
+        let mut is_whole = false;
         for index in 0..table.most() {
             let (low, high) = table.places(index);
-            let Some(to) = table.entry(image, index) else {
+            let Some(to) = table.entry(steps.image(), index) else {
                 break;
             };
             if search.code.get_at(low) || search.code.get_at(high) {
                 break;
             }
-            if search.marks.get(to) {
-                continue;
-            }
-            if !search.join(to, Least::Count(IN_TABLE))? {
+            let joins = join_entry(search, &mut fresh, to, IN_TABLE)?;
+            is_whole = is_whole || !joins && table.is_whole(steps);
+            if !joins && !is_whole {
                 break;
             }
-            fresh.extend_from_slice(search.added.as_slice())?;
         }
+    }
+    let mut declared = declared_of(alloc, steps, &tables)?;
+    declared.retain(|split| split.table.is_code && 1 < split.count);
+    for &to in &addresses_of(alloc, steps.image(), &declared)? {
+        join_entry(search, &mut fresh, to, 1)?;
     }
     Ok(fresh)
 }

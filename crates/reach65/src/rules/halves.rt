@@ -1,15 +1,18 @@
 //! Addresses that code loads in halves.
 
-use crate::rules::bytes::byte;
-use crate::rules::sound::is_overlapped;
+use crate::rules::bytes::address;
+use crate::rules::sound::holder_of;
 use crate::rules::step::{Step, Steps};
 use crate::rules::survey::Survey;
 use isa65::{Mnemonic, Mode, Op};
-use map65::{Image, Marks};
+use map65::Marks;
 use std::alloc::{AllocError, Global};
 
 /// How many instructions may stand between two stores through a pointer.
 const BETWEEN: usize = 8;
+
+/// The rank of bytes that are pushed.
+const PUSHED: u8 = 9;
 
 /// Two immediates that form an address.
 #[derive(Clone, Copy, Debug, PartialEq, Eq)]
@@ -52,14 +55,27 @@ enum Register {
     Y,
 }
 
-/// The register that the instruction loads with an immediate.
-fn loaded(op: Op) -> Option<Register> {
-    match (op.mode, op.mnemonic) {
-        (Mode::Imm, Mnemonic::Lda) => Some(Register::A),
-        (Mode::Imm, Mnemonic::Ldx) => Some(Register::X),
-        (Mode::Imm, Mnemonic::Ldy) => Some(Register::Y),
-        _ => None,
-    }
+/// An immediate that may be half of an address.
+#[derive(Clone, Copy)]
+struct Half {
+    place: u16,
+    byte: u8,
+}
+
+/// An instruction that loads a register with an immediate, and the address after it.
+#[derive(Clone, Copy)]
+struct Load {
+    register: Register,
+    half: Half,
+    end: usize,
+}
+
+/// Two halves of an address.
+#[derive(Clone, Copy)]
+struct Joined {
+    rank: u8,
+    low: Half,
+    high: Half,
 }
 
 /// Returns whether the instruction may be the first of a pair: it loads an immediate, or is `clc`.
@@ -67,135 +83,205 @@ pub fn is_first(op: Op) -> bool {
     op.mode == Mode::Imm || op.mnemonic == Mnemonic::Clc
 }
 
-/// The register that the instruction stores.
-fn stored(op: Op) -> Option<Register> {
-    match op.mnemonic {
-        Mnemonic::Sta => Some(Register::A),
-        Mnemonic::Stx => Some(Register::X),
-        Mnemonic::Sty => Some(Register::Y),
+/// The immediate of the instruction at the address, if it is this one.
+fn half_of(step: &Step, at: usize, mnemonic: Mnemonic) -> Option<Half> {
+    if step.op.mnemonic != mnemonic || step.op.mode != Mode::Imm {
+        return None;
+    }
+    Some(Half {
+        place: address(at.saturating_add(1))?,
+        byte: step.byte?,
+    })
+}
+
+/// The instruction at the address, if it loads a register with an immediate.
+fn load_of(step: &Step, at: usize) -> Option<Load> {
+    if step.op.mode != Mode::Imm {
+        return None;
+    }
+    let register = match step.op.mnemonic {
+        Mnemonic::Lda => Register::A,
+        Mnemonic::Ldx => Register::X,
+        Mnemonic::Ldy => Register::Y,
+        _ => return None,
+    };
+    Some(Load {
+        register,
+        half: half_of(step, at, step.op.mnemonic)?,
+        end: at.saturating_add(step.len()),
+    })
+}
+
+/// The marked instruction of the address, if it loads a register with an immediate.
+fn load_at(steps: &Steps<'_, '_>, marks: &Marks, at: usize) -> Option<Load> {
+    load_of(steps.marked(marks, at)?, at)
+}
+
+/// The address to which the instruction stores the register, if it does.
+fn stored_to(step: &Step, register: Register) -> Option<u16> {
+    let stores = match register {
+        Register::A => Mnemonic::Sta,
+        Register::X => Mnemonic::Stx,
+        Register::Y => Mnemonic::Sty,
+    };
+    if step.op.mnemonic != stores {
+        return None;
+    }
+    match step.op.mode {
+        Mode::Zp => Some(u16::from(step.byte?)),
+        Mode::Abs => step.operand,
         _ => None,
     }
 }
 
-/// The register that the marked instruction of the address loads with an immediate.
-fn load_at(steps: &Steps<'_, '_>, marks: &Marks, at: usize) -> Option<Register> {
-    loaded(steps.marked(marks, at)?.op)
-}
-
-/// The register that the marked instruction of the address stores, the address that it stores it to, and the one after the instruction.
-fn store_at(steps: &Steps<'_, '_>, marks: &Marks, at: usize) -> Option<(Register, usize, usize)> {
-    let step = steps.marked(marks, at)?;
-    let register = stored(step.op)?;
-    let image = steps.image();
-    let low = byte(image, at.saturating_add(1))?;
-    let to = match step.op.mode {
-        Mode::Zp => u16::from(low),
-        Mode::Abs => step.operand?,
-        _ => return None,
-    };
-    Some((register, usize::from(to), at.saturating_add(step.len())))
-}
-
-/// Adds the pair of this rank with its bytes at these places, if they form an address that does not lie before the image.
-fn put_joined(
-    found: &mut Vec<Pair>,
-    image: &Image,
-    rank: u8,
-    low: usize,
-    high: usize,
-) -> Result<(), AllocError> {
-    let (Some(low_byte), Some(high_byte)) = (byte(image, low), byte(image, high)) else {
+/// Adds the pair of these halves, if they form an address that does not lie before the image.
+fn put_joined(found: &mut Vec<Pair>, start: u16, joined: Joined) -> Result<(), AllocError> {
+    let Joined { rank, low, high } = joined;
+    let address = u16::from_le_bytes([low.byte, high.byte]);
+    if address < start {
         return Ok(());
-    };
-    let (Ok(low), Ok(high)) = (u16::try_from(low), u16::try_from(high)) else {
-        return Ok(());
-    };
-    let address = u16::from_le_bytes([low_byte, high_byte]);
-    if image.start() <= address {
-        found.push(Pair {
-            low,
-            high,
-            address,
-            less: 0,
-            rank,
-        })?;
     }
+    found.push(Pair {
+        low: low.place,
+        high: high.place,
+        address,
+        less: u16::from(rank == PUSHED),
+        rank,
+    })?;
     Ok(())
 }
 
-/// The rank of a pair by the registers of its low and its high byte.
-fn rank_of(low: Register, high: Register) -> u8 {
-    match (low, high) {
+/// The halves of two loads, the low one first. Their rank is that of the registers.
+fn loaded(low: Load, high: Load) -> Joined {
+    let rank = match (low.register, high.register) {
         (Register::A, Register::X) => 1,
         (Register::X, Register::Y) => 2,
         (Register::A, Register::Y) => 3,
         (Register::X, Register::A) => 4,
         (Register::Y, Register::A) => 5,
         _ => 6,
+    };
+    Joined {
+        rank,
+        low: low.half,
+        high: high.half,
     }
 }
 
-/// Adds the pair of a load and a store, and the same again of the same register and to a neighbour, of which the first load is at the address.
-fn put_stored(
-    found: &mut Vec<Pair>,
-    steps: &Steps<'_, '_>,
-    marks: &Marks,
-    first: Register,
-    at: usize,
-) -> Result<(), AllocError> {
-    let Some((_, to, then)) = store_at(steps, marks, at.saturating_add(2)) else {
-        return Ok(());
+/// The halves of two loads that are stored to these addresses, if these are neighbours.
+fn neighbours(to: u16, other: u16, one: Load, two: Load) -> Option<Joined> {
+    let (low, high) = if to.checked_add(1) == Some(other) {
+        (one.half, two.half)
+    } else if other.checked_add(1) == Some(to) {
+        (two.half, one.half)
+    } else {
+        return None;
     };
-    let Some((other, other_to, _)) = store_at(steps, marks, then.saturating_add(2)) else {
-        return Ok(());
-    };
-    if other != first || load_at(steps, marks, then) != Some(first) {
-        return Ok(());
-    }
-    let (place, other_place) = (at.saturating_add(1), then.saturating_add(1));
-    if other_to == to.saturating_add(1) {
-        put_joined(found, steps.image(), 0, place, other_place)?;
-    } else if to == other_to.saturating_add(1) {
-        put_joined(found, steps.image(), 0, other_place, place)?;
-    }
-    Ok(())
+    Some(Joined { rank: 0, low, high })
 }
 
-/// Adds the pairs of which the first load is at the address: two loads of different registers, one right behind the other, or one of the other
-/// forms below.
-fn put_loaded(
-    found: &mut Vec<Pair>,
-    steps: &Steps<'_, '_>,
-    marks: &Marks,
-    first: Register,
-    at: usize,
-) -> Result<(), AllocError> {
-    let Some(then) = steps.marked(marks, at.saturating_add(2)) else {
-        return Ok(());
-    };
-    if let Some(second) = loaded(then.op)
-        && first != second
-    {
-        let (one, two) = (at.saturating_add(1), at.saturating_add(3));
-        put_joined(found, steps.image(), rank_of(first, second), one, two)?;
-        put_joined(found, steps.image(), rank_of(second, first), two, one)?;
+/// The halves of two loads of A that these instructions push for `rts`, which leads to one more: the high half comes first.
+fn pushed(then: &Step, last: &Step, one: Load, two: Load) -> Option<Joined> {
+    if one.register != Register::A || last.op.mnemonic != then.op.mnemonic {
+        return None;
     }
-    if stored(then.op) == Some(first) && then.op.mode != Mode::Indy {
-        put_stored(found, steps, marks, first, at)?;
-    }
-    if first == Register::A {
-        match (then.op.mnemonic, then.op.mode) {
-            (Mnemonic::Ldy, Mode::Imm) | (Mnemonic::Sta, Mode::Indy) => {
-                put_by_pointer(found, steps, marks, at)?;
+    Some(Joined {
+        rank: PUSHED,
+        low: two.half,
+        high: one.half,
+    })
+}
+
+/// The halves of two loads of a register that these instructions store to neighbours.
+fn stored(then: &Step, last: &Step, one: Load, two: Load) -> Option<Joined> {
+    let to = stored_to(then, one.register)?;
+    let other = stored_to(last, one.register)?;
+    neighbours(to, other, one, two)
+}
+
+/// The halves of a load and what keeps it, and the same again of the same register.
+fn kept_twice(steps: &Steps<'_, '_>, marks: &Marks, one: Load, then: &Step) -> Option<Joined> {
+    let place = one.end.saturating_add(then.len());
+    match load_at(steps, marks, place) {
+        Some(two) if two.register == one.register => {
+            let last = steps.marked(marks, two.end)?;
+            if then.op.mnemonic == Mnemonic::Pha {
+                pushed(then, last, one, two)
+            } else {
+                stored(then, last, one, two)
             }
-            (Mnemonic::Pha, _) => put_pushed(found, steps, marks, at)?,
+        }
+        _ => None,
+    }
+}
+
+/// The halves that are stored through a pointer: `lda #`, `sta (p),y` at this address, and the same again after one `iny` or `dey`, with other
+/// instructions between them.
+fn stored_twice(steps: &Steps<'_, '_>, marks: &Marks, one: Load, store: usize) -> Option<Joined> {
+    if one.register != Register::A {
+        return None;
+    }
+    let pointer = stored_through(steps, marks, store)?;
+    let mut then = store.saturating_add(2);
+    let mut up = 0u8;
+    let mut down = 0u8;
+    for _ in 0..BETWEEN {
+        let step = steps.marked(marks, then)?;
+        match step.op.mnemonic {
+            Mnemonic::Iny => up = up.saturating_add(1),
+            Mnemonic::Dey => down = down.saturating_add(1),
             _ => {}
         }
+        if let Some(two) = load_of(step, then)
+            && two.register == Register::A
+        {
+            let again = stored_through(steps, marks, two.end)? == pointer;
+            let (low, high) = if again && up == down.saturating_add(1) {
+                (one.half, two.half)
+            } else if again && down == up.saturating_add(1) {
+                (two.half, one.half)
+            } else {
+                return None;
+            };
+            return Some(Joined { rank: 7, low, high });
+        }
+        if step.op.mnemonic == Mnemonic::Jsr || step.next.is_none() {
+            return None;
+        }
+        then = then.saturating_add(step.len());
     }
-    Ok(())
+    None
 }
 
-/// Adds the pairs of which this first instruction begins at the address. Fails only if an allocation failed.
+/// The immediate that the marked instruction of the address adds, if it does.
+fn added_at(steps: &Steps<'_, '_>, marks: &Marks, at: usize) -> Option<Half> {
+    half_of(steps.marked(marks, at)?, at, Mnemonic::Adc)
+}
+
+/// The address after the marked instruction of this one, if it leaves the carry.
+fn behind_move(steps: &Steps<'_, '_>, marks: &Marks, at: usize) -> Option<usize> {
+    match steps.marked(marks, at) {
+        Some(step) if keeps_carry(step.op) => Some(at.saturating_add(step.len())),
+        _ => None,
+    }
+}
+
+/// The halves that are added to a number: `clc`, `adc #`, and `adc #` again, with one instruction between them that takes the low half away,
+/// and one that brings the high half of the number.
+fn added_twice(steps: &Steps<'_, '_>, marks: &Marks, at: usize) -> Option<Joined> {
+    let first = behind_move(steps, marks, at.saturating_add(3))?;
+    let second = behind_move(steps, marks, first)?;
+    match (
+        added_at(steps, marks, at.saturating_add(1)),
+        added_at(steps, marks, second),
+    ) {
+        (Some(low), Some(high)) => Some(Joined { rank: 8, low, high }),
+        _ => None,
+    }
+}
+
+/// Adds the pairs of which this first instruction begins at the address: two loads of different registers, one right behind the other, or one of
+/// the forms above; a `ldy #` may stand before a store through a pointer. Fails only if an allocation failed.
 pub fn put_pairs_at(
     found: &mut Vec<Pair>,
     steps: &Steps<'_, '_>,
@@ -203,132 +289,38 @@ pub fn put_pairs_at(
     step: &Step,
     at: usize,
 ) -> Result<(), AllocError> {
-    if step.op.mnemonic == Mnemonic::Clc {
-        return put_added(found, steps, marks, at);
-    }
-    match loaded(step.op) {
-        Some(first) => put_loaded(found, steps, marks, first, at),
-        None => Ok(()),
-    }
-}
-
-/// Adds the pair that is stored through a pointer, of which the first load is at the address: `lda #`, `sta (p),y`, and the same again after one
-/// `iny` or `dey`, with other instructions between them. A `ldy #` may stand before the first store.
-fn put_by_pointer(
-    found: &mut Vec<Pair>,
-    steps: &Steps<'_, '_>,
-    marks: &Marks,
-    at: usize,
-) -> Result<(), AllocError> {
-    let mut store = at.saturating_add(2);
-    if load_at(steps, marks, store) == Some(Register::Y) {
-        store = store.saturating_add(2);
-    }
-    let Some(pointer) = stored_through(steps, marks, store) else {
+    let start = steps.image().start();
+    let Some(one) = load_of(step, at) else {
+        if step.op.mnemonic == Mnemonic::Clc
+            && let Some(joined) = added_twice(steps, marks, at)
+        {
+            put_joined(found, start, joined)?;
+        }
         return Ok(());
     };
-    let mut then = store.saturating_add(2);
-    let mut up = 0u8;
-    let mut down = 0u8;
-    for _ in 0..BETWEEN {
-        let Some(step) = steps.marked(marks, then) else {
-            return Ok(());
-        };
-        match step.op.mnemonic {
-            Mnemonic::Iny => up = up.saturating_add(1),
-            Mnemonic::Dey => down = down.saturating_add(1),
-            _ => {}
-        }
-        if load_at(steps, marks, then) == Some(Register::A) {
-            let again = stored_through(steps, marks, then.saturating_add(2)) == Some(pointer);
-            let (one, other) = (at.saturating_add(1), then.saturating_add(1));
-            if again && up == down.saturating_add(1) {
-                put_joined(found, steps.image(), 7, one, other)?;
-            } else if again && down == up.saturating_add(1) {
-                put_joined(found, steps.image(), 7, other, one)?;
+    let Some(then) = steps.marked(marks, one.end) else {
+        return Ok(());
+    };
+    let joined = match load_of(then, one.end) {
+        Some(two) => {
+            if one.register != two.register {
+                put_joined(found, start, loaded(one, two))?;
+                put_joined(found, start, loaded(two, one))?;
             }
-            return Ok(());
+            if two.register == Register::Y {
+                stored_twice(steps, marks, one, two.end)
+            } else {
+                None
+            }
         }
-        if step.op.mnemonic == Mnemonic::Jsr || step.next.is_none() {
-            return Ok(());
-        }
-        then = then.saturating_add(step.len());
-    }
-    Ok(())
-}
-
-/// Adds the pair that is added to a number, of which the first half is at the address: `clc`, `adc #`, and `adc #` again, with one instruction
-/// between them that takes the low half away, and one that brings the high half of the number.
-fn put_added(
-    found: &mut Vec<Pair>,
-    steps: &Steps<'_, '_>,
-    marks: &Marks,
-    at: usize,
-) -> Result<(), AllocError> {
-    let place = at.saturating_add(1);
-    if !adds(steps, marks, place) {
-        return Ok(());
-    }
-    let mut then = at.saturating_add(3);
-    for _ in 0..2 {
-        match steps.marked(marks, then) {
-            Some(step) if keeps_carry(step.op) => then = then.saturating_add(step.len()),
-            _ => return Ok(()),
-        }
-    }
-    if adds(steps, marks, then) {
-        put_joined(
-            found,
-            steps.image(),
-            8,
-            place.saturating_add(1),
-            then.saturating_add(1),
-        )?;
-    }
-    Ok(())
-}
-
-/// Whether the marked instruction of the address is this one.
-fn is_at(steps: &Steps<'_, '_>, marks: &Marks, at: usize, mnemonic: Mnemonic) -> bool {
-    match steps.marked(marks, at) {
-        Some(step) => step.op.mnemonic == mnemonic,
-        None => false,
-    }
-}
-
-/// Adds the pair that is pushed for `rts`, high half first, of which the first load is at the address: `lda #`, `pha`, `lda #`, `pha`. The address
-/// is one more.
-fn put_pushed(
-    found: &mut Vec<Pair>,
-    steps: &Steps<'_, '_>,
-    marks: &Marks,
-    at: usize,
-) -> Result<(), AllocError> {
-    let then = at.saturating_add(3);
-    if load_at(steps, marks, then) != Some(Register::A)
-        || !is_at(steps, marks, then.saturating_add(2), Mnemonic::Pha)
-    {
-        return Ok(());
-    }
-    let before = found.len();
-    put_joined(
-        found,
-        steps.image(),
-        9,
-        then.saturating_add(1),
-        at.saturating_add(1),
-    )?;
-    if let Some(pair) = found.get_mut(before) {
-        pair.less = 1;
-    }
-    Ok(())
-}
-
-/// Whether the marked instruction of the address adds an immediate.
-fn adds(steps: &Steps<'_, '_>, marks: &Marks, at: usize) -> bool {
-    match steps.marked(marks, at) {
-        Some(step) => step.op.mnemonic == Mnemonic::Adc && step.op.mode == Mode::Imm,
-        None => false,
+        None => match kept_twice(steps, marks, one, then) {
+            None => stored_twice(steps, marks, one, one.end),
+            joined => joined,
+        },
+    };
+    match joined {
+        Some(joined) => put_joined(found, start, joined),
+        None => Ok(()),
     }
 }
 
@@ -351,7 +343,7 @@ fn keeps_carry(op: Op) -> bool {
 fn stored_through(steps: &Steps<'_, '_>, marks: &Marks, at: usize) -> Option<u8> {
     let step = steps.marked(marks, at)?;
     if step.op.mnemonic == Mnemonic::Sta && step.op.mode == Mode::Indy {
-        byte(steps.image(), at.saturating_add(1))
+        step.byte
     } else {
         None
     }
@@ -363,7 +355,7 @@ fn is_broken(steps: &Steps<'_, '_>, survey: &Survey<'_>, pair: Pair) -> bool {
     let second = pair.low.max(pair.high).saturating_sub(1);
     for at in first..second.saturating_add(1) {
         let inside = at != first && survey.goals.get(at);
-        if survey.reached.get(at) && (inside || is_overlapped(steps, survey.reached, at)) {
+        if survey.reached.get(at) && (inside || holder_of(steps, survey.reached, at).is_some()) {
             return true;
         }
     }
@@ -413,6 +405,16 @@ fn pairs_of(
     Ok(pairs)
 }
 
+/// Keeps the pair, unless another one has one of its bytes.
+fn keep(found: &mut Vec<Pair>, used: &mut Marks, pair: Pair) -> Result<(), AllocError> {
+    if !used.get(pair.low) && !used.get(pair.high) {
+        used.set(pair.low);
+        used.set(pair.high);
+        found.push(pair)?;
+    }
+    Ok(())
+}
+
 /// Returns each pair of immediates in reached code that is an address, by the places of their low bytes: no reached instruction has that
 /// address, or a routine begins there; it lies before `limit`; each byte is in one pair, of two the likelier; and none is at a place that `said`
 /// has. A pair that is not sure, or not in `items`, which are listed, is only likely. Fails only if an allocation failed.
@@ -427,23 +429,17 @@ pub fn halves_of(
     let pairs = pairs_of(alloc, steps, survey, limit)?;
     let mut used = said;
     let mut sure = Vec::new(alloc);
-    let mut likely = Vec::new(alloc);
-    for is_last in [false, true] {
-        for &pair in pairs.as_slice() {
-            if used.get(pair.low)
-                || used.get(pair.high)
-                || is_sure(steps, survey, items, pair) == is_last
-            {
-                continue;
-            }
-            used.set(pair.low);
-            used.set(pair.high);
-            if is_last {
-                likely.push(pair)?;
-            } else {
-                sure.push(pair)?;
-            }
+    let mut others = Vec::new(alloc);
+    for &pair in pairs.as_slice() {
+        if is_sure(steps, survey, items, pair) {
+            keep(&mut sure, &mut used, pair)?;
+        } else {
+            others.push(pair)?;
         }
+    }
+    let mut likely = Vec::new(alloc);
+    for &pair in others.as_slice() {
+        keep(&mut likely, &mut used, pair)?;
     }
     sure.sort_by_key(|pair| pair.low)?;
     likely.sort_by_key(|pair| pair.low)?;

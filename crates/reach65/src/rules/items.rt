@@ -7,10 +7,7 @@ use std::alloc::{AllocError, Global};
 
 /// Whether the address is listed as code, once ranges have what neither the information file nor reached code has.
 fn is_code(map: &Map<'_>, taken: &Marks, at: usize) -> bool {
-    match address(at) {
-        Some(address) => taken.get(address) && map.is_code(address),
-        None => false,
-    }
+    address(at).is_some_and(|address| taken.get(address) && map.is_code(address))
 }
 
 /// Returns marks of where the instructions begin that are listed: each begins where the one before it ends, and neither a range nor a border of a
@@ -27,12 +24,12 @@ pub fn items_of(alloc: Global, steps: &Steps<'_, '_>, taken: &Marks) -> Result<M
     let (start, end) = ends(steps.image());
     let mut next = start;
     for at in start..end {
-        if at < next || !is_code(map, taken, at) {
-            continue;
-        }
         let Some(first) = address(at) else {
             continue;
         };
+        if at < next || !taken.get(first) {
+            continue;
+        }
         let Some(step) = steps.at(first) else {
             continue;
         };

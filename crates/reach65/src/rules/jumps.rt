@@ -54,10 +54,12 @@ fn is_row(search: &mut Search<'_, '_, '_>, from: usize, count: usize) -> Result<
 /// Lets the jumps of rows join, three at least one behind the other, of which three quarters lead to code. Returns what is reached from them.
 pub fn join_jumps(alloc: Global, search: &mut Search<'_, '_, '_>) -> Result<Vec<u16>, AllocError> {
     let mut fresh = Vec::new(alloc);
-    let (start, end) = ends(search.steps.image());
+    let image = search.steps.image();
+    let (start, end) = ends(image);
     let mut behind = start;
-    for from in start..end {
-        if from < behind {
+    for (index, &byte) in image.bytes().iter().enumerate() {
+        let from = start.saturating_add(index);
+        if byte != 0x4C || from < behind {
             continue;
         }
         let count = count_at(search.steps, from, end);

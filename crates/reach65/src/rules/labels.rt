@@ -2,18 +2,28 @@
 
 use crate::rules::bytes::address;
 use crate::rules::halves::Pair;
-use info65::Info;
+use crate::rules::step::Steps;
+use info65::TagKind;
 use std::alloc::{AllocError, Global};
 
-/// Returns the addresses that get labels, in order: those of the pairs, and the others, but for those that a name of the information
-/// file covers. Fails only if an allocation failed.
+/// Returns the addresses that get labels, in order: those of the pairs, the others, and those that groups HALVES and BASE give by themselves, but
+/// for those that a name of the information file covers. Fails only if an allocation failed.
 pub fn labels_of(
     alloc: Global,
-    info: &Info,
+    steps: &Steps<'_, '_>,
     pairs: &[Pair],
     others: &[u16],
 ) -> Result<Vec<u16>, AllocError> {
+    let info = steps.map().info();
     let mut wanted = Vec::from_slice(alloc, others)?;
+    for tag in steps.tags() {
+        match (tag.kind, tag.address, tag.first) {
+            (TagKind::Halves, Some(address), _) | (TagKind::Base, _, Some(address)) => {
+                wanted.push(address)?;
+            }
+            _ => {}
+        }
+    }
     for pair in pairs {
         if let Some(meant) = address(pair.meant()) {
             wanted.push(meant)?;

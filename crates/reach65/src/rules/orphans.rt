@@ -16,7 +16,7 @@ fn set_two(marks: &mut Marks, address: u16) {
     marks.set(address.saturating_add(1));
 }
 
-/// The addresses to which something refers: an operand, a half, a word of a row, or the code before it.
+/// The addresses to which an operand, a half, or a word of a row refers.
 fn referred(
     alloc: Global,
     ground: &Ground<'_>,
@@ -29,36 +29,40 @@ fn referred(
     }
     let (start, end) = ends(ground.image);
     for at in start..end {
-        if let Ok(address) = u16::try_from(at) {
-            if survey.gone_on.get(address) || survey.goals.get(address) {
-                marks.set(address);
-            }
-            if (ground.words.get(address) || ground.returns.get(address))
-                && let Some(word) = word(ground.image, at)
-            {
-                set_two(&mut marks, word);
-            }
+        if (ground.words.get_at(at) || ground.returns.get_at(at))
+            && let Some(word) = word(ground.image, at)
+        {
+            set_two(&mut marks, word);
         }
     }
     Ok(marks)
 }
 
-/// Marks the words of data that are the address of a reached routine to which nothing else refers, where two words at most are it. Fails only if an
-/// allocation failed.
+/// Whether a routine begins at the address to which no code leads.
+fn is_unled(survey: &Survey<'_>, address: u16) -> bool {
+    survey.reached.get(address)
+        && survey.code.get(address)
+        && !survey.gone_on.get(address)
+        && !survey.goals.get(address)
+}
+
+/// Marks the words of data that are the address of a reached routine to which nothing else refers, where two words at most are it. `words` has
+/// where such words may begin. Fails only if an allocation failed.
 pub fn mark_orphans(
     alloc: Global,
     ground: &mut Ground<'_>,
     survey: &Survey<'_>,
     pairs: &[Pair],
+    words: &[u16],
 ) -> Result<(), AllocError> {
     let referred = referred(alloc, ground, survey, pairs)?;
-    let (start, end) = ends(ground.image);
+    let start = ground.image.start();
     let mut found = Vec::new(alloc);
-    for at in start..end {
+    for &first in words {
+        let at = usize::from(first);
         if let Some(word) = ground.word(at)
-            && usize::from(word) != start
-            && survey.reached.get(word)
-            && survey.code.get(word)
+            && word != start
+            && is_unled(survey, word)
             && !referred.get(word)
         {
             found.push((word, at))?;

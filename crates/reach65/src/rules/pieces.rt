@@ -2,7 +2,7 @@
 
 use crate::rules::bytes::{byte, ends};
 use crate::rules::ground::Ground;
-use crate::rules::texts::{Alphabet, Chars};
+use crate::rules::texts::{ALPHABETS, Alphabet, Chars};
 use info65::RangeType;
 use std::alloc::{AllocError, Global};
 
@@ -28,68 +28,27 @@ pub struct Pieces<'g, 'i> {
     begins: Vec<Begins>,
 }
 
-/// The characters of each alphabet from a byte on.
-#[derive(Clone, Copy)]
-struct Tails {
-    ascii: Chars,
-    high: Chars,
-    petscii: Chars,
-}
-
-/// These characters and the byte before them, if that is one, else none.
-fn with(after: Chars, alphabet: Alphabet, byte: u8) -> Chars {
-    if alphabet.is_char(byte) {
-        after.with(alphabet, byte)
-    } else {
-        Chars::none()
-    }
-}
-
-/// How many characters they have, if they are a text, else 0.
-fn text_len(chars: Chars, alphabet: Alphabet) -> u32 {
-    if chars.are_text(alphabet) {
-        chars.count
-    } else {
-        0
-    }
-}
-
-impl Tails {
-    fn none() -> Tails {
-        Tails {
-            ascii: Chars::none(),
-            high: Chars::none(),
-            petscii: Chars::none(),
+/// Adds a byte before the characters of each alphabet that stand behind it. Returns how long the longest text is that begins with it, or 0.
+fn longest_with(tails: &mut [Chars; 3], byte: u8) -> u32 {
+    let mut longest = 0u32;
+    for (chars, &alphabet) in tails.iter_mut().zip(&ALPHABETS) {
+        if alphabet.is_char(byte) {
+            *chars = chars.with(alphabet, byte);
+        } else {
+            *chars = Chars::none();
+        }
+        if chars.are_text(alphabet) {
+            longest = longest.max(chars.count);
         }
     }
-
-    fn with(self, byte: u8) -> Tails {
-        Tails {
-            ascii: with(self.ascii, Alphabet::Ascii, byte),
-            high: with(self.high, Alphabet::High, byte),
-            petscii: with(self.petscii, Alphabet::Petscii, byte),
-        }
-    }
-
-    /// The longest text of them, if there is one.
-    fn longest(self) -> Begins {
-        let ascii = text_len(self.ascii, Alphabet::Ascii);
-        let high = text_len(self.high, Alphabet::High);
-        match ascii
-            .max(high)
-            .max(text_len(self.petscii, Alphabet::Petscii))
-        {
-            0 => Begins::Nothing,
-            count => Begins::Text(count),
-        }
-    }
+    longest
 }
 
 /// What begins at each byte of the image, from the last one to the first.
 fn begins_backward(alloc: Global, ground: &Ground<'_>) -> Result<Vec<Begins>, AllocError> {
     let (start, end) = ends(ground.image);
     let mut found = Vec::new(alloc);
-    let mut tails = Tails::none();
+    let mut tails = [Chars::none(); 3];
     let mut after = None;
     let mut run = 0u32;
     for at in (start..end).rev() {
@@ -105,16 +64,18 @@ fn begins_backward(alloc: Global, ground: &Ground<'_>) -> Result<Vec<Begins>, Al
         };
         after = here;
         let Some(byte) = here else {
-            tails = Tails::none();
+            tails = [Chars::none(); 3];
             found.push(Begins::Nothing)?;
             continue;
         };
         if FILLER <= run {
-            tails = Tails::none();
+            tails = [Chars::none(); 3];
             found.push(Begins::Filler)?;
         } else {
-            tails = tails.with(byte);
-            found.push(tails.longest())?;
+            found.push(match longest_with(&mut tails, byte) {
+                0 => Begins::Nothing,
+                count => Begins::Text(count),
+            })?;
         }
     }
     found.reverse();
@@ -186,17 +147,17 @@ impl<'g, 'i> Pieces<'g, 'i> {
         if ground.texts.get(first) {
             return (RangeType::TextTable, self.known_end(at));
         }
-        if ground.words.get(first) {
-            let end = self.end_of(at, |a| ground.is_free(a) && ground.words.get_at(a));
-            return (RangeType::AddrTable, end);
-        }
-        if ground.returns.get(first) {
-            let end = self.end_of(at, |a| ground.is_free(a) && ground.returns.get_at(a));
-            return (RangeType::RtsTable, end);
-        }
-        if ground.numbers.get(first) {
-            let end = self.end_of(at, |a| ground.is_free(a) && ground.numbers.get_at(a));
-            return (RangeType::ByteTable, end);
+        for (marks, role) in [
+            (&ground.words, RangeType::AddrTable),
+            (&ground.returns, RangeType::RtsTable),
+            (&ground.numbers, RangeType::ByteTable),
+        ] {
+            if marks.get(first) {
+                return (
+                    role,
+                    self.end_of(at, |a| ground.is_free(a) && marks.get_at(a)),
+                );
+            }
         }
         match self.begins_at(at) {
             Begins::Filler => {

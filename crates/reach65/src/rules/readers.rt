@@ -1,6 +1,8 @@
 //! Tables by the instructions that read them.
 
 use crate::rules::bytes::{address, byte, ends};
+use crate::rules::growth::IN_TABLE;
+use crate::rules::sound::reads_on;
 use crate::rules::step::{Step, Steps};
 use isa65::{Mnemonic, Mode};
 use map65::{Image, Marks};
@@ -28,10 +30,10 @@ impl Table {
     /// Returns the places of the low and the high byte of an entry.
     pub fn places(&self, index: usize) -> (usize, usize) {
         let step = if self.has_words() { 2 } else { 1 };
-        let offset = index.min(MOST) * step;
+        let offset = index.saturating_mul(step);
         (
-            usize::from(self.low) + offset,
-            usize::from(self.high) + offset,
+            usize::from(self.low).saturating_add(offset),
+            usize::from(self.high).saturating_add(offset),
         )
     }
 
@@ -50,6 +52,39 @@ impl Table {
         } else {
             apart.min(MOST)
         }
+    }
+
+    /// Returns whether one of two tables of halves begins right behind the other: three quarters of the entries up to there lead to what reads as
+    /// code.
+    pub fn is_whole(&self, steps: &Steps<'_, '_>) -> bool {
+        if !self.is_code || self.has_words() {
+            return false;
+        }
+        let count = self.most();
+        let mut bad = 0usize;
+        for index in 0..count {
+            if !reads_on(steps, self.entry(steps.image(), index), IN_TABLE) {
+                bad = bad.saturating_add(1);
+            }
+            if count / 4 < bad {
+                return false;
+            }
+        }
+        1 < count
+    }
+
+    /// Returns the tables of halves without the entries that code has, if it has the first one: an index may begin at another number than 0.
+    fn behind(self, code: &Marks) -> Table {
+        for index in 0..MOST {
+            let (low, high) = self.places(index);
+            if !code.get_at(low)
+                && !code.get_at(high)
+                && let (Some(low), Some(high)) = (address(low), address(high))
+            {
+                return Table { low, high, ..self };
+            }
+        }
+        self
     }
 }
 
@@ -81,11 +116,13 @@ struct Pointers {
     others: Marks,
 }
 
-/// Finds the pointers of reached code. The operand of a jump or a call is one too: other code may store to it.
+/// Finds the pointers of reached code, and adds where instructions begin that load with an index, or jump through a table. The operand of a jump or a
+/// call is a pointer too: other code may store to it.
 fn pointers_of(
     alloc: Global,
     steps: &Steps<'_, '_>,
     reached: &Marks,
+    readers: &mut Vec<usize>,
 ) -> Result<Pointers, AllocError> {
     let mut pointers = Pointers {
         jumps: Marks::none(alloc)?,
@@ -98,6 +135,7 @@ fn pointers_of(
             continue;
         };
         match (step.op.mode, step.operand) {
+            (Mode::Absx | Mode::Absy | Mode::Absindx, _) => readers.push(at)?,
             (Mode::Ind, Some(pointer)) => pointers.jumps.set(pointer),
             (Mode::Indx | Mode::Indy | Mode::Zpind, _) => {
                 if let Some(pointer) = byte(image, at.saturating_add(1)) {
@@ -113,24 +151,6 @@ fn pointers_of(
         }
     }
     Ok(pointers)
-}
-
-/// Where reached instructions begin that load with an index, or jump through a table.
-fn readers_of(
-    alloc: Global,
-    steps: &Steps<'_, '_>,
-    reached: &Marks,
-) -> Result<Vec<usize>, AllocError> {
-    let mut found = Vec::new(alloc);
-    let (start, end) = ends(steps.image());
-    for at in start..end {
-        if let Some(step) = steps.marked(reached, at)
-            && matches!(step.op.mode, Mode::Absx | Mode::Absy | Mode::Absindx)
-        {
-            found.push(at)?;
-        }
-    }
-    Ok(found)
 }
 
 /// The table that the instructions from the address on read: two loads with an index, each pushed or stored to one byte of a pointer.
@@ -159,52 +179,46 @@ fn table_at(
     let other = indexed(second)?;
     let other_place = then.saturating_add(second.len());
     let keeps_other = steps.marked(reached, other_place)?;
-    if keeps.op.mnemonic == Mnemonic::Pha && keeps_other.op.mnemonic == Mnemonic::Pha {
-        return Some(Table {
-            low: other,
-            high: one,
-            less: 1,
-            is_code: true,
-        });
-    }
-    let to = stored_to(image, keeps, place)?;
-    let other_to = stored_to(image, keeps_other, other_place)?;
-    let pointer = to.min(other_to);
-    if to.max(other_to) - pointer != 1 {
-        return None;
-    }
-    let is_code = pointers.jumps.get(pointer);
-    if !is_code && !pointers.others.get(pointer) {
-        return None;
-    }
-    let (low, high) = if to < other_to {
-        (one, other)
+    let (low, high, less, is_code) = if keeps.op.mnemonic == Mnemonic::Pha
+        && keeps_other.op.mnemonic == Mnemonic::Pha
+    {
+        (other, one, 1, true)
     } else {
-        (other, one)
+        let to = stored_to(image, keeps, place)?;
+        let other_to = stored_to(image, keeps_other, other_place)?;
+        let pointer = to.min(other_to);
+        let jumps = pointers.jumps.get(pointer);
+        if to.max(other_to) - pointer != 1 || !jumps && !pointers.others.get(pointer) {
+            return None;
+        } else if to < other_to {
+            (one, other, 0, jumps)
+        } else {
+            (other, one, 0, jumps)
+        }
     };
     Some(Table {
         low,
         high,
-        less: 0,
+        less,
         is_code,
     })
 }
 
-/// Returns the tables that reached code reads. Fails only if an allocation failed.
+/// Returns the tables that reached code reads, which has these bytes. Fails only if an allocation failed.
 pub fn tables_of(
     alloc: Global,
     steps: &Steps<'_, '_>,
     reached: &Marks,
+    code: &Marks,
 ) -> Result<Vec<Table>, AllocError> {
     let mut found = Vec::new(alloc);
-    let readers = readers_of(alloc, steps, reached)?;
-    if readers.is_empty() {
-        return Ok(found);
-    }
-    let pointers = pointers_of(alloc, steps, reached)?;
+    let mut readers = Vec::new(alloc);
+    let pointers = pointers_of(alloc, steps, reached, &mut readers)?;
     for &at in &readers {
         if let Some(table) = table_at(steps, reached, &pointers, at) {
-            found.push(table)?;
+            let behind = table.behind(code);
+            let is_better = behind.low != table.low && behind.is_whole(steps);
+            found.push(if is_better { behind } else { table })?;
         }
     }
     Ok(found)

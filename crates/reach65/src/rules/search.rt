@@ -1,6 +1,5 @@
 //! The search for code, with trials: an entry joins if all that is reached from it reads as code, else all is as before.
 
-use crate::rules::bytes::{byte, ends, word};
 use crate::rules::obstacles::{Obstacle, obstacle_of};
 use crate::rules::sound::{is_apart, is_fine};
 use crate::rules::step::Steps;
@@ -55,17 +54,17 @@ pub struct Search<'a, 'f, 'm> {
     pub calls: Marks,
 }
 
-/// Marks the addresses of the zero page that instructions store to, if the bytes of the image are instructions.
+/// Marks the addresses that instructions store to, if the bytes of the image are instructions.
 fn stored_marks(alloc: Global, image: &Image) -> Result<Marks, AllocError> {
     let mut marks = Marks::none(alloc)?;
-    let (start, end) = ends(image);
-    for at in start..end {
-        let low = match (byte(image, at), word(image, at.saturating_add(1))) {
-            (Some(0x84..=0x86), Some(operand)) => operand % 256,
-            (Some(0x8C..=0x8E), Some(operand)) => operand,
-            _ => continue,
-        };
-        marks.set(low);
+    let bytes = image.bytes();
+    for last in 2..bytes.len() {
+        let (low, high) = (bytes[last - 1], bytes[last]);
+        match bytes[last - 2] {
+            0x84..=0x86 => marks.set(u16::from(low)),
+            0x8C..=0x8E => marks.set(u16::from_le_bytes([low, high])),
+            _ => {}
+        }
     }
     Ok(marks)
 }
@@ -178,10 +177,7 @@ impl<'a, 'f, 'm> Search<'a, 'f, 'm> {
     /// Whether no more was added than a jump to $0000, which is filled in at run time.
     fn is_filled_jump(&self) -> bool {
         match self.added.as_slice() {
-            [only] => match self.steps.at(*only) {
-                Some(step) => step.to == Some(0),
-                None => false,
-            },
+            [only] => self.steps.at(*only).is_some_and(|step| step.to == Some(0)),
             _ => false,
         }
     }

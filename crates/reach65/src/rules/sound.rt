@@ -7,10 +7,23 @@ use map65::Marks;
 
 /// Returns whether an instruction begins at the address, if there is one.
 pub fn begins(steps: &Steps<'_, '_>, address: Option<u16>) -> bool {
-    match address {
-        Some(address) => steps.at(address).is_some(),
-        None => false,
+    address.is_some_and(|address| steps.at(address).is_some())
+}
+
+/// Returns whether that many instructions from the address on read as code, or fewer up to one behind which code does not go on: each decodes,
+/// and none is `brk`.
+pub fn reads_on(steps: &Steps<'_, '_>, from: Option<u16>, count: usize) -> bool {
+    let mut at = from;
+    for _ in 0..count {
+        let Some(step) = at.and_then(|address| steps.at(address)) else {
+            return false;
+        };
+        if step.next.is_none() {
+            return is_last(step.op.mnemonic) && step.op.mnemonic != Mnemonic::Brk;
+        }
+        at = step.next;
     }
+    true
 }
 
 /// Whether the instruction is a branch.
@@ -51,28 +64,28 @@ pub fn is_fine(steps: &Steps<'_, '_>, stored: &Marks, step: &Step) -> bool {
 
 /// Whether the marked instruction this many bytes before the address has the address.
 fn reaches(steps: &Steps<'_, '_>, marks: &Marks, address: u16, distance: u16) -> bool {
-    match address.checked_sub(distance) {
-        Some(at) => marks.get(at) && usize::from(distance) < steps.len_at(at),
-        None => false,
-    }
+    address.checked_sub(distance).is_some_and(|at| marks.get(at)
+        && usize::from(distance) < steps.len_at(at))
 }
 
-/// Returns whether a marked instruction before the address has it. An instruction has at most three bytes.
-pub fn is_overlapped(steps: &Steps<'_, '_>, marks: &Marks, address: u16) -> bool {
-    reaches(steps, marks, address, 1) || reaches(steps, marks, address, 2)
+/// Returns where the marked instruction begins that the address lies inside of. An instruction has at most three bytes.
+pub fn holder_of(steps: &Steps<'_, '_>, marks: &Marks, address: u16) -> Option<u16> {
+    for distance in [1u16, 2] {
+        if reaches(steps, marks, address, distance) {
+            return address.checked_sub(distance);
+        }
+    }
+    None
 }
 
 /// Whether the operand of a `bit` at the first address is an instruction at the second one, which ends where the `bit` ends: `.byte $2C` skips
 /// that instruction.
 fn hides(steps: &Steps<'_, '_>, outer: u16, inner: u16) -> bool {
-    match steps.at(outer) {
-        Some(step) => {
-            step.op.mnemonic == Mnemonic::Bit
-                && (step.op.mode == Mode::Abs || step.op.mode == Mode::Zp)
-                && steps.len_at(inner).saturating_add(1) == step.len()
-        }
-        None => false,
-    }
+    steps.at(outer).is_some_and(|step| {
+        step.op.mnemonic == Mnemonic::Bit
+            && (step.op.mode == Mode::Abs || step.op.mode == Mode::Zp)
+            && steps.len_at(inner).saturating_add(1) == step.len()
+    })
 }
 
 /// Returns whether the instruction of the address shares no byte with another one that is marked, but for one in the operand of a `bit`.

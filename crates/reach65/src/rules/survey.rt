@@ -97,20 +97,24 @@ impl<'r> Survey<'r> {
     /// Marks what the instruction does.
     fn put(&mut self, step: &Step) {
         set_some(&mut self.gone_on, step.next);
-        set_some(&mut self.goals, step.goal);
-        if step.op.mnemonic == Mnemonic::Jsr {
-            set_some(&mut self.called, step.goal);
-        }
-        if !is_jump(step.op.mnemonic) {
-            set_some(&mut self.gone_on, step.goal);
-        }
-        if step.to.is_none() {
-            set_some(&mut self.operands, step.operand);
-        }
-        if writes(step.op.mnemonic) {
-            set_some(&mut self.written, step.operand);
-        }
         set_some(&mut self.texts, step.text);
+        if let Some(goal) = step.goal {
+            self.goals.set(goal);
+            if step.op.mnemonic == Mnemonic::Jsr {
+                self.called.set(goal);
+            }
+            if !is_jump(step.op.mnemonic) {
+                self.gone_on.set(goal);
+            }
+        }
+        if let Some(operand) = step.operand {
+            if step.to.is_none() {
+                self.operands.set(operand);
+            }
+            if writes(step.op.mnemonic) {
+                self.written.set(operand);
+            }
+        }
     }
 
     /// Keeps where the instruction begins, if that is asked for.

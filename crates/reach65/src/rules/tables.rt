@@ -3,6 +3,7 @@
 use crate::rules::bytes::ends;
 use crate::rules::ground::Ground;
 use crate::rules::readers::Table;
+use crate::rules::step::Steps;
 use crate::rules::survey::Survey;
 use std::alloc::{AllocError, Global};
 
@@ -15,7 +16,6 @@ pub struct Split {
 
 /// Whether the entry of the table is an address of the image: one where code begins, or, for a table of data, one that no code has.
 fn is_entry(ground: &Ground<'_>, survey: &Survey<'_>, table: Table, index: usize) -> bool {
-    let (low, high) = table.places(index);
     let (start, end) = ends(ground.image);
     let Some(address) = table.entry(ground.image, index) else {
         return false;
@@ -26,16 +26,27 @@ fn is_entry(ground: &Ground<'_>, survey: &Survey<'_>, table: Table, index: usize
     } else {
         !survey.code.get(address)
     };
-    ground.is_plain(low) && ground.is_plain(high) && inside && fits
+    inside && fits
 }
 
-/// How many entries the table has: up to one that is none, or at which another table begins.
-fn entry_count(ground: &Ground<'_>, survey: &Survey<'_>, table: Table) -> usize {
+/// How many entries the table has: up to one that is none, unless it is whole, or at which another table begins.
+fn entry_count(
+    ground: &Ground<'_>,
+    steps: &Steps<'_, '_>,
+    survey: &Survey<'_>,
+    table: Table,
+) -> usize {
+    let mut is_whole = false;
     let mut count = 0;
     for index in 0..table.most() {
         let (low, high) = table.places(index);
         let begins = 0 < index && (survey.operands.get_at(low) || survey.operands.get_at(high));
-        if begins || !is_entry(ground, survey, table, index) {
+        if begins || !ground.is_plain(low) || !ground.is_plain(high) {
+            break;
+        }
+        let fits = is_entry(ground, survey, table, index);
+        is_whole = is_whole || !fits && table.is_whole(steps);
+        if !fits && !is_whole {
             break;
         }
         count = index + 1;
@@ -47,12 +58,13 @@ fn entry_count(ground: &Ground<'_>, survey: &Survey<'_>, table: Table) -> usize 
 pub fn mark_tables(
     alloc: Global,
     ground: &mut Ground<'_>,
+    steps: &Steps<'_, '_>,
     survey: &Survey<'_>,
     tables: &[Table],
 ) -> Result<Vec<Split>, AllocError> {
     let mut splits = Vec::new(alloc);
     for &table in tables {
-        let count = entry_count(ground, survey, table);
+        let count = entry_count(ground, steps, survey, table);
         let (low, high) = table.places(0);
         let (low_end, high_end) = (low.saturating_add(count), high.saturating_add(count));
         if table.has_words() {

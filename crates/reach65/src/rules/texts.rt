@@ -52,7 +52,7 @@ impl Alphabet {
     pub fn in_ascii(self, byte: u8) -> u8 {
         match (self, byte) {
             (Alphabet::Ascii, _) => byte,
-            (Alphabet::High, _) => byte.saturating_sub(128),
+            (Alphabet::High, _) => byte % 128,
             (Alphabet::Petscii, 0xC1..=0xFF) => byte - 128,
             (Alphabet::Petscii, 0x41..=0x5A) => byte + 32,
             (Alphabet::Petscii, _) => byte,

@@ -50,13 +50,9 @@ fn is_hopeful(marks: &Marks, address: u16, step: &Step) -> bool {
 
 /// Whether a reached instruction, this many bytes before the address, goes on to it.
 fn goes_on_to(search: &Search<'_, '_, '_>, address: u16, distance: u16) -> bool {
-    match address.checked_sub(distance) {
-        Some(at) => match search.steps.marked(&search.marks, usize::from(at)) {
-            Some(step) => step.next == Some(address),
-            None => false,
-        },
-        None => false,
-    }
+    let at = usize::from(address).saturating_sub(usize::from(distance));
+    let before = search.steps.marked(&search.marks, at);
+    before.is_some_and(|step| step.next == Some(address))
 }
 
 /// Whether a reached instruction begins at the address. For a word that is one less, none right before it goes on to it, either.
@@ -91,28 +87,25 @@ impl<'i> Words<'i> {
         for range in steps.map().info().ranges() {
             given.set_span(usize::from(range.first), usize::from(range.last) + 1);
         }
-        let mut free = Marks::none(alloc)?;
         let mut hopeful = Marks::none(alloc)?;
         let (start, end) = ends(image);
         for at in (start..end).rev() {
-            let Ok(address) = u16::try_from(at) else {
+            let Some(address) = address(at) else {
                 continue;
             };
-            let is_free = !reached.get(address) && !search.code.get(address);
-            if is_free {
-                free.set(address);
-            }
             let is_hopeful = match steps.at(address) {
-                Some(step) => is_free && is_hopeful(&hopeful, address, step),
+                _ if reached.get(address) => true,
+                Some(step) => { !search.code.get(address) && is_hopeful(&hopeful, address, step) }
                 None => false,
             };
-            if reached.get(address) || is_hopeful {
+            if is_hopeful {
                 hopeful.set(address);
             }
         }
         let mut worth = Vec::new(alloc);
         for at in start..end {
-            if free.get_at(at)
+            if !reached.get_at(at)
+                && !search.code.get_at(at)
                 && is_worth(image, &hopeful, at)
                 && let Some(at) = address(at)
             {
@@ -166,24 +159,21 @@ impl<'i> Words<'i> {
         less: u16,
         at: usize,
     ) -> Result<bool, AllocError> {
-        let Some(one) = self.target(search, less, at) else {
-            return Ok(false);
-        };
-        let Some(two) = self.target(search, less, at.saturating_add(2)) else {
-            return Ok(false);
-        };
-        let Some(three) = self.target(search, less, at.saturating_add(4)) else {
-            return Ok(false);
-        };
-        Ok(
-            one != two
-                && one != three
-                && two != three
-                && !self.is_operand(at)
-                && begins_code(search, less, one)?
-                && begins_code(search, less, two)?
-                && begins_code(search, less, three)?,
-        )
+        if let Some(one) = self.target(search, less, at)
+            && let Some(two) = self.target(search, less, at.saturating_add(2))
+            && let Some(three) = self.target(search, less, at.saturating_add(4))
+            && one != two
+            && one != three
+            && two != three
+            && !self.is_operand(at)
+        {
+            return Ok(
+                begins_code(search, less, one)?
+                    && begins_code(search, less, two)?
+                    && begins_code(search, less, three)?,
+            );
+        }
+        Ok(false)
     }
 
     /// Lets the sound beginnings among the words of a row join, up to one that leads to no code. Adds what is reached from them to `fresh`, and

@@ -9,12 +9,10 @@ use std::alloc::AllocError;
 
 /// Whether the address is that of a routine, or that of a name, in the image.
 fn is_meant(advice: &Advice<'_, '_, '_>, address: u16) -> bool {
-    let map = advice.flow.map();
+    let map = advice.steps.map();
     let at = usize::from(address);
-    let named = match map.info().covering(address) {
-        Some(name) => name.address == address && is_inside(map.image(), at),
-        None => false,
-    };
+    let name = map.info().covering(address);
+    let named = name.is_some_and(|name| name.address == address && is_inside(map.image(), at));
     named || advice.survey.is_routine(at)
 }
 
@@ -42,8 +40,8 @@ fn put_call(
 
 /// Adds a comment for each word that is likely an address: nothing speaks for its bytes, they differ, and no row of words has them.
 pub fn put_words(out: &mut Vec<u8>, advice: &Advice<'_, '_, '_>) -> Result<(), AllocError> {
-    let (start, end) = advice.ends();
-    for at in start..end {
+    for &first in &advice.words {
+        let at = usize::from(first);
         if let Some(word) = advice.ground.word(at)
             && word / 256 != word % 256
             && is_meant(advice, word)

@@ -3,20 +3,8 @@
 use crate::advice::Advice;
 use files65::put_address;
 use map65::is_inside;
+use reach65::rules::sound::holder_of;
 use std::alloc::AllocError;
-
-/// Where the reached instruction begins that the address lies inside of.
-fn holder_of(advice: &Advice<'_, '_, '_>, address: u16) -> Option<u16> {
-    for distance in [1u16, 2] {
-        if let Some(first) = address.checked_sub(distance)
-            && advice.survey.reached.get(first)
-            && usize::from(distance) < advice.steps.len_at(first)
-        {
-            return Some(first);
-        }
-    }
-    None
-}
 
 /// Adds a comment for each of these entries and each range of the information file that counts for nothing.
 pub fn put_misplaced(
@@ -24,12 +12,12 @@ pub fn put_misplaced(
     advice: &Advice<'_, '_, '_>,
     entries: &[u16],
 ) -> Result<(), AllocError> {
-    let map = advice.flow.map();
+    let map = advice.steps.map();
     for &entry in entries {
         if !is_inside(map.image(), usize::from(entry)) {
             put_address(out, b"# entry $", usize::from(entry))?;
             out.extend_from_slice(b" is outside the image\n")?;
-        } else if let Some(first) = holder_of(advice, entry) {
+        } else if let Some(first) = holder_of(advice.steps, advice.survey.reached, entry) {
             put_address(out, b"# entry $", usize::from(entry))?;
             put_address(out, b" is inside the instruction at $", usize::from(first))?;
             out.extend_from_slice(b"\n")?;

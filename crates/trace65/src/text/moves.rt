@@ -12,7 +12,7 @@ pub fn put_name(
     advice: &Advice<'_, '_, '_>,
     address: u16,
 ) -> Result<(), AllocError> {
-    let Some(name) = advice.flow.map().info().covering(address) else {
+    let Some(name) = advice.steps.map().info().covering(address) else {
         return Ok(());
     };
     out.extend_from_slice(b" ")?;
@@ -66,16 +66,13 @@ pub fn put_splits(out: &mut Vec<u8>, advice: &Advice<'_, '_, '_>) -> Result<(), 
 /// Adds the line of what lies after the image, up to the greatest address of the pairs and the variables, if one lies there, and unless the
 /// file says it.
 pub fn put_after(out: &mut Vec<u8>, advice: &Advice<'_, '_, '_>) -> Result<(), AllocError> {
-    let mut last = 0u16;
+    let mut last = advice.variables.last().copied().unwrap_or(0);
     for pair in &advice.pairs {
         last = last.max(pair.address);
     }
-    for &variable in &advice.variables {
-        last = last.max(variable);
-    }
     let (_, end) = advice.ends();
     let said = advice
-        .flow
+        .steps
         .tags()
         .iter()
         .any(|tag| tag.kind == TagKind::After);

@@ -1,4 +1,4 @@
-//! A picture of an image: a character for 64 bytes, and the counts of its bytes.
+//! A picture of an image: a character for 64 bytes, and the counts of its bytes; and what helps where little is known.
 
 use crate::advice::Advice;
 use files65::{put_address, put_decimal};
@@ -22,38 +22,14 @@ fn count(marks: &Marks, from: usize, end: usize) -> usize {
     count
 }
 
-/// The character of the bytes from an address to before another one.
-fn character(advice: &Advice<'_, '_, '_>, from: usize, end: usize) -> u8 {
-    let code = count(advice.survey.code, from, end);
-    if code == end.saturating_sub(from) {
-        b'#'
-    } else if 0 < code {
-        b'+'
-    } else if 0 < count(advice.taken, from, end) {
-        b'r'
-    } else {
-        b'.'
+/// The character of that many bytes, of which so many are code, and so many code or in ranges.
+fn character(len: usize, code: usize, both: usize) -> u8 {
+    match (code, both) {
+        (0, 0) => b'.',
+        (0, _) => b'r',
+        _ if code == len => b'#',
+        _ => b'+',
     }
-}
-
-/// Adds the line of the bytes from an address to before another one.
-fn put_row(
-    out: &mut Vec<u8>,
-    advice: &Advice<'_, '_, '_>,
-    from: usize,
-    end: usize,
-) -> Result<(), AllocError> {
-    put_address(out, b"# $", from)?;
-    out.extend_from_slice(b" ")?;
-    let mut at = from;
-    for _ in 0..ROW / CELL {
-        if at < end {
-            let next = at.saturating_add(CELL).min(end);
-            out.push(character(advice, at, next))?;
-            at = next;
-        }
-    }
-    out.extend_from_slice(b"\n")
 }
 
 /// Adds a picture of the image, with what its characters stand for, and the counts of its bytes.
@@ -61,16 +37,20 @@ pub fn put_picture(out: &mut Vec<u8>, advice: &Advice<'_, '_, '_>) -> Result<(),
     out.extend_from_slice(b"# a character for 64 bytes: # code that is reached, + partly,\n")?;
     out.extend_from_slice(b"# r in a range of the information file, . neither\n")?;
     let (start, end) = advice.ends();
-    let mut at = start;
-    for _ in 0..=end / ROW {
-        if at < end {
-            let next = at.saturating_add(ROW).min(end);
-            put_row(out, advice, at, next)?;
-            at = next;
+    let (mut reached, mut both) = (0usize, 0usize);
+    for row in (start..end).step_by(ROW) {
+        put_address(out, b"# $", row)?;
+        out.extend_from_slice(b" ")?;
+        for cell in (row..end.min(row.saturating_add(ROW))).step_by(CELL) {
+            let next = end.min(cell.saturating_add(CELL));
+            let code = count(advice.survey.code, cell, next);
+            let taken = count(advice.taken, cell, next);
+            out.push(character(next.saturating_sub(cell), code, taken))?;
+            reached = reached.saturating_add(code);
+            both = both.saturating_add(taken);
         }
+        out.extend_from_slice(b"\n")?;
     }
-    let reached = count(advice.survey.code, start, end);
-    let both = count(advice.taken, start, end);
     put_decimal(out, b"# ", reached)?;
     put_decimal(
         out,
@@ -83,4 +63,22 @@ pub fn put_picture(out: &mut Vec<u8>, advice: &Advice<'_, '_, '_>) -> Result<(),
         end.saturating_sub(start).saturating_sub(both),
     )?;
     out.extend_from_slice(b" in neither\n")
+}
+
+/// Adds what usually helps, in the order that helped, if code and ranges have less than half of the image.
+pub fn put_help(out: &mut Vec<u8>, advice: &Advice<'_, '_, '_>) -> Result<(), AllocError> {
+    let (start, end) = advice.ends();
+    let len = end.saturating_sub(start);
+    if len <= count(advice.taken, start, end).saturating_mul(2) || len < ROW {
+        return Ok(());
+    }
+    out.extend_from_slice(
+        b"# Less than half is known. What usually helps, in this order: an emulator's log\n",
+    )?;
+    out.extend_from_slice(
+        b"# of what ran, `#: ENTRY` for other code, AddrTable or RtsTable for tables that\n",
+    )?;
+    out.extend_from_slice(
+        b"# code reads, `#: INLINE` for routines with a text or words behind their calls.\n",
+    )
 }

@@ -18,6 +18,22 @@ fn shown(byte: u8) -> u8 {
     }
 }
 
+/// Whether bytes have the high bit, and each stands behind a letter without it: programs mark the last letter of a word so.
+fn mark_ends(bytes: &[u8]) -> bool {
+    let mut before = 0u8;
+    let mut mark = false;
+    for &byte in bytes {
+        if 0x80 <= byte {
+            if !matches!(before, 0x41..=0x5A) {
+                return false;
+            }
+            mark = true;
+        }
+        before = byte;
+    }
+    mark
+}
+
 /// What the type of a range is called.
 fn type_text(role: RangeType) -> &'static str {
     match role {
@@ -34,10 +50,12 @@ fn alphabet_of(role: RangeType, bytes: &[u8]) -> (Alphabet, &'static str) {
         (Alphabet::Ascii, "")
     } else if Alphabet::High.is_text(bytes) {
         (Alphabet::High, "text with the high bit: ")
-    } else if Alphabet::Petscii.is_text(bytes) {
-        (Alphabet::Petscii, "text in PETSCII: ")
-    } else {
+    } else if !Alphabet::Petscii.is_text(bytes) {
         (Alphabet::Ascii, "")
+    } else if mark_ends(bytes) {
+        (Alphabet::High, "text with the high bit in last letters: ")
+    } else {
+        (Alphabet::Petscii, "text in PETSCII: ")
     }
 }
 

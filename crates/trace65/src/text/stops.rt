@@ -11,7 +11,7 @@ fn name_of(advice: &Advice<'_, '_, '_>, address: u16) -> &'static str {
     match advice.steps.at(address) {
         Some(step) if step.op.mnemonic == Mnemonic::Brk => "brk",
         Some(_) => "instruction",
-        None if advice.flow.map().role(address) == Some(RangeType::Code) => "undefined opcode",
+        None if advice.steps.map().role(address) == Some(RangeType::Code) => "undefined opcode",
         None => "range",
     }
 }

@@ -5,10 +5,12 @@ use files65::put_address;
 use info65::{RangeSpec, RangeType};
 use isa65::Mnemonic;
 use map65::{ADDRESSES, is_inside};
-use reach65::rules::bytes::word;
+use reach65::rules::readers::Table;
+use reach65::rules::sound::reads_on;
+use reach65::rules::tables::Split;
 use std::alloc::AllocError;
 
-/// How many addresses of a table get a comment.
+/// How many addresses get a comment.
 const MOST: usize = 16;
 
 /// Adds why code does not begin at the address: the first instruction on the way that is none, or `brk`, else it shares a byte with other code.
@@ -33,37 +35,45 @@ fn put_reason(
     out.extend_from_slice(b"it does not read as code")
 }
 
-/// Adds the comments for a table of addresses, each of which is this much more than its word.
+/// The table of a range, whose words are so much less than the addresses.
+fn table_of(range: RangeSpec, less: u16) -> Split {
+    Split {
+        table: Table {
+            low: range.first,
+            high: range.first.saturating_add(1),
+            less,
+            is_code: true,
+        },
+        count: usize::from(range.last.saturating_sub(range.first)).saturating_add(1) / 2,
+    }
+}
+
+/// Adds the comments for a table, for so many addresses at most; for one in halves, which `--plain` does not follow, only for those that do not read
+/// as code.
 fn put_table(
     out: &mut Vec<u8>,
     advice: &Advice<'_, '_, '_>,
-    range: RangeSpec,
-    less: u16,
+    split: Split,
+    left: &mut usize,
 ) -> Result<(), AllocError> {
-    let map = advice.flow.map();
-    let first = usize::from(range.first);
-    let words = usize::from(range.last)
-        .saturating_add(1)
-        .saturating_sub(first)
-        / 2;
-    let mut left = MOST;
-    for index in 0..words {
-        let Some(address) = word(map.image(), first.saturating_add(index.saturating_mul(2))) else {
-            continue;
-        };
-        let Some(to) = address.checked_add(less) else {
+    let map = advice.steps.map();
+    for index in 0..split.count {
+        let Some(to) = split.table.entry(map.image(), index) else {
             continue;
         };
         if !is_inside(map.image(), usize::from(to))
             || map.role(to) != Some(RangeType::Code)
             || advice.survey.reached.get(to)
-            || left == 0
+            || *left == 0
         {
             continue;
         }
-        left -= 1;
+        *left -= 1;
+        if !split.table.has_words() && reads_on(advice.steps, Some(to), ADDRESSES) {
+            continue;
+        }
         put_address(out, b"# $", usize::from(to))?;
-        put_address(out, b" in the table at $", first)?;
+        put_address(out, b" in the table at $", usize::from(split.table.low))?;
         out.extend_from_slice(b" is not followed: ")?;
         put_reason(out, advice, to)?;
         out.extend_from_slice(b"\n")?;
@@ -71,13 +81,21 @@ fn put_table(
     Ok(())
 }
 
-/// Adds a comment for each address in a table of the information file to which reading does not lead, at most 16 for each table.
+/// Adds a comment for each address in a table of the information file to which reading does not lead, at most 16 for each range, and for all
+/// tables of halves.
 pub fn put_pointers(out: &mut Vec<u8>, advice: &Advice<'_, '_, '_>) -> Result<(), AllocError> {
-    for &range in advice.flow.map().info().ranges() {
+    for &range in advice.steps.map().info().ranges() {
+        let mut left = MOST;
         match range.role {
-            RangeType::AddrTable => put_table(out, advice, range, 0)?,
-            RangeType::RtsTable => put_table(out, advice, range, 1)?,
+            RangeType::AddrTable => put_table(out, advice, table_of(range, 0), &mut left)?,
+            RangeType::RtsTable => put_table(out, advice, table_of(range, 1), &mut left)?,
             _ => {}
+        }
+    }
+    let mut left = MOST;
+    for &split in &advice.declared {
+        if split.table.is_code && 1 < split.count {
+            put_table(out, advice, split, &mut left)?;
         }
     }
     Ok(())

@@ -5,10 +5,10 @@ use Rattle.reach65.proofs.inlines.enter_ends.Goals as goal
 use Rattle.reach65.proofs.inlines.enter_ends.Goals.{else-bytes-i-eq0, then-bytes-i-eq0}
 
 pub bytes-init : goal.bytes-init
-bytes-init g c = ends_blank c.args.image.now (length c.bytes-bytes.result.now) c.args.ends.now (ap length c.bytes-bytes.ensures.bytes) c.requires
+bytes-init c = ends_blank c.args.image.now (length c.bytes-bytes.result.now) c.args.ends.now (ap length c.bytes-bytes.ensures.bytes) c.requires
 
 pub bytes-preserved : goal.bytes-preserved
-bytes-preserved g c =
+bytes-preserved c =
     let count = ap length c.bytes-bytes.ensures.bytes in
     ends_more c.args.image.now (c.bytes.i - 1) c.bytes.i c.if-bytes-i-eq0.end c.bytes.end c.bytes.ends (omega arith) (omega (arith, count)) (omega (arith, count))
     (elim c.if-bytes-i-eq0.branch [ then-bytes-i-eq0 w ↦ grind (arith, nat_tests) | else-bytes-i-eq0 w ↦ grind (arith, nat_tests) ])

@@ -2,4 +2,4 @@ use Rattle.reach65.proofs.TableLemmas.{AreEntered}
 use Rattle.reach65.proofs.inlines.enter_ends.Given as goal
 
 abbrev pub invariant-bytes : goal.invariant-bytes
-invariant-bytes g l = AreEntered l.image l.i l.end l.ends
+invariant-bytes l = AreEntered l.image l.i l.end l.ends

@@ -4,4 +4,4 @@ use Rattle.reach65.specs.Words.{Adds}
 use Rattle.reach65.proofs.taken.mark_range.Given as goal
 
 abbrev pub invariant-range : goal.invariant-range
-invariant-range g l = Adds (λ a. has_address l.fn.range a && nat_lt a l.at) l.initial.marks l.marks
+invariant-range l = Adds (λ a. has_address l.fn.range a && nat_lt a l.at) l.initial.marks l.marks

@@ -1,0 +1,58 @@
+//! Operands that lie in code right before a table, which they are likely counted from.
+
+use crate::rules::bytes::{address, ends};
+use crate::rules::step::{Step, Steps};
+use crate::rules::survey::{Survey, writes};
+use info65::TagKind;
+use std::alloc::{AllocError, Global};
+
+/// How far a table may lie behind the operand that is counted from it.
+const FAR: usize = 256;
+
+/// An operand that is counted from a table, and the instruction that has it.
+#[derive(Clone, Copy)]
+pub struct Base {
+    pub reader: u16,
+    pub operand: u16,
+    pub table: u16,
+}
+
+/// The table from which the operand of an instruction is counted: it lies in code, and the table behind that code.
+fn base_of(steps: &Steps<'_, '_>, survey: &Survey<'_>, reader: u16, step: &Step) -> Option<Base> {
+    let operand = step.operand?;
+    let from = usize::from(operand);
+    let (_, end) = ends(steps.image());
+    if writes(step.op.mnemonic) || !survey.code.get_at(from) {
+        return None;
+    }
+    for at in from..end.min(from.saturating_add(FAR)) {
+        if !survey.code.get_at(at) {
+            return Some(Base {
+                reader,
+                operand,
+                table: address(at)?,
+            });
+        }
+    }
+    None
+}
+
+/// Returns the operands with an index that are likely counted from a table behind them, but for those of groups BASE. Fails only if an allocation
+/// failed.
+pub fn bases_of(
+    alloc: Global,
+    steps: &Steps<'_, '_>,
+    survey: &Survey<'_>,
+) -> Result<Vec<Base>, AllocError> {
+    let mut found = Vec::new(alloc);
+    for &reader in &survey.indexed {
+        if let Some(step) = steps.at(reader)
+            && let Some(base) = base_of(steps, survey, reader, step)
+            && !steps.tags().iter().any(|tag| tag.kind == TagKind::Base
+                && tag.address == Some(reader))
+        {
+            found.push(base)?;
+        }
+    }
+    Ok(found)
+}

@@ -1,0 +1,79 @@
+//! Addresses that the information file says in halves.
+
+use crate::rules::readers::Table;
+use crate::rules::step::Steps;
+use crate::rules::tables::Split;
+use info65::TagKind;
+use map65::{Image, Marks};
+use std::alloc::{AllocError, Global};
+
+/// The table whose halves begin at these addresses: as code reads it, if it is one of these, which are in order; else as one of addresses of
+/// code, or of such addresses less one, if only the address after its first one has a name.
+fn table_of(steps: &Steps<'_, '_>, tables: &[Table], low: u16, high: u16) -> Table {
+    let index = tables.partition_point(|table| (table.low, table.high) < (low, high));
+    if let Some(&table) = tables.get(index)
+        && (table.low, table.high) == (low, high)
+    {
+        return table;
+    }
+    let mut table = Table {
+        low,
+        high,
+        less: 0,
+        is_code: true,
+    };
+    let info = steps.map().info();
+    if let Some(address) = table.entry(steps.image(), 0)
+        && info.covering(address).is_none()
+        && info.covering(address.saturating_add(1)).is_some()
+    {
+        table.less = 1;
+    }
+    table
+}
+
+/// Returns the halves of the groups HALVES without ADDR: as code reads them, if they are one of these tables, else as addresses of code. Fails
+/// only if an allocation failed.
+pub fn declared_of(
+    alloc: Global,
+    steps: &Steps<'_, '_>,
+    tables: &[Table],
+) -> Result<Vec<Split>, AllocError> {
+    let mut tables = Vec::from_slice(alloc, tables)?;
+    tables.sort_by_key(|table| (table.low, table.high))?;
+    let mut found = Vec::new(alloc);
+    for tag in steps.tags() {
+        if let (TagKind::Halves, Some(low), Some(high), None) = (
+            tag.kind,
+            tag.low,
+            tag.high,
+            tag.address,
+        ) {
+            let table = table_of(steps, &tables, low, high);
+            let count = usize::from(tag.size.unwrap_or(1));
+            found.push(Split { table, count })?;
+        }
+    }
+    Ok(found)
+}
+
+/// Returns the addresses in these tables, each once. Fails only if an allocation failed.
+pub fn addresses_of(
+    alloc: Global,
+    image: &Image,
+    splits: &[Split],
+) -> Result<Vec<u16>, AllocError> {
+    let mut marks = Marks::none(alloc)?;
+    let mut found = Vec::new(alloc);
+    for split in splits {
+        for index in 0..split.count {
+            if let Some(address) = split.table.entry(image, index)
+                && !marks.get(address)
+            {
+                marks.set(address);
+                found.push(address)?;
+            }
+        }
+    }
+    Ok(found)
+}
