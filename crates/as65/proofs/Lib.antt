@@ -1,3 +1,4 @@
 pub mod CommandLemmas
 pub mod PassingLemmas
 pub mod StretchLemmas
+pub mod HintLemmas

@@ -12,13 +12,19 @@ compare_choice = record { id = codes "compare"; short = None; long = Some (codes
 abbrev pub fill_choice : ChoiceView
 fill_choice = record { id = codes "fill"; short = None; long = Some (codes "fill"); value = Some (codes "byte"); purpose = codes "begin segments at their START, with this byte between" }
 
+abbrev pub in_place_choice : ChoiceView
+in_place_choice = record { id = codes "in-place"; short = None; long = Some (codes "in-place"); value = None; purpose = codes "refuse a listing in which a label LXXXX is not at $XXXX" }
+
+abbrev pub labels_choice : ChoiceView
+labels_choice = record { id = codes "labels"; short = None; long = Some (codes "labels"); value = None; purpose = codes "write the names for emulators, in place of the bytes" }
+
 -- what listings are and the usage line, the options in the order of the help text, and an optional listing
 abbrev pub this_program : ProgramView
 this_program = record {
   name = codes "as65";
   usage = with_line_feed (codes "as65 reads ca65's language as far as listings need it; for everything else there is ca65.")
       ++ codes "Usage: as65 [options] [listing]";
-  choices = place_choice ∷ start_choice ∷ fill_choice ∷ output_choice ∷ compare_choice ∷ help_choice ∷ version_choice ∷ [];
+  choices = place_choice ∷ start_choice ∷ fill_choice ∷ in_place_choice ∷ output_choice ∷ compare_choice ∷ labels_choice ∷ help_choice ∷ version_choice ∷ [];
   input = codes "listing";
 }
 

@@ -7,8 +7,9 @@ use Rattle.text65.specs.Lines.{text_lines}
 use Rattle.map65.specs.Words.{ImageView}
 use Rattle.stmt65.specs.Words.{digits2, line_past}
 use Rattle.as65.specs.Assembled.{AssembledView}
+use Rattle.as65.specs.Moves.{move_line}
 use Rattle.as65.specs.Stretches.{AreRuns, differs}
-use Rattle.as65.specs.Types.{Stretch}
+use Rattle.as65.specs.Types.{Label, Stretch}
 
 -- what is compared: the address of both first bytes, the bytes of the image and of the listing, the lines of the listing, and
 -- the address after each of them
@@ -103,7 +104,20 @@ compared image a = record {
 }
 
 -- the text has a line for each run of bytes that differ, in order, and one for lengths that differ
-pub record IsDifferences (c : Compared) (text : List ℕ) : Type 0 where
+pub record AreDifferences (c : Compared) (text : List ℕ) : Type 0 where
   pub found : List Stretch
   pub runs : AreRuns (differs c.image c.bytes) 0 found
   pub lines : text ≡ difference_lines c found
+
+-- these lines were appended
+pub record AppendsDifferences (c : Compared) (old new : List ℕ) : Type 0 where
+  pub text : List ℕ
+  pub lines : AreDifferences c text
+  pub appended : new ≡ old ++ text
+
+-- First a line for each of the labels at which the distance from the address in the name changes. If there is none, the rest are the
+-- differences; else it is advice.
+pub record IsDifferences (moves : List Label) (c : Compared) (text : List ℕ) : Type 0 where
+  pub rest : List ℕ
+  pub lines : text ≡ flat_map move_line moves ++ rest
+  pub unmoved : moves ≡ [] → AreDifferences c rest

@@ -4,9 +4,10 @@ pub mod Command
 pub mod Comparison
 pub mod Differences
 pub mod FaultyLine
-pub mod Hint
 pub mod Image
 pub mod Information
+pub mod Labels
+pub mod Moves
 pub mod NamedStart
 pub mod Origins
 pub mod Request

@@ -1,5 +1,5 @@
 -- What a command line asks for.
-use Rattle.std.specs.Prelude.{◌||◌, ℕ, Bool, not, nat_eq, List, String, Option, Some, None, Result, Ok, Err, codes, drop, is_some, if◌then◌else◌}
+use Rattle.std.specs.Prelude.{◌&&◌, ◌||◌, ℕ, Bool, not, nat_eq, List, String, Option, Some, None, Result, Ok, Err, codes, drop, is_some, if◌then◌else◌}
 use Rattle.std.specs.List.{list_any, starts_with, take_while}
 use Rattle.std.specs.Str.{bytes_eq}
 use Rattle.std.specs.String.{string_bytes}
@@ -8,37 +8,39 @@ use Rattle.usage65.specs.Words.{BadUsage, LacksStart, NamesView, Refusal, TwoOfS
 use Rattle.as65.specs.Types.{Compare, Help, Place, Request, Version, Words, Write}
 use Rattle.as65.specs.Command.{app}
 
--- a listing, the information file, the output, and where the bytes belong
+-- a listing, the information file, the output, where the bytes belong, and whether the names are asked for
 pub record Given : Type 0 where
   pub listing : Text
   pub info : Option Text
   pub output : Option Text
   pub place : Place
+  pub labels : Bool
 
--- what is asked for: the bytes of a listing, or a comparison with an image
+-- what is asked for: the bytes of a listing or its names, or a comparison with an image
 pub data Asked : Type 0 where
   AskHelp : Asked
   AskVersion : Asked
-  AskWrite : NamesView → Place → Asked
+  AskWrite : NamesView → Place → Bool → Asked
   AskCompare : NamesView → Place → Text → Asked
 
 -- a request as what it asks for
 abbrev pub asked_of : Request → Asked
 asked_of Help = AskHelp
 asked_of Version = AskVersion
-asked_of (Write w) = AskWrite (names_seen w.names) w.place
+asked_of (Write w) = AskWrite (names_seen w.names) w.place w.labels
 asked_of (Compare c) = AskCompare (names_seen c.names) c.place (string_bytes c.image)
 
--- the bytes of a listing are to be written: there is a start, or an information file that may have one
+-- the bytes of a listing are to be written, or its names, which need not be in place: there is a start, or an information file that may have one
 unfoldable pub to_write : Given → Result Asked Refusal
 to_write g =
-    if not (is_some g.place.start || is_some g.info) then Err LacksStart
-    else (names_apart g.listing g.info g.output >>= λ names. Ok (AskWrite names g.place))
+    if g.place.in_place && g.labels then Err (BadUsage Words)
+    else (if not (is_some g.place.start || is_some g.info) then Err LacksStart
+    else (names_apart g.listing g.info g.output >>= λ names. Ok (AskWrite names g.place g.labels)))
 
--- a listing is to be compared with an image, without another output; standard input can be only one of the inputs
+-- a listing is to be compared with an image, without another output or names, and not in place; standard input can be only one of the inputs
 unfoldable pub to_compare : Given → Text → Result Asked Refusal
 to_compare g image =
-    if is_some g.output then Err (BadUsage Words)
+    if is_some g.output || g.place.in_place || g.labels then Err (BadUsage Words)
     else (if is_taken (Some g.listing) image || is_taken g.info image then Err TwoOfStandardInput
     else (names_apart g.listing g.info None >>= λ names. Ok (AskCompare names g.place image)))
 
@@ -58,7 +60,8 @@ asked_in rows =
       listing = input_named (first_of (codes "listing") rows);
       info = info_named (first_of (codes "info") rows);
       output = output_named (first_of (codes "output") rows);
-      place = record { start = start; fill = fill };
+      place = record { start = start; fill = fill; in_place = is_set (codes "in-place") rows };
+      labels = is_set (codes "labels") rows;
     }) (first_of (codes "compare") rows)))
 
 -- what the words ask for, of which the first is the program's name

@@ -1,6 +1,7 @@
 -- The types of the code that these definitions speak of, from one place.
 pub use Rattle.as65.specs.declared.failure.Refused.{Refused}
-pub use Rattle.as65.specs.declared.failure.Refused.TheVariants.{EmptyImage, LargeImage, Line, ShortImage}
+pub use Rattle.as65.specs.declared.failure.Refused.TheVariants.{EmptyImage, LargeImage, Line, Moved, ShortImage}
+pub use Rattle.as65.specs.declared.moves.Label.{Label}
 pub use Rattle.as65.specs.declared.named_start.NamedStart.{NamedStart}
 pub use Rattle.as65.specs.declared.request.Place.{Place}
 pub use Rattle.as65.specs.declared.request.Request.{Request}
@@ -12,14 +13,7 @@ pub use Rattle.files65.specs.declared.failure.Failure.{Failure}
 pub use Rattle.files65.specs.declared.failure.Failure.TheVariants.{File, Info, Memory, Own}
 pub use Rattle.files65.specs.declared.fault.FileFault.TheVariants.{Writing}
 pub use Rattle.info65.specs.declared.fault.InfoFault.{InfoFault}
-pub use Rattle.isa65.specs.declared.cpu.Cpu.TheVariants.{M65C02}
-pub use Rattle.isa65.specs.declared.mode.Mode.TheVariants.{Rel}
-pub use Rattle.isa65.specs.declared.row.Pattern.TheVariants.{Direct}
 pub use Rattle.map65.specs.declared.image.ImageFault.{ImageFault}
 pub use Rattle.stmt65.specs.declared.assembling.assembler.Source.{Source}
 pub use Rattle.stmt65.specs.declared.assembling.fault.AsmFault.{AsmFault}
-pub use Rattle.stmt65.specs.declared.assembling.fault.AsmFaultKind.{AsmFaultKind}
-pub use Rattle.stmt65.specs.declared.language.Language.TheVariants.{Repair}
-pub use Rattle.stmt65.specs.declared.source_line.Minus.TheVariants.{Zero}
-pub use Rattle.stmt65.specs.declared.source_line.Notation.TheVariants.{Absolute, Plain}
 pub use Rattle.usage65.specs.declared.fault.UsageFault.TheVariants.{Words}

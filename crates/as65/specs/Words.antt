@@ -7,14 +7,15 @@ unfoldable pub use Rattle.as65.specs.Code.Passing.{IsReady}
 pub use Rattle.as65.specs.Code.Requests.{given_of}
 pub use Rattle.as65.specs.Command.{app, this_program}
 pub use Rattle.as65.specs.Comparison.{Compares, CountsWrites}
-pub use Rattle.as65.specs.Differences.{Compared, IsDifferences, compared, dots_above, is_control, line_of, shown_byte, shown_bytes, shown_line, spaced, stretch_bytes, stretch_line, trimmed}
+pub use Rattle.as65.specs.Differences.{AppendsDifferences, Compared, IsDifferences, compared, dots_above, is_control, line_of, shown_byte, shown_bytes, shown_line, spaced, stretch_bytes, stretch_line, trimmed}
 unfoldable pub use Rattle.as65.specs.Differences.{change_text, lengths_line, origin_text, shown}
-pub use Rattle.as65.specs.FaultyLine.{FailsWith, Reports, hint_text, said_after}
+pub use Rattle.as65.specs.FaultyLine.{FailsWith, Reports, hint_text, line_at, said_after}
 unfoldable pub use Rattle.as65.specs.FaultyLine.{about}
-pub use Rattle.as65.specs.Hint.{address_after, after_blanks, after_label, alone, branch_hint, branch_target, code_of, difference_hint, ends_string, first_word, has, is_code, line_at, name_in, operation_by, past_start, range_by, segment_by, too_far}
-unfoldable pub use Rattle.as65.specs.Hint.{distance_hint, first_difference, first_unknown, has_0x, has_inner_quote, has_unknown_operation, hint, hint_for, hint_in, lacks_colon}
 pub use Rattle.as65.specs.Image.{IsFailureOf, IsNoImage}
 pub use Rattle.as65.specs.Information.{IsRefused, options_at, placed_at}
+pub use Rattle.as65.specs.Labels.{label_line, labels_of, source_labels}
+pub use Rattle.as65.specs.Moves.{IsMoved, bytes_text, is_alike, label_named, moves_in}
+unfoldable pub use Rattle.as65.specs.Moves.{distance_text, label_in_line, labels_in, move_line, move_text, moves_after, what_lies}
 pub use Rattle.as65.specs.NamedStart.{digit, first_of, is_start, moved, named_start, start_for}
 unfoldable pub use Rattle.as65.specs.NamedStart.{address_in_name, start_in_line, starts_in}
 pub use Rattle.as65.specs.Origins.{Moves, OriginsView}

@@ -10,9 +10,9 @@ use crate::failure::Failure;
 use crate::faulty_line::failure_of;
 use files65::{FileFault, write_text};
 use map65::Sink;
-use std::alloc::Global;
+use std::alloc::{AllocError, Global};
 use std::marker::Model;
-use stmt65::{Source, assemble_source};
+use stmt65::{Source, assemble_explained, line_addresses};
 
 /// A text that assembles, and its bytes.
 #[derive(Drop)]
@@ -40,9 +40,9 @@ impl<'s, 't, 'l, 'n> Assembled<'s, 't, 'l, 'n> {
         ensures means { IfOk result (λ a. source_meaning source.entry.now ≡ Ok a.bytes) }
         ensures fault { IfErr result (Reports name.now source.entry.now) }
     {
-        match assemble_source(alloc, source) {
+        match assemble_explained(alloc, source) {
             Ok(bytes) => Ok(Assembled { source, bytes }),
-            Err(fault) => Err(failure_of(alloc, fault, name, source)),
+            Err(explained) => Err(failure_of(alloc, explained, name, source)),
         }
     }
 
@@ -59,6 +59,13 @@ impl<'s, 't, 'l, 'n> Assembled<'s, 't, 'l, 'n> {
         ensures means { self.now.means ≡ Ok result.now }
     {
         self.bytes.as_slice()
+    }
+
+    /// The address after each line.
+    pub fn ends(&self, alloc: Global) -> Result<Vec<u64>, AllocError>
+        ensures { IfOk result (λ ends. ends.items ≡ self.now.ends) }
+    {
+        line_addresses(alloc, self.source)
     }
 
     /// Writes the bytes.

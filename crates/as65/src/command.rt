@@ -7,7 +7,7 @@ ghost use Rattle.as65.specs.Words.{this_program};
 use usage65::{Choice, HELP, INFO, OUTPUT, Program, START, VERSION};
 
 /// The options, in the order of the help text.
-static CHOICES: [Choice<'static>; 7] = [
+static CHOICES: [Choice<'static>; 9] = [
     Choice {
         purpose: "information file of da65, for the start and the part",
         ..INFO
@@ -20,6 +20,13 @@ static CHOICES: [Choice<'static>; 7] = [
         value: Some("byte"),
         purpose: "begin segments at their START, with this byte between",
     },
+    Choice {
+        id: "in-place",
+        short: None,
+        long: Some("in-place"),
+        value: None,
+        purpose: "refuse a listing in which a label LXXXX is not at $XXXX",
+    },
     OUTPUT,
     Choice {
         id: "compare",
@@ -27,6 +34,13 @@ static CHOICES: [Choice<'static>; 7] = [
         long: Some("compare"),
         value: Some("image"),
         purpose: "print where the bytes differ from an image",
+    },
+    Choice {
+        id: "labels",
+        short: None,
+        long: Some("labels"),
+        value: None,
+        purpose: "write the names for emulators, in place of the bytes",
     },
     HELP,
     VERSION,

@@ -11,14 +11,16 @@ use files65::write_text;
 use map65::{Image, Sink};
 use std::alloc::Global;
 
-/// Compares an image with the bytes of a listing, and writes where they differ. Both begin at the same address.
+/// Compares an image with the bytes of a listing, and writes where they differ, and before that where labels leave the
+/// address in their name. Both begin at the same address.
 pub fn compare<W: Sink>(
     alloc: Global,
     image: &Image,
     assembled: &Assembled<'_, '_, '_, '_>,
     out: &mut W,
 ) -> Result<Ended, Failure>
-    ensures answer { Compares (compared image.now assembled.now) (W.taken out.old) (W.taken out.new) result }
+    ensures answer { Compares assembled.now.moves (compared image.now assembled.now)
+        (W.taken out.old) (W.taken out.new) result }
     ensures count { CountsWrites (W.faults out.old) (W.faults out.new) result }
     ensures same { image.now.bytes ≡ assembled.now.bytes → result ≡ Ok Ended.Done }
 {

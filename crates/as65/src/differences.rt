@@ -1,15 +1,16 @@
 //! The lines that say where a listing and an image differ.
 
 ghost use Rattle.std.specs.Prelude.{◌≡◌, ◌+◌, ◌++◌, IfOk, OnOk, flat_map, map, take};
-ghost use Rattle.as65.specs.Words.{IsDifferences, IsInBoth, IsReady, Moves, beside, change_text, compared, dots_above, is_control, lengths_line, line_left, line_of, origin_text, shown, shown_byte, shown_bytes, shown_line, spaced, trimmed};
+ghost use Rattle.as65.specs.Words.{AppendsDifferences, IsDifferences, IsInBoth, IsReady, Moves, beside, change_text, compared, dots_above, is_control, lengths_line, line_left, line_of, origin_text, shown, shown_byte, shown_bytes, shown_line, spaced, trimmed};
 
 use crate::assembled::Assembled;
+use crate::changes::changes;
+use crate::moves::{labels_in, moves_in, put_moves};
 use crate::origins::{Origin, Origins};
 use crate::stretches::{Stretch, stretches};
 use files65::{put_address, put_decimal};
 use map65::Image;
 use std::alloc::{AllocError, Global};
-use stmt65::line_addresses;
 use text65::hex_digit;
 
 /// How many bytes of a stretch are shown.
@@ -99,7 +100,7 @@ pub(crate) fn put_line(out: &mut Vec<u8>, line: &[u8]) -> Result<(), AllocError>
 
 /// Appends an address, and the bytes that the image and the listing have there.
 #[tactic(auto, unfolding(crate::specs::Differences::change_text))]
-fn put_change(
+pub(crate) fn put_change(
     out: &mut Vec<u8>,
     address: usize,
     image: &[u8],
@@ -116,7 +117,7 @@ fn put_change(
 
 /// Appends the number of a line, and its beginning.
 #[tactic(auto, unfolding(crate::specs::Differences::origin_text))]
-fn put_origin(out: &mut Vec<u8>, origin: &Origin<'_>) -> Result<(), AllocError>
+pub(crate) fn put_origin(out: &mut Vec<u8>, origin: &Origin<'_>) -> Result<(), AllocError>
     ensures { OnOk result (out.new.items
         ≡ out.old.items ++ origin_text origin.now.number origin.now.line.now) }
 {
@@ -128,7 +129,7 @@ fn put_origin(out: &mut Vec<u8>, origin: &Origin<'_>) -> Result<(), AllocError>
 
 /// Appends a line for lengths that differ.
 #[tactic(auto, unfolding(crate::specs::Differences::lengths_line))]
-fn put_lengths(out: &mut Vec<u8>, had: usize, has: usize) -> Result<(), AllocError>
+pub(crate) fn put_lengths(out: &mut Vec<u8>, had: usize, has: usize) -> Result<(), AllocError>
     ensures { OnOk result (out.new.items ≡ out.old.items ++ lengths_line had has) }
 {
     if had == has {
@@ -181,19 +182,44 @@ fn put_all(
     Ok(())
 }
 
-/// The lines that say where an image and a listing differ: one for each stretch of bytes, and one for lengths that differ.
+/// Appends a line for each stretch of bytes that differ, and one for lengths that differ, by the address after each line.
+fn put_differences(
+    alloc: Global,
+    out: &mut Vec<u8>,
+    image: &Image,
+    assembled: &Assembled<'_, '_, '_, '_>,
+    ends: &[u64],
+) -> Result<(), AllocError>
+    requires { ends.now ≡ assembled.now.ends }
+    ensures { OnOk result (AppendsDifferences
+        (compared image.now assembled.now) out.old.items out.new.items) }
+{
+    let found = stretches(alloc, image.bytes(), assembled.bytes())?;
+    let mut origins = Origins::new(assembled.source().text, ends);
+    put_all(out, image, assembled.bytes(), &found, &mut origins)?;
+    put_lengths(out, image.bytes().len(), assembled.bytes().len())
+}
+
+/// The lines that say where an image and a listing differ: one for each label at which the distance from the address in its name changes; one
+/// for each stretch of bytes, and one for lengths that differ. If there are lines of labels, what has only moved with them is left out.
 pub fn differences(
     alloc: Global,
     image: &Image,
     assembled: &Assembled<'_, '_, '_, '_>,
 ) -> Result<Vec<u8>, AllocError>
-    ensures { IfOk result (λ text. IsDifferences (compared image.now assembled.now) text.items) }
+    ensures { IfOk result (λ text.
+        IsDifferences assembled.now.moves (compared image.now assembled.now) text.items) }
 {
-    let found = stretches(alloc, image.bytes(), assembled.bytes())?;
-    let ends = line_addresses(alloc, assembled.source())?;
-    let mut origins = Origins::new(assembled.source().text, &ends);
+    let ends = assembled.ends(alloc)?;
+    let labels = labels_in(alloc, assembled.source(), &ends)?;
+    let moves = moves_in(alloc, &labels)?;
     let mut out = Vec::new(alloc);
-    put_all(&mut out, image, assembled.bytes(), &found, &mut origins)?;
-    put_lengths(&mut out, image.bytes().len(), assembled.bytes().len())?;
+    put_moves(&mut out, &moves)?;
+    if moves.is_empty() {
+        put_differences(alloc, &mut out, image, assembled, &ends)?;
+        return Ok(out);
+    }
+    let changes = changes(alloc, image, assembled, labels)?;
+    out.extend_from_slice(&changes)?;
     Ok(out)
 }

@@ -24,6 +24,12 @@ pub enum Refused {
     /// A line of the listing of this name has a fault; and what is said after its text.
     #[error("{0}:{1}")]
     Line(String, AsmFault, Vec<u8>),
+    /// Neither the command line nor the information file of this name gives a start address.
+    #[error("no start address: give -S, or STARTADDR in {0}")]
+    NoStart(String),
+    /// A label of the listing of this name is not at the address in its name: the number of its line, and what is said of it.
+    #[error("{0}:{1}: ")]
+    Moved(String, usize, Vec<u8>),
     /// A write of a message failed, so nothing more is said.
     #[error("cannot write a message")]
     Silent,
@@ -34,7 +40,7 @@ pub fn said_after(failure: &Failure) -> &[u8]
     ensures { result.now ≡ said_after failure.now }
 {
     match failure {
-        Failure::Own(Refused::Line(_, _, said)) => said.as_slice(),
+        Failure::Own(Refused::Line(_, _, said) | Refused::Moved(_, _, said)) => said.as_slice(),
         _ => &[],
     }
 }

@@ -8,7 +8,7 @@ use crate::failure::{Failure, Refused};
 use crate::hint::hint;
 use crate::origins::line_at;
 use std::alloc::{AllocError, Global};
-use stmt65::{AsmFault, AsmFaultKind, Source};
+use stmt65::{AsmFault, AsmFaultKind, Explained, Source};
 
 /// Appends what a fault is about, if the line does not say it.
 fn put_hint(out: &mut Vec<u8>, hint: &[u8]) -> Result<(), AllocError>
@@ -21,33 +21,45 @@ fn put_hint(out: &mut Vec<u8>, hint: &[u8]) -> Result<(), AllocError>
     out.extend_from_slice(hint)
 }
 
-/// What comes after the text of a fault: what it is about, and the line.
+/// What comes after the text of a fault: a hint, if there is one, and the line.
 #[tactic(auto, unfolding(crate::specs::FaultyLine::about))]
-fn about(alloc: Global, fault: AsmFault, source: &Source<'_, '_, '_>) -> Result<Vec<u8>, AllocError>
-    ensures { IfOk result (λ said. said.items ≡ about fault source.now) }
+fn about(
+    alloc: Global,
+    hint: &[u8],
+    fault: AsmFault,
+    source: &Source<'_, '_, '_>,
+) -> Result<Vec<u8>, AllocError>
+    ensures { IfOk result (λ said. said.items ≡ about hint.now fault source.now) }
 {
-    let hint = hint(alloc, fault, source)?;
     let mut out = Vec::new(alloc);
-    put_hint(&mut out, &hint)?;
+    put_hint(&mut out, hint)?;
     out.extend_from_slice(b": ")?;
     put_line(&mut out, line_at(source.text, fault.line))?;
     Ok(out)
 }
 
 /// The failure of the listing of this name.
+#[tactic(auto, using(crate::proofs::HintLemmas::said))]
 pub fn failure_of(
     alloc: Global,
-    fault: AsmFault,
+    explained: Explained<'_>,
     name: &str,
     source: &Source<'_, '_, '_>,
 ) -> Failure
-    requires { FailsWith fault source.now }
+    requires { FailsWith explained.fault source.now }
     ensures { Reports name.now source.now result }
 {
+    let fault = explained.fault;
     if fault.kind == AsmFaultKind::Memory {
         return Failure::Memory;
     }
-    match (String::from_str(alloc, name), about(alloc, fault, source)) {
+    let Ok(hint) = hint(alloc, explained, line_at(source.text, fault.line)) else {
+        return Failure::Memory;
+    };
+    match (
+        String::from_str(alloc, name),
+        about(alloc, &hint, fault, source),
+    ) {
         (Ok(name), Ok(said)) => Failure::Own(Refused::Line(name, fault, said)),
         _ => Failure::Memory,
     }

@@ -1,11 +1,13 @@
 //! Assembles a listing: `as65 [options] [listing]`.
 //!
 //! In order: the options, then help or version, whether the output is an input, the information file and whether the output is its input, the
-//! image to compare with, the listing, its bytes, and the output, which is created only now. With `--compare` nothing is written but the differences from the
-//! image, on standard output. `status` has the statuses.
+//! image to compare with, the listing, its bytes, whether its labels are in place, and the output, which is created only now. With `--compare`
+//! nothing is written but the differences from the image, on standard output. `status` has the statuses.
 #![tactic(auto)]
 
 mod assembled;
+mod before;
+mod changes;
 mod command;
 mod comparison;
 mod differences;
@@ -14,8 +16,10 @@ mod faulty_line;
 mod hint;
 mod image;
 mod information;
+mod labels;
 mod listing;
 mod message;
+mod moves;
 mod named_start;
 mod origins;
 mod request;
@@ -26,14 +30,16 @@ mod stretches;
 use assembled::Assembled;
 use command::this_program;
 use comparison::compare;
-use failure::Failure;
+use failure::{Failure, Refused};
 use files65::{Output, Placeholders, keep_apart, keep_inputs, read_listing, write_text};
 use image::image;
 use info65::Info;
 use information::{information, placed_at};
+use labels::names_in;
 use listing::need_bytes;
 use map65::Image;
 use message::{say, say_starts};
+use moves::need_in_place;
 use named_start::named_start;
 use request::{Comparing, Request, Writing, is_compared_by, is_comparing, request_of};
 use segment_starts::layout_of;
@@ -58,21 +64,49 @@ fn repair<'t, 'l, 'n>(layout: &'l Layout<'n>, start: u16, text: &'t [u8]) -> Sou
     }
 }
 
-/// Writes the bytes of a listing. The output is created once they are there.
+/// Where the information file of this name, under the start of the command line, places the bytes of a listing.
+fn start_in(rt: &HostRuntime, name: Option<&str>, info: &Info) -> Result<u16, Failure> {
+    match (placed_at(info.settings()), name) {
+        (Some(start), _) => Ok(start),
+        (None, Some(name)) => {
+            let name = String::from_str(rt.alloc(), name)?;
+            Err(Failure::Own(Refused::NoStart(name)))
+        }
+        (None, None) => Err(Failure::Request(RequestFault::NoStart)),
+    }
+}
+
+/// Writes the bytes of a listing, if its labels are where they have to be. The output is created once the bytes are there.
 fn write_source(
     rt: &HostRuntime,
     names: &mut Names,
+    in_place: bool,
     source: &Source<'_, '_, '_>,
 ) -> Result<Ended, Failure> {
     let name = names.listing.as_str();
     let assembled = Assembled::new(rt.alloc(), source, name)?;
     need_bytes(rt.alloc(), &assembled, name)?;
+    if in_place {
+        need_in_place(rt.alloc(), &assembled, name)?;
+    }
     let mut output = Output::create(rt, names.output.take())?;
     assembled.write(&mut output)?;
     Ok(Ended::Done)
 }
 
-/// Reads the listing, and writes its bytes. The output may not be the input of the information file either.
+/// Writes the names of a listing. The output is created once they are there.
+fn write_labels(
+    rt: &HostRuntime,
+    names: &mut Names,
+    source: &Source<'_, '_, '_>,
+) -> Result<Ended, Failure> {
+    let text = names_in(rt.alloc(), source, names.listing.as_str())?;
+    let mut output = Output::create(rt, names.output.take())?;
+    write_text(&mut output, &text)?;
+    Ok(Ended::Done)
+}
+
+/// Reads the listing, and writes its bytes or its names. The output may not be the input of the information file either.
 fn write_under(rt: &HostRuntime, writing: &mut Writing, info: &Info) -> Result<Ended, Failure> {
     let names = &mut writing.names;
     keep_inputs(
@@ -80,10 +114,15 @@ fn write_under(rt: &HostRuntime, writing: &mut Writing, info: &Info) -> Result<E
         names.output.as_deref(),
         &[info.settings().input.as_deref()],
     )?;
-    let start = placed_at(info.settings()).ok_or(RequestFault::NoStart)?;
+    let start = start_in(rt, names.info.as_deref(), info)?;
     let layout = layout_of(rt.alloc(), info.segments(), writing.place.fill)?;
     let text = read_listing(rt, names.listing.as_str())?;
-    write_source(rt, names, &repair(&layout, start, &text))
+    let source = repair(&layout, start, &text);
+    if writing.labels {
+        write_labels(rt, names, &source)
+    } else {
+        write_source(rt, names, writing.place.in_place, &source)
+    }
 }
 
 /// Reads what says where the image is, and writes it.

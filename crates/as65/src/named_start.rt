@@ -29,7 +29,7 @@ fn digit(byte: u8) -> Option<u64>
 
 /// The address in a name of the form LXXXX.
 #[tactic(auto, unfolding(crate::specs::NamedStart::address_in_name))]
-fn address_in_name(name: &[u8]) -> Option<u64>
+pub(crate) fn address_in_name(name: &[u8]) -> Option<u64>
     ensures value { result ≡ address_in_name name.now }
     ensures low { IfSome result (λ a. a < 65536) }
 {

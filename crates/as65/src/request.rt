@@ -34,13 +34,17 @@ pub struct Place {
     pub start: Option<u16>,
     /// The byte between segments that begin at their START; without one the segments move nothing.
     pub fill: Option<u8>,
+    /// Whether each label `LXXXX` has to be at $XXXX.
+    pub in_place: bool,
 }
 
-/// The bytes of a listing are to be written.
+/// The bytes of a listing are to be written, or its names.
 #[derive(Drop)]
 pub struct Writing {
     pub names: Names,
     pub place: Place,
+    /// Whether the names are to be written in their place.
+    pub labels: bool,
 }
 
 /// A listing is to be compared with an image. The output is standard output.
@@ -58,6 +62,7 @@ struct Given<'a> {
     info: Option<&'a str>,
     output: Option<&'a str>,
     place: Place,
+    labels: bool,
 }
 
 /// Whether a comparison is asked for, however well: trouble then has a status of its own.
@@ -101,7 +106,7 @@ pub fn is_compared_by<E: Env>(process: &E) -> bool {
 /// What the words ask for. The first word is the program's name.
 ///
 /// Each option and the name of the listing may be given once. Help comes first, then the version, both before any value
-/// is looked at. Then the start is read, no output may stand beside an image, and without one there must be a start. The
+/// is looked at. Then the start is read, no output, `--in-place` or `--labels` may stand beside an image, and without one there must be a start. The
 /// output may not have the name of the listing, nor may standard input be both the listing and the image.
 #[tactic(auto, unfolding(crate::specs::Request::asked), using(crate::proofs::CommandLemmas::app_is_plain))]
 pub fn request_of(alloc: Global, words: &[String]) -> Result<Request, RequestFault>
@@ -124,11 +129,17 @@ fn request_in(alloc: Global, matches: &ArgMatches) -> Result<Request, RequestFau
     }
     let start = address_of(matches, "start")?;
     let fill = byte_of(matches, "fill")?;
+    let in_place = is_set(matches, "in-place");
     let given = Given {
         listing: input_named(text_of(matches, "listing")),
         info: info_named(text_of(matches, "info")),
         output: output_named(text_of(matches, "output")),
-        place: Place { start, fill },
+        place: Place {
+            start,
+            fill,
+            in_place,
+        },
+        labels: is_set(matches, "labels"),
     };
     match text_of(matches, "compare") {
         Some(image) => to_compare(alloc, given, input_named(Some(image))),
@@ -141,20 +152,29 @@ fn request_in(alloc: Global, matches: &ArgMatches) -> Result<Request, RequestFau
 fn to_write(alloc: Global, given: Given<'_>) -> Result<Request, RequestFault>
     ensures { Gives asked_of result (to_write (given_of given.entry)) }
 {
+    if given.place.in_place && given.labels {
+        return Err(RequestFault::Usage(UsageFault::Words));
+    }
     if !(given.place.start.is_some() || given.info.is_some()) {
         return Err(RequestFault::NoStart);
     }
     let names = names_apart(alloc, given.listing, given.info, given.output)?;
     let place = given.place;
-    Ok(Request::Write(Writing { names, place }))
+    let labels = given.labels;
+    Ok(Request::Write(Writing {
+        names,
+        place,
+        labels,
+    }))
 }
 
-/// A listing is to be compared with an image, without another output. Standard input can be only one of the inputs.
+/// A listing is to be compared with an image, without another output or names; labels may be anywhere. Standard input can be only one of the
+/// inputs.
 #[tactic(auto, unfolding(crate::specs::Request::to_compare))]
 fn to_compare(alloc: Global, given: Given<'_>, image: &str) -> Result<Request, RequestFault>
     ensures { Gives asked_of result (to_compare (given_of given.entry) image.now) }
 {
-    if given.output.is_some() {
+    if given.output.is_some() || given.place.in_place || given.labels {
         return Err(RequestFault::Usage(UsageFault::Words));
     }
     if is_taken(Some(given.listing), image) || is_taken(given.info, image) {

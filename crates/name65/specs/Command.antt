@@ -9,12 +9,18 @@ groups_choice = record info_choice { purpose = codes "information file, for its 
 abbrev pub used_choice : ChoiceView
 used_choice = record { id = codes "used"; short = None; long = Some (codes "used"); value = None; purpose = codes "leave out constant lines of names that no other line uses" }
 
+abbrev pub fill_choice : ChoiceView
+fill_choice = record { id = codes "fill"; short = None; long = Some (codes "fill"); value = Some (codes "byte"); purpose = codes "begin segments at their START, with this byte between" }
+
+abbrev pub first_choice : ChoiceView
+first_choice = record { id = codes "labels-first"; short = None; long = Some (codes "labels-first"); value = None; purpose = codes "put a label before the names inside its instruction" }
+
 -- the usage line, the options in the order of the help text, and an optional listing
 abbrev pub this_program : ProgramView
 this_program = record {
   name = codes "name65";
   usage = codes "Usage: name65 [options] [listing]";
-  choices = groups_choice ∷ start_choice ∷ output_choice ∷ used_choice ∷ help_choice ∷ version_choice ∷ [];
+  choices = groups_choice ∷ start_choice ∷ fill_choice ∷ output_choice ∷ used_choice ∷ first_choice ∷ help_choice ∷ version_choice ∷ [];
   input = codes "listing";
 }
 

@@ -9,32 +9,43 @@ use crate::plan::{PlacedLine, Plan};
 use crate::rewriting::{put_operands, put_table};
 use crate::wishes::Wish;
 use std::alloc::AllocError;
-use stmt65::{SourceLine, read_line};
+use stmt65::{Language, Part, Place, Places, SourceLine, Span, read_line};
 
-/// How the operands of a line are written, and from which place on.
-#[derive(Clone, Copy)]
-enum Form {
-    /// After `#`.
-    Immediate(usize),
-    /// In a list after `.byte` or `.word`, each of which gives so many bytes, with the place of the directive.
-    List(u64, usize, usize),
-    /// Otherwise.
+/// What the operands of a line are, with their places.
+#[derive(Drop)]
+enum Form<'l> {
+    /// One after `#`.
+    Immediate(Places<'l>),
+    /// The list of a `.byte` or `.word`, which stands there; each gives so many bytes.
+    List(u64, Span, Places<'l>),
+    /// Others.
     Other,
 }
 
-/// A `#` or a directive, in any letter case, stands before all else that has such a byte.
-fn form_of(line: &[u8]) -> Form {
-    let Some(at) = line
-        .iter()
-        .position(|byte| matches!(*byte, b'#' | b'.' | b';'))
+fn form_of(language: Language, line: &[u8]) -> Form<'_> {
+    let mut places = Places::new(language, line);
+    let Some(
+        Place {
+            part: Part::Word(word),
+            span,
+        },
+    ) = places.head().operation
     else {
         return Form::Other;
     };
-    let end = at.saturating_add(5);
-    match line.get(at..end) {
-        _ if line[at] == b'#' => Form::Immediate(at + 1),
-        Some(word) if word.eq_ignore_ascii_case(b".byte") => Form::List(1, at, end),
-        Some(word) if word.eq_ignore_ascii_case(b".word") => Form::List(2, at, end),
+    if word.eq_ignore_ascii_case(b".byte") {
+        return Form::List(1, span, places);
+    }
+    if word.eq_ignore_ascii_case(b".word") {
+        return Form::List(2, span, places);
+    }
+    match places.next() {
+        Some(
+            Place {
+                part: Part::Mark(b'#'),
+                ..
+            },
+        ) => Form::Immediate(places),
         _ => Form::Other,
     }
 }
@@ -56,16 +67,20 @@ fn put_operation(
             return put_address(out, placed, wished, reference);
         }
     }
-    match form_of(line) {
-        Form::Immediate(from) => {
+    match form_of(placed.language, line) {
+        Form::Immediate(places) => {
             keep_free(plan.wishes, at, 1)?;
             put_operands(
                 out,
-                Operands::new(plan.wishes, line, from, at.saturating_add(1), 1),
+                Operands::new(plan.wishes, line, places, at.saturating_add(1), 1),
             )
         }
-        Form::List(size, word, from) => {
-            put_table(out, Operands::new(plan.wishes, line, from, at, size), word)
+        Form::List(size, word, places) => {
+            put_table(
+                out,
+                Operands::new(plan.wishes, line, places, at, size),
+                word,
+            )
         }
         Form::Other => {
             keep_free(plan.wishes, at, end.saturating_sub(at))?;
@@ -79,13 +94,13 @@ fn put_constant(
     out: &mut Vec<u8>,
     tail: &mut Vec<u8>,
     plan: &Plan<'_, '_>,
-    line: &[u8],
+    placed: &PlacedLine<'_>,
     (name, value): (&[u8], u64),
 ) -> Result<(), AllocError> {
     match fate_of(plan, name, value) {
-        Fate::Kept => put_kept(out, line),
+        Fate::Kept => put_kept(out, placed.line),
         Fate::LeftOut => Ok(()),
-        Fate::Moved(distance) => tail.extend_from_slice(&moved(plan.alloc, line, distance)?),
+        Fate::Moved(distance) => tail.extend_from_slice(&moved(plan.alloc, placed, distance)?),
     }
 }
 
@@ -101,7 +116,7 @@ pub fn put_changed(
     }
     let put = match read_line(plan.alloc, placed.language, placed.line)? {
         Some(SourceLine::Assignment(name, n)) => {
-            put_constant(out, tail, plan, placed.line, (name, n.value()))
+            put_constant(out, tail, plan, placed, (name, n.value()))
         }
         _ => put_kept(out, placed.line),
     };

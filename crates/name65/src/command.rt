@@ -7,12 +7,19 @@ ghost use Rattle.name65.specs.Command.{this_program};
 use usage65::{Choice, HELP, INFO, OUTPUT, Program, START, VERSION};
 
 /// The options, in the order of the help text.
-static CHOICES: [Choice<'static>; 6] = [
+static CHOICES: [Choice<'static>; 8] = [
     Choice {
         purpose: "information file, for its lines `#: ..` and the start",
         ..INFO
     },
     START,
+    Choice {
+        id: "fill",
+        short: None,
+        long: Some("fill"),
+        value: Some("byte"),
+        purpose: "begin segments at their START, with this byte between",
+    },
     OUTPUT,
     Choice {
         id: "used",
@@ -20,6 +27,13 @@ static CHOICES: [Choice<'static>; 6] = [
         long: Some("used"),
         value: None,
         purpose: "leave out constant lines of names that no other line uses",
+    },
+    Choice {
+        id: "labels-first",
+        short: None,
+        long: Some("labels-first"),
+        value: None,
+        purpose: "put a label before the names inside its instruction",
     },
     HELP,
     VERSION,

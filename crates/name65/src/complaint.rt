@@ -11,7 +11,7 @@ use thiserror::Error;
 pub enum Complaint {
     /// No line of the listing gives the byte.
     #[error("no line has the byte at ${0:04X}")]
-    NoLine(u16),
+    NoLine(u32),
     /// The byte is no number of an immediate operand or of a `.byte`, or the word none of a `.word`.
     #[error("no number stands alone for what is at ${0:04X}")]
     NoNumber(u16),

@@ -15,6 +15,7 @@ mod constant_line;
 mod constants;
 mod failure;
 mod information;
+mod labels_first;
 mod marks;
 mod named_text;
 mod names;
@@ -23,7 +24,6 @@ mod plan;
 mod reference;
 mod request;
 mod rewriting;
-mod spans;
 mod wishes;
 
 use command::this_program;
@@ -32,7 +32,9 @@ use files65::{
     Output, Placeholders, keep_apart, keep_inputs, need_plain, read_information, read_listing, say,
     write_text,
 };
-use information::{info_given, tags};
+use info65::{Info, Tag};
+use information::{info_given, layout_of, tags};
+use labels_first::with_labels_first;
 use named_text::named_text;
 use request::{Naming, Request, request_of};
 use std::process::ExitCode;
@@ -49,9 +51,10 @@ fn repair<'t, 'l, 'n>(layout: &'l Layout<'n>, start: u16, text: &'t [u8]) -> Sou
     }
 }
 
-/// The start from which the last byte of a text is at $FFFF.
-fn start_at_end(rt: &HostRuntime, layout: &Layout<'_>, text: &[u8]) -> Result<u16, Failure> {
-    let ends = line_addresses(rt.alloc(), &repair(layout, 0, text))?;
+/// The start from which the last byte of a text without gaps is at $FFFF.
+fn start_at_end(rt: &HostRuntime, text: &[u8]) -> Result<u16, Failure> {
+    let layout = Layout::new(rt.alloc(), 0)?;
+    let ends = line_addresses(rt.alloc(), &repair(&layout, 0, text))?;
     let len = ends.last().copied().unwrap_or(0);
     if 0 < len && len <= 65_536 {
         return Ok((65_536 - len) as u16);
@@ -59,20 +62,46 @@ fn start_at_end(rt: &HostRuntime, layout: &Layout<'_>, text: &[u8]) -> Result<u1
     Ok(0)
 }
 
+/// A listing by names; if that is asked for, with its labels first.
+fn named_source(
+    rt: &HostRuntime,
+    naming: &Naming,
+    source: &Source<'_, '_, '_>,
+    info: &Info,
+    tags: &[Tag],
+) -> Result<Vec<u8>, Failure> {
+    let name = naming.names.listing.as_str();
+    if !naming.labels_first {
+        return named_text(rt.alloc(), name, source, info, tags, naming.used);
+    }
+    let text = with_labels_first(rt.alloc(), name, source)?;
+    let source = repair(source.layout, source.start, &text);
+    named_text(rt.alloc(), name, &source, info, tags, naming.used)
+}
+
+/// The listing of this text by names.
+fn named_under(
+    rt: &HostRuntime,
+    naming: &Naming,
+    info: &Info,
+    tags: &[Tag],
+    text: &[u8],
+) -> Result<Vec<u8>, Failure> {
+    let layout = layout_of(rt.alloc(), info.segments(), naming.fill)?;
+    let start = match info.settings().start {
+        Some(start) => start,
+        None => start_at_end(rt, text)?,
+    };
+    named_source(rt, naming, &repair(&layout, start, text), info, tags)
+}
+
 /// The listing of these files by names.
 fn named_listing(rt: &HostRuntime, naming: &Naming) -> Result<Vec<u8>, Failure> {
-    let name = naming.names.listing.as_str();
     let bytes = read_information(rt, naming.names.info.as_deref())?;
     let info = info_given(rt.alloc(), naming.start, &bytes)?;
     let tags = tags(rt.alloc(), &bytes)?;
-    let text = read_listing(rt, name)?;
-    let layout = Layout::new(rt.alloc(), 0)?;
-    let start = match info.settings().start {
-        Some(start) => start,
-        None => start_at_end(rt, &layout, &text)?,
-    };
-    let source = repair(&layout, start, &text);
-    named_text(rt.alloc(), name, &source, &info, &tags, naming.used)
+    let text = read_listing(rt, naming.names.listing.as_str())?;
+    named_under(rt, naming, &info, &tags, &text)
 }
 
 /// Reads the listing and the groups, and writes the listing by names. The output is created once that is there.

@@ -11,7 +11,7 @@ use std::alloc::{AllocError, Global};
 use stmt65::{AsmFaultKind, Assembly, Source, Symbols, assemble_known, assemble_lines};
 
 /// What the listing of this name means.
-fn assembled<'t, 'b>(
+pub(crate) fn assembled<'t, 'b>(
     alloc: &'b Global,
     name: &str,
     source: &Source<'t, '_, '_>,

@@ -2,9 +2,8 @@
 
 use crate::complaint::{Complaint, Refusal};
 use crate::reference::Reference;
-use crate::spans::{Span, Spans};
 use crate::wishes::{Wish, Wished, Wishes};
-use stmt65::Half;
+use stmt65::{Datum, Half, Places, Span, Value};
 
 /// What stands in the place of an operand.
 #[derive(Clone, Copy)]
@@ -38,31 +37,47 @@ pub fn keep_free(wishes: &Wishes<'_>, from: u64, count: u64) -> Result<(), Refus
 }
 
 /// Goes over the operands of a line, each of which gives so many bytes unless it is a string.
-#[derive(Clone, Copy)]
+#[derive(Drop)]
 pub struct Operands<'w, 't, 'l> {
     wishes: &'w Wishes<'t>,
+    places: Places<'l>,
     pub line: &'l [u8],
-    spans: Spans<'l>,
     address: u64,
     size: u64,
 }
 
 impl<'w, 't, 'l> Operands<'w, 't, 'l> {
-    /// The operands from a place of a line on. The first byte of the first is at this address.
+    /// The operands of a line that are left. The first byte of the first is at this address.
     pub fn new(
         wishes: &'w Wishes<'t>,
         line: &'l [u8],
-        from: usize,
+        places: Places<'l>,
         address: u64,
         size: u64,
     ) -> Operands<'w, 't, 'l> {
         Operands {
             wishes,
+            places,
             line,
-            spans: Spans::new(line, from),
             address,
             size,
         }
+    }
+
+    /// The same operands.
+    pub fn copied(&self) -> Operands<'w, 't, 'l> {
+        Operands::new(
+            self.wishes,
+            self.line,
+            self.places.copied(),
+            self.address,
+            self.size,
+        )
+    }
+
+    /// Where the last part of the line ends that was passed over.
+    pub fn end(&self) -> usize {
+        self.places.end()
     }
 
     /// What stands in the place of a number.
@@ -84,24 +99,21 @@ impl<'w, 't, 'l> Operands<'w, 't, 'l> {
 
     /// Where the next operand stands, and what stands in its place.
     pub fn next(&mut self) -> Result<Option<(Span, Operand<'t>)>, Refusal> {
-        let Some(span) = self.spans.next() else {
+        let Some(found) = self.places.operand() else {
             return Ok(None);
         };
-        let (count, is_number) = match self.line.get(span.from) {
-            Some(b'0'..=b'9' | b'$' | b'%' | b'\'') => (self.size, true),
-            Some(b'"') => (
-                span.to.saturating_sub(span.from).saturating_sub(2) as u64,
-                false,
-            ),
-            _ => (self.size, false),
+        let count = match found.datum {
+            Datum::String(text) => text.len() as u64,
+            _ => self.size,
         };
-        let operand = if is_number {
-            self.of_number()?
-        } else {
-            keep_free(self.wishes, self.address, count)?;
-            Operand::Kept
+        let operand = match found.datum {
+            Datum::Value(Value::Number(_)) => self.of_number()?,
+            _ => {
+                keep_free(self.wishes, self.address, count)?;
+                Operand::Kept
+            }
         };
         self.address = self.address.saturating_add(count);
-        Ok(Some((span, operand)))
+        Ok(Some((found.span, operand)))
     }
 }

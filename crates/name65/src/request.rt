@@ -10,8 +10,8 @@ use crate::command::this_program;
 use clap::ArgMatches;
 use std::alloc::Global;
 use usage65::{
-    Names, RequestFault, address_of, info_named, input_named, is_set, names_apart, output_named,
-    text_of,
+    Names, RequestFault, address_of, byte_of, info_named, input_named, is_set, names_apart,
+    output_named, text_of,
 };
 
 /// What a command line asks for.
@@ -28,14 +28,18 @@ pub struct Naming {
     pub names: Names,
     /// The address of the first byte; without one the information file says where it is, or the last byte is at $FFFF.
     pub start: Option<u16>,
+    /// The byte between segments that begin at their START; without one the segments move nothing.
+    pub fill: Option<u8>,
     /// Whether constant lines of unused names are left out.
     pub used: bool,
+    /// Whether labels come before the names inside their instructions.
+    pub labels_first: bool,
 }
 
 /// What the words ask for. The first word is the program's name.
 ///
-/// Each option and the name of the listing may be given once. Help comes first, then the version, both before the start is
-/// read. The output may not have the name of an input, nor may standard input be both the listing and the information file.
+/// Each option and the name of the listing may be given once. Help comes first, then the version, both before the start and
+/// the byte are read. The output may not have the name of an input, nor may standard input be both the listing and the information file.
 #[tactic(auto, unfolding(crate::specs::Request::asked), using(crate::proofs::CommandLemmas::app_is_plain))]
 pub fn request_of(alloc: Global, words: &[String]) -> Result<Request, RequestFault>
     ensures { Gives asked_of result (asked (map string_bytes words.now)) }
@@ -56,6 +60,7 @@ fn request_in(alloc: Global, matches: &ArgMatches) -> Result<Request, RequestFau
         return Ok(Request::Version);
     }
     let start = address_of(matches, "start")?;
+    let fill = byte_of(matches, "fill")?;
     let listing = input_named(text_of(matches, "listing"));
     let info = info_named(text_of(matches, "info"));
     let output = output_named(text_of(matches, "output"));
@@ -63,6 +68,8 @@ fn request_in(alloc: Global, matches: &ArgMatches) -> Result<Request, RequestFau
     Ok(Request::Name(Naming {
         names,
         start,
+        fill,
         used: is_set(matches, "used"),
+        labels_first: is_set(matches, "labels-first"),
     }))
 }

@@ -3,9 +3,8 @@
 use crate::complaint::Refusal;
 use crate::operands::{Operand, Operands};
 use crate::reference::{put_half, put_reference};
-use crate::spans::Span;
 use std::alloc::AllocError;
-use stmt65::Half;
+use stmt65::{Half, Span};
 use text65::is_blank;
 
 /// Appends the bytes of a line between two places.
@@ -63,7 +62,8 @@ pub fn put_operands(out: &mut Vec<u8>, mut operands: Operands<'_, '_, '_>) -> Re
         put_operand(out, line, span, operand)?;
         copied = span.to;
     }
-    put_rest(out, line, copied)?;
+    put_part(out, line, copied, operands.end())?;
+    put_rest(out, line, operands.end())?;
     Ok(out.extend_from_slice(b"\n")?)
 }
 
@@ -85,11 +85,11 @@ fn common_half(mut operands: Operands<'_, '_, '_>) -> Result<Option<Half>, Refus
 fn put_halves(
     out: &mut Vec<u8>,
     mut operands: Operands<'_, '_, '_>,
-    word: usize,
+    word: Span,
     half: Half,
 ) -> Result<(), Refusal> {
     let line = operands.line;
-    put_part(out, line, 0, word)?;
+    put_part(out, line, 0, word.from)?;
     out.extend_from_slice(match half {
         Half::Low => b".lobytes",
         Half::High => b".hibytes",
@@ -114,9 +114,9 @@ fn put_halves(
 pub fn put_table(
     out: &mut Vec<u8>,
     operands: Operands<'_, '_, '_>,
-    word: usize,
+    word: Span,
 ) -> Result<(), Refusal> {
-    match common_half(operands)? {
+    match common_half(operands.copied())? {
         Some(half) => put_halves(out, operands, word, half),
         None => put_operands(out, operands),
     }

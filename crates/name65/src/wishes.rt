@@ -58,7 +58,7 @@ impl<'b> Group<'b> {
                 return Ok(*byte);
             }
         }
-        self.refused(Complaint::NoLine(address))
+        self.refused(Complaint::NoLine(u32::from(address)))
     }
 
     /// The word at an address, low byte first.
@@ -86,7 +86,7 @@ impl<'b> Group<'b> {
     fn later(self, address: u16, count: u16) -> Result<u16, Refusal> {
         match address.checked_add(count) {
             Some(later) => Ok(later),
-            None => self.refused(Complaint::NoLine(address)),
+            None => self.refused(Complaint::NoLine(u32::from(address) + u32::from(count))),
         }
     }
 

@@ -1,7 +1,0 @@
-use Rattle.std.proofs.Common.{◌≡◌, drop, map}
-use Rattle.stmt65.specs.Words.{value_of}
-use Rattle.as65.specs.Words.{first_difference}
-use Rattle.as65.proofs.hint.first_difference.Given as goal
-
-abbrev pub invariant-values : goal.invariant-values
-invariant-values l = first_difference l.names (map value_of (drop l.value-index l.values)) ≡ first_difference l.names (map value_of l.values)

@@ -1,0 +1,115 @@
+//! Labels before the names inside their instructions.
+//!
+//! A line `NAME := * + n` stands above the line of the instruction inside of which the name is. If that has a label, whoever puts a line after
+//! `LABEL:` puts it between, and the name is off. So `LABEL:` gets a line of its own above these lines.
+
+ghost use Rattle.std.specs.Prelude.{IfErr, IfOk};
+ghost use Rattle.name65.specs.NamedText.{MeansTheSame, Reports};
+
+use crate::failure::{Failure, Refused};
+use crate::named_text::assembled;
+use std::alloc::{AllocError, Global};
+use stmt65::{AsmFaultKind, Language, Operation, Source, SourceLine, assemble_source, read_line};
+use text65::{first_line, is_blank};
+
+/// What a line is for the lines around it.
+#[derive(Clone, Copy)]
+enum Kind {
+    /// `NAME := * + n`.
+    Place,
+    /// A label, and whether an operation comes after it.
+    Label(bool),
+    Other,
+}
+
+fn kind_of(alloc: Global, language: Language, line: &[u8]) -> Result<Kind, AllocError> {
+    Ok(match read_line(alloc, language, line)? {
+        Some(SourceLine::PlaceAssignment(_, _)) => Kind::Place,
+        Some(
+            SourceLine::Statement {
+                label: Some(_),
+                operation,
+            },
+        ) => { Kind::Label(!matches!(operation, Operation::Nothing)) }
+        _ => Kind::Other,
+    })
+}
+
+fn put_line(out: &mut Vec<u8>, line: &[u8]) -> Result<(), AllocError> {
+    out.extend_from_slice(line)?;
+    out.extend_from_slice(b"\n")
+}
+
+/// Appends the lines `NAME := * + n`, and before them the label of the line that follows; what comes after the label keeps its column.
+fn put_split(
+    out: &mut Vec<u8>,
+    places: &[u8],
+    line: &[u8],
+    has_operation: bool,
+) -> Result<(), AllocError> {
+    let colon = line
+        .iter()
+        .position(|byte| *byte == b':')
+        .unwrap_or(line.len());
+    let end = colon.saturating_add(1).min(line.len());
+    if !has_operation {
+        put_line(out, line)?;
+        return out.extend_from_slice(places);
+    }
+    put_line(out, line.get(..end).unwrap_or(&[]))?;
+    out.extend_from_slice(places)?;
+    for byte in line.get(..end).unwrap_or(&[]) {
+        out.push(if is_blank(*byte) { *byte } else { b' ' })?;
+    }
+    put_line(out, line.get(end..).unwrap_or(&[]))
+}
+
+/// The lines of a text, each label before the names inside its instruction.
+fn reordered(alloc: Global, source: &Source<'_, '_, '_>) -> Result<Vec<u8>, AllocError> {
+    let mut out = Vec::new(alloc);
+    let mut places = Vec::new(alloc);
+    let mut rest = source.text;
+    'lines: while let Some((line, after)) = first_line(rest) {
+        match kind_of(alloc, source.language, line)? {
+            Kind::Place => put_line(&mut places, line)?,
+            Kind::Label(has_operation) if !places.is_empty() => {
+                put_split(&mut out, &places, line, has_operation)?;
+                places.clear();
+            }
+            _ => {
+                out.extend_from_slice(&places)?;
+                places.clear();
+                put_line(&mut out, line)?;
+            }
+        }
+        rest = after;
+    }
+    out.extend_from_slice(&places)?;
+    Ok(out)
+}
+
+/// The text of the listing of this name, each label before the names inside its instruction.
+///
+/// Nothing is trusted for the promise: the text is assembled too, and unless it gives the bytes of the listing, there is none.
+pub fn with_labels_first(
+    alloc: Global,
+    name: &str,
+    source: &Source<'_, '_, '_>,
+) -> Result<Vec<u8>, Failure>
+    ensures same { IfOk result (λ text. MeansTheSame source.now text.items) }
+    ensures fault { IfErr result (Reports name.now source.now) }
+{
+    let assembly = assembled(&alloc, name, source)?;
+    let text = reordered(alloc, source)?;
+    match assemble_source(
+        alloc,
+        &Source {
+            text: &text,
+            ..*source
+        },
+    ) {
+        Ok(bytes) if bytes.as_slice() == assembly.bytes.as_slice() => Ok(text),
+        Err(fault) if fault.kind == AsmFaultKind::Memory => Err(Failure::Memory),
+        _ => Err(Failure::Own(Refused::Changed)),
+    }
+}
