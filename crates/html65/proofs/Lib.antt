@@ -1,0 +1,5 @@
+mod CommandLemmas
+mod LinkLemmas
+mod PieceLemmas
+mod Rows
+mod TextLemmas

@@ -1,0 +1,37 @@
+-- Worked rows of the definitions.
+use Rattle.std.proofs.Common.{◌≡◌, [], ◌∷◌, codes, refl}
+use Rattle.html65.specs.Links.{count_in, ids_in, quoted_after, targets_in}
+use Rattle.html65.specs.Pieces.{Tag, Text, entity_at, piece_at, pieces, pieces_after}
+use Rattle.html65.specs.PageText.{text_from, text_of}
+
+-- tags, entities and text; a `&` that begins no entity; a tag that does not end
+tags : pieces (codes "a<b c>&lt;&") ≡ Text (codes "a") ∷ Tag (codes "b c") ∷ Text (codes "<") ∷ Text (codes "&") ∷ []
+unfolding pieces_after piece_at entity_at
+tags = refl
+
+open_tag : pieces (codes "<b") ≡ Tag (codes "b") ∷ []
+unfolding pieces_after piece_at entity_at
+open_tag = refl
+
+-- what is not the listing's is left out
+page : text_of (codes "<p>x</p><pre id=\"listing\"><span id=\"l1\"><i>FC00 <a>9</a></i> cld &amp;&gt;</span>\n</pre>y") ≡ codes " cld &>\n"
+unfolding pieces_after piece_at entity_at text_from
+page = refl
+
+-- a `<` of the listing that is written as it is would be lost
+lost : text_of (codes "<pre id=\"listing\">a<b>c</pre>") ≡ codes "ac"
+unfolding pieces_after piece_at entity_at text_from
+lost = refl
+
+-- ids and targets stand between quotes
+ids : ids_in (pieces (codes "<a id=\"l1\" href=\"#l2\"><a href=\"x\">")) ≡ codes "l1" ∷ []
+unfolding pieces_after piece_at entity_at ids_in quoted_after
+ids = refl
+
+targets : targets_in (pieces (codes "<a id=\"l1\" href=\"#l2\"><a href=\"x\">")) ≡ codes "l2" ∷ []
+unfolding pieces_after piece_at entity_at targets_in quoted_after
+targets = refl
+
+twice : count_in (codes "l1") (codes "l1" ∷ codes "l2" ∷ codes "l1" ∷ []) ≡ 2
+unfolding count_in
+twice = refl

@@ -1,0 +1,7 @@
+pub mod Command
+pub mod Links
+pub mod Page
+pub mod PageText
+pub mod Pieces
+pub mod Request
+pub mod Views

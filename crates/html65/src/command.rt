@@ -1,0 +1,38 @@
+//! The program's command line.
+
+ghost use Rattle.std.specs.Prelude.{◌≡◌};
+ghost use Rattle.usage65.specs.Words.{program_of};
+ghost use Rattle.html65.specs.Command.{this_program};
+
+use usage65::{Choice, HELP, INFO, OUTPUT, Program, START, VERSION};
+
+/// The options, in the order of the help text.
+static CHOICES: [Choice<'static>; 6] = [
+    Choice {
+        purpose: "information file, for the start and the segments",
+        ..INFO
+    },
+    START,
+    Choice {
+        id: "fill",
+        short: None,
+        long: Some("fill"),
+        value: Some("byte"),
+        purpose: "begin segments at their START, with this byte between",
+    },
+    OUTPUT,
+    HELP,
+    VERSION,
+];
+
+/// The program: its options, and an optional listing.
+pub fn this_program() -> Program<'static>
+    ensures { program_of result ≡ this_program }
+{
+    Program {
+        name: "html65",
+        usage: "Usage: html65 [options] [listing]",
+        choices: &CHOICES,
+        input: "listing",
+    }
+}

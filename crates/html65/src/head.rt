@@ -1,0 +1,78 @@
+//! The head of a page: its styles, the name of the listing, and how many bytes of each kind there are.
+
+use crate::kind::{KINDS, Kind};
+use crate::markup::put_text;
+use crate::survey::Survey;
+use files65::{put_address, put_decimal};
+use std::alloc::AllocError;
+
+/// What stands before the title. The page may load nothing, and no script runs in it.
+const BEGIN: &[u8] = b"<!DOCTYPE html>\n<html lang=\"en\">\n<head>\n<meta charset=\"utf-8\">\n\
+    <meta name=\"viewport\" content=\"width=device-width\">\n\
+    <meta http-equiv=\"Content-Security-Policy\" content=\"default-src 'none'; img-src data:; style-src 'unsafe-inline'\">\n\
+    <title>";
+
+/// What stands after the title: the styles. What the page adds to the listing is not selected with it.
+const STYLES: &[u8] = b"</title>\n<style>\n\
+    :root{color-scheme:light dark;--ink:#222;--paper:#fff;--pale:#777;--line:#ddd;--link:#1a4f8b;--from:#a05a00;--mark:#fff3b0;\
+    --code:#4878a8;--text:#7ba05b;--bytes:#c9a24b;--words:#b06a3b;--addresses:#9b4f96;--filler:#d8d8d8}\n\
+    @media (prefers-color-scheme:dark){:root{--ink:#ddd;--paper:#1b1b1d;--pale:#8c8c8c;--line:#444;--link:#8ab4f0;--from:#e0a050;--mark:#5a4a10;\
+    --code:#5b8fc4;--text:#86b062;--bytes:#d0aa55;--words:#c88050;--addresses:#b56cb0;--filler:#4a4a4a}}\n\
+    body{font:14px/1.35 system-ui,sans-serif;margin:0;color:var(--ink);background:var(--paper)}\n\
+    header{padding:8px 16px;border-bottom:1px solid var(--line)}h1{display:inline;font-size:16px;margin:0 12px 0 0}\n\
+    header span{border-left:10px solid;padding-left:4px;margin-left:10px}\n\
+    main{display:flex;align-items:flex-start}\n\
+    nav{flex:0 0 340px;box-sizing:border-box;position:sticky;top:0;max-height:100vh;overflow:auto;padding:10px;font-size:12px;\
+    border-right:1px solid var(--line)}\n\
+    nav svg{display:block;max-width:100%;shape-rendering:crispEdges;margin-bottom:8px}svg a:hover,svg a:focus{opacity:.6}\n\
+    table{border-collapse:collapse}td{padding:0 8px 0 0;vertical-align:top}summary{font-weight:600;padding:4px 0;cursor:pointer}\n\
+    a{color:var(--link);text-decoration:none}a:hover,a:focus{text-decoration:underline}em{color:var(--from)}\n\
+    pre{flex:1;min-width:0;overflow-x:auto;font:13px/1.35 ui-monospace,monospace;margin:0;padding:10px 16px}\n\
+    pre i{font-style:normal;color:var(--pale);-webkit-user-select:none;user-select:none}pre i a{color:var(--from)}\n\
+    code{display:block;color:var(--pale);-webkit-user-select:all;user-select:all}\n\
+    .n{font-weight:600}.t{color:var(--text)}.c{color:var(--pale)}:target{background:var(--mark)}\n\
+    label{cursor:pointer}label input{margin:0 3px 0 0;vertical-align:middle}\n\
+    label b{display:none;font-weight:inherit}label :checked~b{display:inline}\n\
+    img{image-rendering:pixelated;border:1px solid var(--line);margin:2px;vertical-align:top}\n\
+    .code{fill:var(--code);border-color:var(--code)}.text{fill:var(--text);border-color:var(--text)}\
+    .bytes{fill:var(--bytes);border-color:var(--bytes)}.words{fill:var(--words);border-color:var(--words)}\
+    .addresses{fill:var(--addresses);border-color:var(--addresses)}.filler{fill:var(--filler);border-color:var(--filler)}\n\
+    @media (max-width:700px){main{display:block}nav{position:static;max-height:none}}\n\
+    @media print{main{display:block}nav{position:static;max-height:none;border:0}pre{overflow:visible;white-space:pre-wrap}}\n\
+    </style>\n</head>\n<body>\n<header><h1>";
+
+/// How many bytes of a kind there are.
+fn count_of(survey: &Survey<'_, '_>, kind: Kind) -> usize {
+    let mut count: usize = 0;
+    for run in &survey.runs {
+        if run.kind == kind {
+            count = count.saturating_add(run.end.saturating_sub(run.at));
+        }
+    }
+    count
+}
+
+/// Appends what stands before the map, for a listing of this name.
+pub fn put_head(out: &mut Vec<u8>, name: &[u8], survey: &Survey<'_, '_>) -> Result<(), AllocError> {
+    out.extend_from_slice(BEGIN)?;
+    put_text(out, name)?;
+    out.extend_from_slice(STYLES)?;
+    put_text(out, name)?;
+    let end = usize::from(survey.start).saturating_add(survey.bytes.len());
+    put_address(out, b"</h1> $", usize::from(survey.start))?;
+    put_address(out, b" to $", end.saturating_sub(1))?;
+    put_decimal(out, b", ", survey.bytes.len())?;
+    out.extend_from_slice(b" bytes")?;
+    for kind in KINDS {
+        let count = count_of(survey, kind);
+        if 0 < count {
+            out.extend_from_slice(b" <span class=\"")?;
+            out.extend_from_slice(kind.text())?;
+            out.extend_from_slice(b"\">")?;
+            out.extend_from_slice(kind.text())?;
+            put_decimal(out, b" ", count)?;
+            out.extend_from_slice(b"</span>")?;
+        }
+    }
+    out.extend_from_slice(b"</header>\n<main>\n<nav>\n")
+}

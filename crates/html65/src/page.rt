@@ -1,0 +1,88 @@
+//! The page of a listing.
+
+ghost use Rattle.std.specs.Prelude.{◌≡◌, IfErr, IfOk, Ok};
+ghost use Rattle.stmt65.specs.Words.{source_meaning};
+ghost use Rattle.html65.specs.Links.{AreLinksWhole};
+ghost use Rattle.html65.specs.Page.{Reports};
+ghost use Rattle.html65.specs.PageText.{text_of};
+
+use crate::calls::put_calls;
+use crate::failure::{Failure, Refused};
+use crate::head::put_head;
+use crate::links::are_links_whole;
+use crate::listing::put_listing;
+use crate::map::put_map;
+use crate::page_text::text_of;
+use crate::survey::Survey;
+use crate::tables::{put_addresses, put_names};
+use files65::FileFault;
+use std::alloc::{AllocError, Global};
+use stmt65::{AsmFaultKind, Assembly, Source, assemble_lines};
+
+/// What the listing of this name means.
+fn assembled<'t, 'b>(
+    alloc: &'b Global,
+    name: &str,
+    source: &Source<'t, '_, '_>,
+) -> Result<Assembly<'t, 'b, Global>, Failure>
+    ensures bytes { IfOk result (λ a. source_meaning source.now ≡ Ok a.bytes.items) }
+    ensures fault { IfErr result (Reports name.now source.now) }
+{
+    match assemble_lines(alloc, source) {
+        Ok(assembly) => Ok(assembly),
+        Err(fault) if fault.kind == AsmFaultKind::Memory => Err(Failure::Memory),
+        Err(fault) => Err(Failure::Own(Refused::Line(String::from_str(*alloc, name)?, fault))),
+    }
+}
+
+/// A page with this survey, as it is hoped for.
+fn written(alloc: Global, name: &str, survey: &Survey<'_, '_>) -> Result<Vec<u8>, AllocError> {
+    let mut out = Vec::new(alloc);
+    put_head(&mut out, name.as_bytes(), survey)?;
+    put_map(&mut out, survey)?;
+    put_names(alloc, &mut out, survey)?;
+    put_addresses(&mut out, survey)?;
+    put_calls(alloc, &mut out, survey)?;
+    out.extend_from_slice(b"</nav>\n")?;
+    put_listing(alloc, &mut out, survey)?;
+    out.extend_from_slice(b"</main>\n</body>\n</html>\n")?;
+    Ok(out)
+}
+
+/// Reads the page of the listing of this name back: refuses it if it has not its text, or if a link of it does not lead to one element.
+fn checked(
+    alloc: Global,
+    name: &str,
+    source: &Source<'_, '_, '_>,
+    page: Vec<u8>,
+) -> Result<Vec<u8>, Failure>
+    ensures text { IfOk result (λ found. text_of found.items ≡ source.now.text.now) }
+    ensures links { IfOk result (λ found. AreLinksWhole found.items) }
+    ensures fault { IfErr result (Reports name.now source.now) }
+{
+    if text_of(alloc, &page)?.as_slice() != source.text {
+        return Err(Failure::Own(Refused::Text(String::from_str(alloc, name)?)));
+    }
+    if !are_links_whole(alloc, &page)? {
+        return Err(Failure::Own(Refused::Links(String::from_str(alloc, name)?)));
+    }
+    Ok(page)
+}
+
+/// Returns the page of the listing of this name. Fails with the first fault of the listing, and if it has no byte.
+///
+/// Nothing is trusted for what the page promises: it is read back, and unless its text is the listing and each of its links leads to
+/// one element, there is none.
+pub fn page_of(alloc: Global, name: &str, source: &Source<'_, '_, '_>) -> Result<Vec<u8>, Failure>
+    ensures text { IfOk result (λ page. text_of page.items ≡ source.now.text.now) }
+    ensures links { IfOk result (λ page. AreLinksWhole page.items) }
+    ensures fault { IfErr result (Reports name.now source.now) }
+{
+    let assembly = assembled(&alloc, name, source)?;
+    if assembly.bytes.is_empty() {
+        return Err(Failure::File(FileFault::Empty(String::from_str(alloc, name)?)));
+    }
+    let survey = Survey::of(alloc, source, &assembly)?;
+    let page = written(alloc, name, &survey)?;
+    checked(alloc, name, source, page)
+}

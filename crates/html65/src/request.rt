@@ -1,0 +1,65 @@
+//! What a command line asks for.
+
+ghost use Rattle.std.specs.Prelude.{map};
+ghost use Rattle.std.specs.String.{string_bytes};
+ghost use Rattle.clap.specs.Words.{found_of, rows_of};
+ghost use Rattle.usage65.specs.Requests.{Gives};
+ghost use Rattle.html65.specs.Request.{asked, asked_in, asked_of};
+
+use crate::command::this_program;
+use clap::ArgMatches;
+use std::alloc::Global;
+use usage65::{
+    Names, RequestFault, address_of, byte_of, info_named, input_named, is_set, names_apart,
+    output_named, text_of,
+};
+
+/// What a command line asks for.
+#[derive(Drop)]
+pub enum Request {
+    Help,
+    Version,
+    Show(Showing),
+}
+
+/// A listing is to be written as a page.
+#[derive(Drop)]
+pub struct Showing {
+    pub names: Names,
+    /// The address of the first byte; without one the information file says where it is, or the last byte is at $FFFF.
+    pub start: Option<u16>,
+    /// The byte between segments that begin at their START; without one the segments move nothing.
+    pub fill: Option<u8>,
+}
+
+/// What the words ask for. The first word is the program's name.
+///
+/// Each option and the name of the listing may be given once. Help comes first, then the version, both before any value
+/// is read. The output may not have the name of an input, nor may standard input be both the listing and the information file.
+#[tactic(auto, unfolding(crate::specs::Request::asked), using(crate::proofs::CommandLemmas::app_is_plain))]
+pub fn request_of(alloc: Global, words: &[String]) -> Result<Request, RequestFault>
+    ensures { Gives asked_of result (asked (map string_bytes words.now)) }
+{
+    let matches = this_program().matches(alloc, words)?;
+    request_in(alloc, &matches)
+}
+
+/// What the matches ask for.
+#[tactic(auto, unfolding(crate::specs::Request::asked_in))]
+fn request_in(alloc: Global, matches: &ArgMatches) -> Result<Request, RequestFault>
+    ensures { Gives asked_of result (asked_in (rows_of (found_of matches.now))) }
+{
+    if is_set(matches, "help") {
+        return Ok(Request::Help);
+    }
+    if is_set(matches, "version") {
+        return Ok(Request::Version);
+    }
+    let start = address_of(matches, "start")?;
+    let fill = byte_of(matches, "fill")?;
+    let listing = input_named(text_of(matches, "listing"));
+    let info = info_named(text_of(matches, "info"));
+    let output = output_named(text_of(matches, "output"));
+    let names = names_apart(alloc, listing, info, output)?;
+    Ok(Request::Show(Showing { names, start, fill }))
+}
