@@ -1,10 +1,10 @@
-# make               proves the programs, builds them into bin/ (da65, as65, trace65, name65, move65), and lists an example. It proves
-#                    three crates at a time if there are two processors and 12 GB of memory, or as many as -j says. It prints its
+# make               proves the programs, builds them into bin/ (da65, as65, trace65, name65, move65, html65), and lists an example. It
+#                    proves three crates at a time if there are two processors and 12 GB of memory, or as many as -j says. It prints its
 #                    progress: on a terminal in one line, otherwise each minute (or each EVERY seconds).
 # make try           lists the example before any proof
-# make test          the merge gate: every proof from nothing, the edits that must fail, the tests and the stored runs; then the scripts on
-#                    the programs that this built, and listings through ca65. Its last line is the result of `rt ci`.
-#                    CA65=skip leaves out what needs cc65, and CC=skip what needs a C compiler.
+# make test          the merge gate: every proof from nothing, the edits that must fail, the tests and the stored runs; then pytest
+#                    on the programs that this built. Its last line is the result of `rt ci`.
+#                    CA65=skip leaves out what needs cc65, CC=skip what needs a C compiler, and CHROMIUM=skip what needs a browser.
 # make check         the same
 # make contracts     writes docs/contracts anew, after an intended change of public contracts
 # make manual        writes docs/da65.info.5 anew, after a change of docs/INFORMATION_FILE.md
@@ -23,6 +23,8 @@ PREFIX ?= /usr/local
 PROGRAM_PREFIX ?=
 DESTDIR ?=
 SHELL := bash
+# Debian's pytest, which has its xdist.
+pytest = $(or $(shell command -v pytest-3),pytest)
 .SHELLFLAGS := -eu -o pipefail -c
 .PHONY: all kit try test check contracts manual definitions speed install uninstall clean help
 
@@ -31,7 +33,7 @@ ifeq ($(shell [ "$$(nproc)" -gt 1 ] && awk '/^MemTotal/ { exit $$2 < 12000000 }'
 MAKEFLAGS += -j3
 endif
 
-all: kit bin/da65 bin/as65 bin/trace65 bin/name65 bin/move65
+all: kit bin/da65 bin/as65 bin/trace65 bin/name65 bin/move65 bin/html65
 	bin/da65 examples/three.bin
 
 # The kits of the prover that this version was proved with.
@@ -43,7 +45,7 @@ kit:
 bin/da65: bin/made/da65_cli
 	@cp crates/da65_cli/out/da65_cli $@
 
-bin/as65 bin/trace65 bin/name65 bin/move65: bin/%: bin/made/%
+bin/as65 bin/trace65 bin/name65 bin/move65 bin/html65: bin/%: bin/made/%
 	@cp crates/$*/out/$* $@
 
 # Prints the progress of the crates that are being proved, from bin/made/CRATE.log. The first of them prints it for all, until it is
@@ -70,11 +72,12 @@ export PROGRESS
 
 # A crate is proved once the crates below it are, by the lines of crates.txt; a program is also run, for its version. Then a line says how
 # long that took, and bin/made/CRATE has what the prover said. rt locks the crates that it reads, so a crate is proved in a folder of its
-# own, with links to its sources and to the libraries below.
+# own, with links to its sources and to the libraries below. bin/da65 comes first: the crates that it does not stand on give way.
 crates := $(shell sed -nE 's/^([a-z0-9_]+):.*/\1/p' crates.txt)
-programs := da65_cli as65 trace65 name65 move65
+programs := da65_cli as65 trace65 name65 move65 html65
 direct = $(filter $(crates),$(shell sed -nE 's/^$(1)://p' crates.txt))
 below = $(sort $(foreach name,$(call direct,$(1)),$(name) $(call below,$(name))))
+first := da65_cli $(call below,da65_cli)
 clear_line = if [ -t 1 ]; then printf '\r\033[K'; fi
 define crate
 bin/made/$(1): $(patsubst %,bin/made/%,$(call direct,$(1))) \
@@ -84,7 +87,8 @@ bin/made/$(1): $(patsubst %,bin/made/%,$(call direct,$(1))) \
 	    [ ! -d crates/$(1)/out ] || mv crates/$(1)/out $$$$room/crates/$(1); \
 	    bash -c "$$$$PROGRESS" progress $(1) & \
 	    trap "[ ! -d $$$$room/crates/$(1)/out ] || mv $$$$room/crates/$(1)/out crates/$(1); rm -r $$$$room" EXIT; \
-	    (cd $$$$room/crates/$(1) && rt $(if $(filter $(1),$(programs)),run $$(RTFLAGS) -- --version,lib $$(RTFLAGS))) >$$@.log 2>&1 || \
+	    (cd $$$$room/crates/$(1) && $(if $(filter $(1),$(first)),,nice) \
+	        rt $(if $(filter $(1),$(programs)),run $$(RTFLAGS) -- --version,lib $$(RTFLAGS))) >$$@.log 2>&1 || \
         { $$(clear_line); tail -n 20 $$@.log; exit 1; }; \
 	    $$(clear_line); printf '%-10s proved in %d seconds\n' $(1) $$$$((SECONDS - begin)); mv $$@.log $$@
 endef
@@ -96,7 +100,7 @@ try:
 test:
 	@mkdir -p bin
 	@python3 tests/lint
-	tests/make.sh
+	@$(pytest) -q -n auto tests/test_make.py
 	@echo 'Everything from nothing: docs/GATE.md says how long that takes. bin/gate.log keeps what the prover says.'
 	@rt ci 2>&1 | tee bin/gate.log
 	@cp crates/da65_cli/out/da65_cli bin/da65
@@ -104,19 +108,9 @@ test:
 	@cp crates/trace65/out/trace65 bin/trace65
 	@cp crates/name65/out/name65 bin/name65
 	@cp crates/move65/out/move65 bin/move65
-	tests/files.sh bin/da65 bin/as65 bin/trace65 bin/name65
-	tests/program.sh bin/da65
-	tests/as65.sh bin/as65 bin/da65
-	tests/trace65.sh bin/trace65 bin/da65 bin/as65 bin/name65
-	tests/name65.sh bin/name65 bin/da65 bin/as65 bin/trace65
-	tests/move65.sh bin/move65 bin/da65 bin/as65 bin/trace65 bin/name65
-	tests/run65.py crates/step65/out/step65
-	tests/corpus.py bin/trace65 bin/da65 bin/as65 bin/name65
-	tests/growth.sh bin/da65
-	tests/speed.sh bin/da65
-	tests/docs.sh bin/da65
-	tests/ca65.sh bin/da65 10
-	@[ "$${CA65-}" != skip ] || echo 'CA65=skip: no listing went through ca65 and ld65, which need cc65'
+	@cp crates/html65/out/html65 bin/html65
+	@$(pytest) -q -n auto -m 'not alone' --ignore tests/test_make.py tests
+	@$(pytest) -q -m alone tests
 	@tail -n 1 bin/gate.log
 
 check: test
@@ -130,13 +124,13 @@ manual:
 definitions:
 	python3 tests/lint --write page
 
-speed: bin/da65
-	tests/speed.sh bin/da65
+speed: $(patsubst %,bin/%,da65 as65 trace65 name65 html65)
+	@$(pytest) -q -n auto tests/test_speed.py
 
 share := $(DESTDIR)$(PREFIX)/share
 
-install: bin/da65 bin/as65 bin/trace65 bin/name65 bin/move65
-	@for program in da65 as65 trace65 name65 move65; do \
+install: bin/da65 bin/as65 bin/trace65 bin/name65 bin/move65 bin/html65
+	@for program in da65 as65 trace65 name65 move65 html65; do \
 	    name='$(PROGRAM_PREFIX)'$$program; \
 	    install -D -m 755 bin/$$program "$(DESTDIR)$(PREFIX)/bin/$$name"; \
 	    install -D -m 644 docs/$$program.1 "$(share)/man/man1/$$name.1"; \
@@ -150,7 +144,7 @@ install: bin/da65 bin/as65 bin/trace65 bin/name65 bin/move65
 
 uninstall:
 	@for name in '$(PROGRAM_PREFIX)da65' '$(PROGRAM_PREFIX)as65' '$(PROGRAM_PREFIX)trace65' '$(PROGRAM_PREFIX)name65' \
-	    '$(PROGRAM_PREFIX)move65'; do \
+	    '$(PROGRAM_PREFIX)move65' '$(PROGRAM_PREFIX)html65'; do \
 	    rm -f "$(DESTDIR)$(PREFIX)/bin/$$name" "$(share)/man/man1/$$name.1" \
 	        "$(share)/bash-completion/completions/$$name" "$(share)/zsh/site-functions/_$$name"; \
 	done

@@ -6,6 +6,6 @@ _as65() {
     -i | --info | --compare | -o) return ;;
     -S | --start-addr | --fill) compopt +o default; return ;;
     esac
-    [[ $word != -* ]] || COMPREPLY=($(compgen -W '-i --info -S --start-addr --fill -o --compare -h --help -V --version' -- "$word"))
+    [[ $word != -* ]] || COMPREPLY=($(compgen -W '-i --info -S --start-addr --fill --in-place -o --compare --labels -h --help -V --version' -- "$word"))
 }
 complete -o default -F _as65 as65

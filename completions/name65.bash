@@ -7,8 +7,8 @@ _name65() {
     COMPREPLY=()
     case $before in
     -i | --info | -o) return ;;
-    -S | --start-addr) compopt +o default; return ;;
+    -S | --start-addr | --fill) compopt +o default; return ;;
     esac
-    [[ $word != -* ]] || COMPREPLY=($(compgen -W '-i --info -S --start-addr -o --used -h --help -V --version' -- "$word"))
+    [[ $word != -* ]] || COMPREPLY=($(compgen -W '-i --info -S --start-addr --fill -o --used --labels-first -h --help -V --version' -- "$word"))
 }
 complete -o default -F _name65 name65

@@ -1,4 +1,4 @@
-; A branch that is always taken: the text after it is read as code today.
+; A branch that is always taken: the text after it is read as code.
 ; expect: code 14 of 14, constants as code 6 of 6, halves 0 right 0 wrong, rows 0 right 0 wrong, follows 4 of 4, wrong 0, runs 5 of 5
 ; should be: constants as code 0 of 6
         .code

@@ -1,4 +1,4 @@
-; Halves with another instruction between them are not found today.
+; Halves with another instruction between them are not found.
 ; expect: code 56 of 56, constants as code 0 of 6, halves 0 right 0 wrong, rows 0 right 0 wrong, follows 2 of 4, wrong 0, runs 0 of 5
 ; should be: follows 4 of 4
         .code

@@ -1,4 +1,4 @@
-; A name right before code is taken for code today: all of it decodes, and goes on into a routine.
+; A name right before code is no code, though all of it decodes and goes on into a routine.
 ; expect: code 135 of 135, constants as code 0 of 8, halves 0 right 0 wrong, rows 0 right 0 wrong, follows 6 of 6, wrong 0, runs 6 of 6
         .code
         ldx     #$FF

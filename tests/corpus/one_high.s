@@ -1,4 +1,4 @@
-; One high half serves two low halves: the second one is not found today.
+; One high half serves two low halves: the second one is not found.
 ; expect: code 64 of 64, constants as code 0 of 8, halves 1 right 0 wrong, rows 0 right 0 wrong, follows 8 of 9, wrong 0, runs 0 of 6
 ; should be: follows 9 of 9
         .code

@@ -1,4 +1,4 @@
-; A table of addresses right after the end of a routine, and right before code, is taken for code today: all of it decodes.
+; A table of addresses right after the end of a routine, and right before code, is taken for code: all of it decodes.
 ; expect: code 32 of 37, constants as code 5 of 6, halves 0 right 0 wrong, rows 0 right 0 wrong, follows 6 of 10, wrong 0, runs 0 of 5
 ; should be: code 37 of 37, constants as code 0 of 6, rows 1 right 0 wrong, follows 10 of 10
         .code

@@ -19,12 +19,12 @@ WIDER = {
     "da65": 12,
     "files65": 2,
     "da65_cli": 2,
-    "as65": 11,
+    "as65": 7,
     "trace65": 1,
     "name65": 2,
 }
 
-SCRIPTS = ("Makefile", ".ci/run", "tests/*.sh", "tests/*.py", "tests/corpus/*", "tests/shim.c")
+SCRIPTS = ("Makefile", ".ci/run", "tests/*.py", "tests/corpus/*", "tests/shim.c")
 PAGES = ("*.md", "docs/*.md")
 MANUALS = ("docs/*.[15]",)
 

@@ -7,8 +7,8 @@ from source import ROOT
 
 CRATES = ROOT / "crates"
 
-# The wrong bodies that have an edit, by the crate whose contract refuses them: those of what da65 lists, and of what da65 and as65 do with
-# files. The first edit of a crate costs a second proof of it, so the other crates have none: docs/contracts keeps their public clauses.
+# The wrong bodies that have an edit, by the crate whose contract refuses them. Those of run65, which has no contract, are not safe. The
+# first edit of a crate costs a second proof of it, so the other crates have none: docs/contracts keeps their public clauses.
 WRONG_BODIES = {
     "da65": """everything_as_bytes no_forced_absolute always_forced_absolute zero_page_by_image_name inner_label_after
         return_entry_without_minus_one dbyt_low_byte_first listing_before_refusal write_fault_without_a_fault writes_the_image
@@ -21,6 +21,7 @@ WRONG_BODIES = {
     "da65_cli": """failure_made_up flush_leaves_bytes message_after_a_failed_flush""",
     "as65": """bytes_of_a_faulty_listing failed_write_called_a_difference image_cut_short listing_without_bytes_passed_on
         syntax_called_another_fault write_fault_passed_over""",
+    "run65": """program_counter_overflows decimal_difference_overflows""",
 }
 
 # Those that a test refuses, each with the test and its file. A contract can't say whether memory ran out, or how much there was.

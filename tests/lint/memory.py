@@ -11,7 +11,9 @@ ANSWERS = ("AllocError", "AllocFailed", "OutOfMemory", "out_of_memory")
 # Those that stand after `::` alone.
 VARIANTS = ("Memory", "MEMORY")
 ALLOWED = """
-as65 failure_of 5
+as65 Before::bytes 2
+as65 changes 1
+as65 failure_of 6
 da65 all_names 2
 da65 image_message 1
 da65 list_input 1
@@ -23,9 +25,12 @@ files65 Failure::from 3
 files65 FileFault::from 1
 files65 FileFault::of_error 2
 files65 FileFault::of_opening 1
+files65 address_in 2
 files65 contents 2
+files65 name_in 2
 files65 read_from 2
 files65 say 1
+html65 assembled 2
 info65 InfoFault::MEMORY 1
 info65 InfoFault::from 2
 info65 InfoFaultKind::text 1
@@ -39,6 +44,7 @@ move65 find 1
 name65 Failure::from 2
 name65 Refusal::from 1
 name65 assembled 2
+name65 with_labels_first 2
 relist Failure::from 2
 step65 program 2
 stmt65 AsmFault::from 1

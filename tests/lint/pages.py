@@ -8,8 +8,9 @@ from source import ROOT
 README_LINES = 200
 ABOUT_CODE = ("ARCHITECTURE", "CONTRIBUTING", "DECISIONS", "GATE", "LIBRARY", "PROOFS")
 # Names of std, of the prover's files and of an instruction.
-OUTSIDE = {"BufWriter", "HashMap", "Lts", "bbs"}
-CODE = ("crates/*/src/**/*.rt", "crates/*/specs/**/*.antt", "crates/*/proofs/**/*.antt", "crates/*/must-fail/*", "tests/*.sh", "tests/lint/*.py")
+OUTSIDE = {"BufWriter", "HashMap", "Lts", "bbr", "bbs"}
+CODE = ("crates/*/src/**/*.rt", "crates/*/specs/**/*.antt", "crates/*/proofs/**/*.antt", "crates/*/must-fail/*", "tests/*.py",
+        "tests/lint/*.py", ".ci/run")
 NAMED = ("*", "crates/*", "docs/*", "tests/*", "examples/*")
 
 

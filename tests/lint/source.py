@@ -29,6 +29,10 @@ class Refused(Exception):
     """What the script does not understand."""
 
 
+class LeftOut(Exception):
+    """Why a check is left out."""
+
+
 class Token(NamedTuple):
     text: str
     begin: int

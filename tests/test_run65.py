@@ -1,4 +1,3 @@
-#!/usr/bin/env python3
 """Compares single instructions of the crate run65 with those of cc65's simulator sim65, from random states: registers, flags, memory.
 
 Each state sets memory, the registers and the flags, and one instruction runs. Then the registers, the flags, where code goes on, and the
@@ -6,13 +5,11 @@ memory that it reads and writes must be the same. The opcodes are those of the t
 other one of its CPU; half of the sums are decimal. sim65 has no 65SC02, so its opcodes run on sim65's 65C02. What sim65 2.19 itself does
 in another way than the data sheets is in `by_data_sheet`, and is compared with what they say.
 
-Usage: tests/run65.py STEP65 [STATES [SEED]]
-STEP65 is the built program step65, and STATES how many there are of each CPU. Without ca65, ld65 and sim65 the script fails, unless
-CA65=skip is set."""
-import collections, os, random, re, shutil, subprocess, sys, tempfile
+--states says how many states there are of each CPU, and --seed which."""
+import collections, random, re, subprocess
+import pytest
+from conftest import ROOT, command, fails, read, write
 
-PROGRAM, ROOT = os.path.abspath(sys.argv[1]), os.path.dirname(os.path.dirname(os.path.abspath(__file__)))
-STATES, SEED = int(sys.argv[2]) if len(sys.argv) > 2 else 34_000, int(sys.argv[3]) if len(sys.argv) > 3 else 1
 POKES, PEEKS = 18, 6
 # After `rol abs,x` sim65 2.19 goes on at the last byte of the instruction. That is a `jmp` in each state, and so leads back too.
 ROL_ABSX = 0x3E
@@ -155,7 +152,7 @@ def table(*files):
     """The opcodes of these files of isa65: each with its mnemonic and its mode."""
     rows = {}
     for name in files:
-        text = open(ROOT + '/crates/isa65/src/%s.rt' % name).read()
+        text = (ROOT / f'crates/isa65/src/{name}.rt').read_text()
         found = re.findall(r'(0x[0-9A-F]{2}) => op\(Mnemonic::(\w+), Mode::(\w+)\)', text)
         rows.update({int(code, 16): (mnemonic, mode) for code, mnemonic, mode in found})
     return rows
@@ -252,66 +249,42 @@ class State:
         return bytes(out)
 
 
-def compare(cpu, rows, rng, kind):
-    """The states in which sim65 differs from the data sheets, by cause, and those that are not as wanted, by instruction."""
-    size = 7 + POKES * 3 + PEEKS * 2
-    open('driver.s', 'w').write(DRIVER.format(kind=kind, state=size, pokes=POKES * 3, peeks=PEEKS))
-    open('driver.cfg', 'w').write(LINKS)
-    subprocess.run(['ca65', '-g', '-o', 'driver.o', 'driver.s'], check=True)
-    subprocess.run(['ld65', '-C', 'driver.cfg', '-Ln', 'driver.map', '-o', 'driver', 'driver.o'], check=True)
-    labels = {name: value for value, name in re.findall(r'al ([0-9A-F]{6}) \.(here|there)', open('driver.map').read())}
-    here, there = int(labels['here'], 16), int(labels['there'], 16)
-    State.is_cmos = cpu != '6502'
+def results(command, states, size):
+    """What a program reports of each state, in so many bytes."""
+    write('states', b''.join(state.bytes() for state in states))
+    out = subprocess.run(command, stdin=open('states', 'rb'), stdout=subprocess.PIPE, check=True).stdout
+    assert len(out) == len(states) * size
+    return [out[k:k + size] for k in range(0, len(out), size)]
+
+
+@pytest.mark.ca65
+@pytest.mark.parametrize('cpu, tables, kind', [
+    ('6502', 'mos_6502', 0), ('65SC02', 'mos_6502 cmos_65sc02', 1), ('65C02', 'mos_6502 cmos_65sc02 rockwell_65c02', 1)])
+def test_states(step65, cpu, tables, kind, request):
+    """In no state run65 does something else than sim65, or, where that does not do what the data sheets say, than these."""
+    size, count, seed = 7 + POKES * 3 + PEEKS * 2, request.config.getoption('--states'), request.config.getoption('--seed')
+    write('driver.s', DRIVER.format(kind=kind, state=size, pokes=POKES * 3, peeks=PEEKS))
+    write('driver.cfg', LINKS)
+    command('ca65 -g -o driver.o driver.s')
+    command('ld65 -C driver.cfg -Ln driver.map -o driver driver.o')
+    labels = {name: int(value, 16) for value, name in re.findall(r'al ([0-9A-F]{6}) \.(here|there)', read('driver.map').decode())}
+    State.is_cmos, rows, draw = cpu != '6502', table(*tables.split()), random.Random(f'{seed} {cpu}')
     codes = sorted(rows)
-    states = [State(rng, codes[k % len(codes)], *rows[codes[k % len(codes)]], here, there) for k in range(STATES)]
+    states = [State(draw, codes[k % len(codes)], *rows[codes[k % len(codes)]], labels['here'], labels['there']) for k in range(count)]
     known = [state for state in states if state.mnemonic[-1] not in '01234567']
-    ours = results([PROGRAM, cpu], states, 13)
     theirs = dict(zip(map(id, known), results(['sim65', '-x', '4000000000', 'driver'], known, 12)))
     own, differ = collections.Counter(), collections.defaultdict(list)
-    for state, (a, x, y, s, p, low, high, *memory) in zip(states, ours):
+    for state, (a, x, y, s, p, low, high, *memory) in zip(states, results([step65.path, cpu], states, 13)):
         mine, its = dict(a=a, x=x, y=y, s=s, p=p, pc=low + 256 * high, m=memory[:len(state.peeks)]), None
         if id(state) in theirs:
             a, x, y, s, p, jumps, *memory = theirs[id(state)]
             its = dict(a=a, x=x, y=y, s=s, p=p, pc=state.to if jumps else state.start + state.length, m=memory[:len(state.peeks)])
         cause, wanted = by_data_sheet(state, its)
-        if cause and its != wanted:
-            own[cause] += 1
+        own[cause] += bool(cause) and its != wanted
         if mine != wanted:
             before = 'P %02X A %02X X %02X Y %02X S %02X, %02X at $%04X' % (
                 state.p, state.a, state.x, state.y, state.s, state.byte, state.start)
-            differ[state.mnemonic + ' ' + state.mode].append('%s: %s, and not %s' % (before, mine, wanted))
-    return own, differ
-
-
-def results(command, states, size):
-    """What a program reports of each state, in so many bytes."""
-    open('states', 'wb').write(b''.join(state.bytes() for state in states))
-    out = subprocess.run(command, stdin=open('states', 'rb'), capture_output=True, check=True).stdout
-    if len(out) != len(states) * size:
-        sys.exit('run65: %s reports %d bytes of %d states' % (command[0], len(out), len(states)))
-    return [out[k:k + size] for k in range(0, len(out), size)]
-
-
-def main():
-    if os.environ.get('CA65') == 'skip':
-        print('run65: left out, since CA65=skip is set')
-        return
-    if not all(map(shutil.which, ('ca65', 'ld65', 'sim65'))):
-        sys.exit('run65: ca65, ld65 and sim65 are not there: install cc65, or set CA65=skip')
-    os.chdir(tempfile.mkdtemp())
-    nmos = table('mos_6502')
-    cmos = nmos | table('cmos_65sc02')
-    rockwell = cmos | table('rockwell_65c02')
-    failed, own = 0, collections.Counter()
-    for number, (cpu, rows, kind) in enumerate((('6502', nmos, 0), ('65SC02', cmos, 1), ('65C02', rockwell, 1))):
-        excused, differ = compare(cpu, rows, random.Random(SEED * 3 + number), kind)
-        own += excused
-        for name, examples in sorted(differ.items()):
-            failed += len(examples)
-            print('run65: %s: %d times %s, as %s' % (cpu, len(examples), name, examples[0]))
-    print('run65: %d states of each CPU, %d are not as sim65 or the data sheets have them; sim65 itself differs from these in: %s'
-          % (STATES, failed, ', '.join('%s (%d)' % row for row in sorted(own.items()))))
-    sys.exit(failed != 0)
-
-
-main()
+            differ[state.mnemonic + ' ' + state.mode].append(f'{before}: {mine}, and not {wanted}')
+    if differ:
+        fails('\n'.join(f'{len(found)} times {name}, as {found[0]}' for name, found in sorted(differ.items())))
+    print('sim65 itself differs from the data sheets in:', {cause: count for cause, count in own.items() if count})

@@ -1,0 +1,377 @@
+"""The programs beside those of cc65. Each information file of tests/peer goes through this da65 and through cc65's. The names of names/
+have the values of cc65's include files. ca65 with ld65, and as65, assemble the listings of random images and of the examples to the image.
+Both assemblers give the same bytes for random texts, as people write them who edit a listing, or both refuse them.
+
+The same seed gives the same images and texts; --images, --texts and --seed say which. A failure shows a smaller case that fails too. Left
+out, since ca65 treats them in its own way: a segment named ZEROPAGE, a byte $FF in a comment, and what `excused` names."""
+import os, random, re, shutil, subprocess
+import pytest
+from conftest import CPUS, IMAGES, INFORMATION, ROOT, Program, command, example, fails, read, write
+
+pytestmark = pytest.mark.ca65
+PEER = os.environ.get("PEER", "/usr/bin/da65")
+PAGE = (ROOT / "docs/DIFFERENCES.md").read_text()
+
+
+def shrunk(items, is_bad, most=300):
+    """A part of a list that is bad too: as long as it stays so, pieces are left out, first large and then small ones."""
+    size = len(items) // 2
+    while size:
+        at = 0
+        while at < len(items) and most:
+            rest, most = items[:at] + items[at + size:], most - 1
+            if rest and is_bad(rest):
+                items = rest
+            else:
+                at += size
+        size //= 2
+    return items
+
+
+# ---- what both da65 say
+
+def is_cc65s():
+    return shutil.which(PEER) and b"da65 V" in subprocess.run([PEER, "--version"], capture_output=True).stderr
+
+
+def body(listing):
+    """The lines of a listing after its head, without empty ones, unless they follow a jump or a return."""
+    lines, leaves = [], False
+    for line in re.split(r"(?m)^ *\.setcpu.*\n", listing.decode("latin-1"), 1)[1].split("\n"):
+        if line:
+            leaves = re.search("jmp|rts", line)
+        if line or leaves:
+            lines.append(line)
+    return lines
+
+
+@pytest.mark.skipif(not is_cc65s(), reason=f"{PEER} is not cc65's da65")
+@pytest.mark.parametrize("name", [*sorted(path.stem for path in (ROOT / "tests/peer").glob("*.info")), "above_1_mib"])
+def test_differences(da65, name):
+    """What both say of a file is a row of docs/DIFFERENCES.md."""
+    for path in (ROOT / "tests/peer").iterdir():
+        shutil.copy(path, ".")
+    for file, text in (("image.bin", "\xa5\x10\xe8\xd0\xfb\x85\x11\xea"), ("jumps.bin", "\x4c\x04\x10\x60\x60"), ("stop.bin", "\xdb\xcb"),
+                       ("indirect.bin", "\xa5\x10\x6c\x10\x00"), ("ffff.bin", "\xff\xff\x60"),
+                       ("above_1_mib.info", f"# {0:01048600}\nLABEL {{ ADDR $1000; NAME \"start\"; }};\n")):
+        write(file, text)
+    words = ["-i", name + ".info"] + ([] if b"INPUTNAME" in read(name + ".info") else ["-S", "0x1000", "image.bin"])
+    here, there = (program.run(words) for program in (da65, Program(PEER)))
+    said = f"`{here.err.decode().rstrip()}`" if here.status else "accepted"
+    compared = "-" if here.status or there.status else "same" if body(here.out) == body(there.out) else "another"
+    found = f"| `{name}` | {said} | {'refused' if there.status else 'accepted'} | {compared} |"
+    assert found in PAGE, f"docs/DIFFERENCES.md has no row {found}"
+
+
+def test_the_page_has_no_other_row():
+    names = {path.stem for path in (ROOT / "tests/peer").glob("*.info")} | {"above_1_mib"}
+    assert sorted(re.findall(r"^\| `([a-z0-9_]+)` \|", PAGE, re.M)) == sorted(names)
+
+
+# ---- names of machines
+
+# cc65 has other names for the NES, and none for the BBC Micro and the Atari 7800. Its PTRIG6 is PTRIG5, and it has the registers of the TIA
+# that are read at the addresses where others are written.
+@pytest.mark.parametrize("name, count, others, includes", [
+    ("c64", 140, "", "c64 cbm_kernal"), ("vic20", 80, "", "vic20 cbm_kernal"), ("c128", 160, "", "c128 cbm_kernal"),
+    ("pet", 30, "", "pet cbm_kernal"), ("apple2", 35, "", "apple2"), ("atari", 350, "PTRIG6", "atari"),
+    ("atari5200", 100, "", "atari5200"), ("oric", 45, "", "atmos"),
+    ("atari2600", 65, "CXM0P CXM1P CXP0FB CXP1FB CXM0FB CXM1FB CXBLPF CXPPMM INPT0 INPT1 INPT2 INPT3 INPT4 INPT5", "atari2600"),
+])
+def test_names_agree(name, count, others, includes):
+    """These include files have at least that many of the names, and give them the same values, except the others."""
+    names = re.findall(r"^(\w+) += (\$....)  ;", (ROOT / "names" / (name + ".inc")).read_text(), re.M)
+    lines = ["names_of_both .set 0", *(f'.include "{include}.inc"' for include in includes.split())]
+    for word, value in names:
+        lines += [f".ifdef {word}", f'.assert {word} = {value}, warning, "{word}"', "names_of_both .set names_of_both + 1", ".endif"]
+    write("names.s", "\n".join([*lines, '.out .sprintf("%d", names_of_both)\n']))
+    run = subprocess.run(["ca65", "-o", "names.o", "-D", f"__{name.upper()}__", "names.s"], capture_output=True, check=True)
+    assert int(run.stdout) >= count
+    assert {line.rsplit(b": ", 1)[1].decode() for line in run.stderr.splitlines()} <= set(others.split())
+
+
+# ---- listings
+
+def segments(text, renamed=False):
+    """The segments of a text, in the order in which they are entered with a statement; a segment that is entered again comes again. Or the
+    text in which each segment line leads to a segment of its own, since ld65 puts the stretches of one segment together."""
+    current, is_entered, found, lines, count = "CODE", False, [], [], 0
+    for line in text.removesuffix("\n").split("\n"):
+        words = line.split()
+        if words[:1] == [".segment"] or re.fullmatch(r" *\.code", line):
+            current, is_entered, count = "CODE" if words[0] == ".code" else words[1].strip('"'), False, count + 1
+            if renamed:
+                current = f"stretch_{count}"
+                lines.append(f' .segment "{current}"')
+                continue
+        lines.append(line)
+        says_nothing = not words or words[0] in (".segment", ".code", ".setcpu") or words[0][0] == ";" or words[1:2] == [":="]
+        if not says_nothing and not re.match(r" *[A-Za-z_0-9]+ *=", line) and not is_entered:
+            found.append(current)
+            is_entered = True
+    return "\n".join(lines) + "\n" if renamed else found
+
+
+def linked(text, start, size):
+    """The bytes of a text by ca65 and ld65, where one memory area takes its segments in their order; or what they say."""
+    write("linked.s", text.encode("latin-1"))
+    areas = "".join(f"    {name}: load = MAIN, type = ro;\n" for name in segments(text))
+    write("linked.cfg", f"MEMORY {{ MAIN: start = ${start:04X}, size = ${size:X}, file = %O; }}\nSEGMENTS {{\n{areas}}}\n")
+    for words in ("ca65 --relax-checks -o linked.o linked.s", "ld65 -C linked.cfg -o linked.out linked.o"):
+        run = subprocess.run(words.split(), capture_output=True)
+        if run.returncode:
+            return run.stderr.decode("latin-1")
+    return read("linked.out")
+
+
+def fault(da65, as65, start, image, words):
+    """What is wrong with the listing of an image, which both assemblers have to take, or nothing."""
+    listed = da65.run(words)
+    text = listed.out.decode("latin-1")
+    entered = segments(text)
+    is_again = len(set(entered)) < len(entered)
+    if listed.status or listed.err != b"da65: warning: a segment is entered again\n" * is_again:
+        return f"da65: {listed.err.decode()}"
+    write("listing.s", listed.out)
+    ours = as65.run(f"-S {start} --compare {image} listing.s")
+    if ours.status:
+        return f"as65: {(ours.out + ours.err).decode('latin-1')[:500]}"
+    theirs = linked(segments(text, True) if is_again else text, start, len(read(image)))
+    return theirs if isinstance(theirs, str) else None if theirs == read(image) else "ld65: other bytes"
+
+
+TYPES = "CODE BYTETABLE WORDTABLE DBYTETABLE DWORDTABLE ADDRTABLE RTSTABLE TEXTTABLE".split()
+NAMES = "CODE DATA BSS RODATA lda A s0 s1 s2 s3 s4 s5".split()
+
+
+def random_image(draw):
+    """Stretches of random bytes, of printable ones and of one byte, and their start."""
+    size = draw.randrange(draw.choices((40, 4000, 65536), (24, 75, 1))[0]) + 1
+    data = b""
+    while len(data) < size:
+        count, kind = draw.randrange(1, 201), min(draw.randrange(4), 2)
+        data += (bytes(draw.choices(range(32, 127), k=count)), count * draw.randbytes(1), draw.randbytes(count))[kind]
+    return draw.randrange(65536 - size + 1), data[:size]
+
+
+def random_information(draw, start, size, cpu, apart):
+    """Lines with ranges that do not overlap, labels, segments and a layout. No label is named ina, dea, wai or stp, which ca65 takes for
+    mnemonics of the later CPUs. Segments that are apart have names of their own and reach to the end, so that none is entered again."""
+    end, lines, named = start + size, [f'GLOBAL {{ STARTADDR ${start:04X}; CPU "{cpu}"; }};'], set()
+    at = start + draw.randrange(200)
+    while at < end:
+        last = min(at + draw.randrange(60), 65535)
+        lines.append(f"RANGE {{ START ${at:04X}; END ${last:04X}; TYPE {draw.choice(TYPES)}; }};")
+        at = last + 1 + draw.randrange(100) * draw.randrange(2)
+    for _ in range(draw.randrange(30)):
+        at, count = draw.choice((draw.randrange(256), draw.randrange(65536), start + draw.randrange(size))), draw.randrange(1, 4)
+        if at not in named and at + count <= 65536:
+            named.add(at)
+            remark = "".join(chr(9 if byte in (34, 127) else byte) for byte in draw.choices(range(32, 255), k=draw.randrange(40)))
+            lines.append(f'LABEL {{ ADDR ${at:04X}; NAME "n_{at:04x}"; SIZE {count}; COMMENT "{remark}"; }};')
+    at, k = start + draw.randrange(size), 0
+    while at < end and k < 30:
+        last = at + draw.randrange(300)
+        last = end - 1 if apart and (last >= end or k == 29) else min(last, 65535)
+        lines.append(f'SEGMENT {{ START ${at:04X}; END ${last:04X}; NAME "{f"t{k}" if apart else draw.choice(NAMES)}"; }};')
+        at, k = last + 1 + (0 if apart else draw.randrange(50) * draw.randrange(2)), k + 1
+    columns = "".join(f" {name}COLUMN {draw.randrange(1, 121)};" for name in "MNEMONIC ARGUMENT COMMENT TEXT".split() if draw.randrange(2))
+    layout = f"LABELBREAK {draw.randrange(121)}; NEWLINEAFTERJMP on; NEWLINEAFTERRTS on;"
+    return [*lines, f"GLOBAL {{ COMMENTS {draw.randrange(5)};{columns} {layout} }};"]
+
+
+def pytest_generate_tests(metafunc):
+    seed, images, texts = (metafunc.config.getoption(name) for name in ("seed", "images", "texts"))
+    if "image" in metafunc.fixturenames:
+        metafunc.parametrize("image", [f"image {k} of seed {seed}" for k in range(images)])
+    if "text" in metafunc.fixturenames:
+        metafunc.parametrize("text", [f"50 texts of seed {seed} from {k} on" for k in range(0, texts, 50)])
+
+
+@pytest.mark.parametrize("cpu", CPUS)
+def test_a_listing(da65, as65, image, cpu):
+    draw, apart = random.Random(f"{image} {cpu}"), int(image.split()[1]) % 2 == 0
+    start, data = random_image(draw)
+    lines = random_information(draw, start, len(data), cpu, apart)
+
+    def bad(lines, data):
+        write("image.bin", data)
+        return fault(da65, as65, start, "image.bin", f"-i {write('image.info', chr(10).join(lines))} image.bin")
+
+    if found := bad(lines, data):
+        lines = lines[:1] + shrunk(lines[1:], lambda some: bad(lines[:1] + some, data))
+        data = bytes(shrunk(list(data), lambda some: bad(lines, bytes(some))))
+        fails(f"{found}\na smaller case, of the bytes {data[:300].hex(' ')}: {bad(lines, data)}\n" + "\n".join(lines))
+    assert not apart or b".segment" in read("listing.s")
+
+
+@pytest.mark.parametrize("name", INFORMATION)
+def test_the_listing_of_an_example(da65, as65, name):
+    start, data = example(name)
+    assert not fault(da65, as65, start, write("example.bin", data), f"-i {name}")
+
+
+@pytest.mark.parametrize("cpu", CPUS)
+@pytest.mark.parametrize("name", IMAGES)
+def test_the_listing_of_an_image(da65, as65, name, cpu):
+    assert not fault(da65, as65, 65536 - len(read(name)), name, f"--cpu {cpu} {name}")
+
+
+# ---- random texts
+
+ANY_FORM = "adc and cmp eor lda ora sbc sta".split()
+IMPLIED = "brk clc cld cli clv dex dey inx iny nop pha php pla plp rti rts sec sed sei tax tay tsx txa txs tya".split()
+BRANCHES = "bcc bcs beq bmi bne bpl bvc bvs".split()
+IMMEDIATE = "adc and cmp cpx cpy eor lda ldx ldy ora sbc".split()
+# Only the newer CPUs have these.
+NEWER = ("bra here1", "stz $10", "lda ($20)", "rmb3 $40", "bbs7 $12,here1", "inc a", "inc", "dec")
+
+
+class Text:
+    """A random text: lines with a statement each, with the names that it defines and those that a later line may define."""
+
+    def __init__(self, draw, cpu):
+        self.draw, self.any, self.defined, self.wanted = draw, draw.randrange, [], set()
+        self.lines = [f'.setcpu "{cpu}"']
+        for self.count in range(1, self.any(3, 43) + 1):
+            kind = self.any(12)
+            if kind == 0:
+                statement = f"k{self.count}{draw.choice((' := ', ' = ', '='))}{self.number(draw.choice((65536, 256, 256)))} ; a constant"
+                self.defined.append(f"k{self.count}")
+            elif kind == 1:
+                statement = f"p{self.count} := * + {self.number(20)}"
+                self.defined.append(f"p{self.count}")
+            else:
+                statement = self.statement()
+                if self.any(3) == 0 and statement[:2] not in (".c", ".s"):
+                    statement = f"w{self.count}:  {statement}"
+                    self.defined.append(f"w{self.count}")
+            self.lines.append(f"here{self.count}:\n {statement}")
+        self.lines += [f"{name} := {self.number(65536)}" for name in sorted(self.wanted) if self.any(30)]
+
+    def number(self, limit):
+        """A number below this one: in decimal, hexadecimal or binary, or as a character."""
+        value, kind = self.any(limit), self.any(6)
+        character = 32 + value % 95 if 32 + value % 95 < limit else 32
+        return {0: str(value), 4: f"%{value:b}", 5: f"'{chr(character)}'"}.get(kind, f"${value:0{kind}X}")
+
+    def name(self):
+        if self.any(5) and self.defined:
+            return self.draw.choice(self.defined)
+        name = f"later{self.any(12)}"
+        self.wanted.add(name)
+        return name
+
+    def value(self):
+        """A number, or a name, perhaps with an offset."""
+        if self.any(2) == 0:
+            return self.number(self.draw.choice((65536, 256, 256, 256)))
+        value, kind = self.name(), self.any(5)
+        if kind == 1:
+            return value + self.draw.choice(("-", " - ")) + self.number(300)
+        return value + (f"+{self.number(300)}" if kind == 0 else "") + ("-1" if self.any(6) == 0 else "")
+
+    def difference(self):
+        """That of two names: mostly of a line and one before it."""
+        minus = self.draw.choice(("-", "-", " - "))
+        if self.any(8) == 0:
+            return self.name() + minus + self.name()
+        first = self.any(1, self.count + 1)
+        return f"here{self.any(first, self.count + 1)}{minus}here{first}"
+
+    def expression(self):
+        return self.value() if self.any(3) else self.difference()
+
+    def byte(self):
+        kind = self.any(12)
+        return self.expression() if kind == 0 else self.difference() if kind < 4 else self.number(256)
+
+    def half(self):
+        """That of a value. A number and a name may stand in parentheses; anything else needs them."""
+        word = self.expression()
+        in_parentheses = "-" in word or "+" in word or self.any(3) == 0
+        return self.draw.choice(("<", ">", "< ", "> ")) + (f"({word})" if in_parentheses else word)
+
+    def datum(self):
+        kind = self.any(6)
+        return self.half() if kind < 2 else self.draw.choice(('"<;"', '"A"', '"%\'"')) if kind == 2 else self.byte()
+
+    def some(self, one):
+        return ", ".join(one() for _ in range(self.any(1, 5)))
+
+    def repair(self):
+        """A statement that no listing has."""
+        pick, kind = self.draw.choice, self.any(12)
+        if kind < 5:
+            return f"{pick(IMMEDIATE)} #{self.half() if kind < 3 else self.byte()}"
+        if kind < 7:
+            return f".byte {self.some(self.datum)}"
+        if kind < 9:
+            return (f"{pick(('.lobytes', '.hibytes', '.LoBytes', '.HIBYTES'))} {self.some(self.expression)}" if kind == 7
+                    else f"{pick(('.word', '.addr', '.dbyt', '.dword'))} {self.some(self.difference)}")
+        if kind < 11:
+            return f".res {self.number(20 if self.any(40) else 70000)}" + (f", {self.number(260)}" if self.any(2) == 0 else "")
+        return pick(("asl", "lsr", "rol", "ror", "ASL", "Ror", pick(NEWER)))
+
+    def operand(self):
+        form = self.draw.choice(("E", "E", "E,x", "E,y", "(E,x)", "(E),Y", "#N"))
+        if form == "#N":
+            return "#" + self.number(256)
+        is_far = self.any(8) == 0 and form[0] != "("
+        return "a:" * is_far + form.replace("E", self.number(256) if form[0] == "(" else self.value())
+
+    def statement(self):
+        pick, kind = self.draw.choice, self.any(18)
+        if kind >= 13:
+            return self.repair()
+        return (lambda: f'.byte {self.number(256)}, {self.number(256)}, "A;b"',
+                lambda: f"{pick(('.word', '.addr', '.dbyt', '.dword', '.WORD'))} {self.value()},{self.number(65536)}",
+                lambda: f'.setcpu "{pick((*CPUS, "65c02"))}"',
+                lambda: pick((".code", '.segment "one"', '.segment "Two"')),
+                lambda: f"{pick(BRANCHES)} here{self.count}",
+                lambda: f"{pick('jmp jsr inc asl bit ldx sty'.split())} {self.value()}",
+                lambda: pick(("asl a", "ROL A", "lsr a", "jmp ($1234)", "ldx $20,y", "sty $20,x", pick(NEWER))),
+                *2 * (lambda: pick(IMPLIED),), *4 * (lambda: f"{pick(ANY_FORM)} {self.operand()}",))[kind]()
+
+
+def excused(message):
+    """as65 refuses what ca65 takes: a value below 0 or above $FFFF whose half is taken or that .dbyt has, a value below 0 in .dword, of
+    which ca65 takes the low bytes, and a text without a byte."""
+    return re.search(r": value out of range: .*([<>]|\.lobytes|\.hibytes|\.dbyt|\.dword)|: no bytes$", message.lower(), re.M)
+
+
+def judged(as65, lines, start):
+    """Whether both assemblers give the same bytes for a text; and what is wrong, if they do not agree."""
+    write("text.s", "\n".join(lines) + "\n")
+    ours, theirs = as65.run(f"-S {start} text.s"), linked(segments("\n".join(lines), True), start, 65536 - start)
+    if ours.status == 0:
+        is_same = theirs == ours.out
+        return is_same, None if is_same else f"as65 takes it from {start}, and ca65: {theirs if isinstance(theirs, str) else 'other bytes'}"
+    said = ours.err.decode("latin-1")
+    return False, None if isinstance(theirs, str) or excused(said) else f"ca65 takes it from {start}, and not as65: {said}"
+
+
+def test_texts(as65, text):
+    """At least half of the texts have bytes for both."""
+    agreed, draw = 0, random.Random(text)
+    for k in range(50):
+        lines, start = Text(draw, CPUS[k % 3]).lines, draw.randrange(60000)
+        is_same, wrong = judged(as65, lines, start)
+        agreed += is_same
+        if wrong:
+            lines = shrunk(lines, lambda some: judged(as65, some, start)[1])
+            fails(f"{wrong}\na smaller case: {judged(as65, lines, start)[1]}\n" + "\n".join(lines))
+    assert agreed >= 25
+
+
+def test_segments_at_their_place(as65):
+    text = ('start: lda #<last\n ldx #last-start\nlast:\n.segment "TABLES"\nthere: .addr start,there,last\n .res 3\n'
+            '.segment "VECTORS"\nend: .word end-there,end,start\n')
+    write("a.info", 'SEGMENT { START $1010; END $1FFF; NAME "TABLES"; };\nSEGMENT { START $2FFA; END $2FFF; NAME "VECTORS"; };\n')
+    write("a.cfg", "MEMORY { ROM: start = $1000, size = $2000, file = %O, fill = yes, fillval = $EA; }\n"
+          "SEGMENTS { CODE: load = ROM, type = ro; TABLES: load = ROM, type = ro, start = $1010;"
+          " VECTORS: load = ROM, type = ro, start = $2FFA; }\n")
+    write("linked.s", text.replace(".res 3", ".res 3,$00"))
+    command("ca65 -o linked.o linked.s")
+    command("ld65 -C a.cfg -o linked.out linked.o")
+    as65(["-S", "0x1000", "-i", "a.info", "--fill", "$EA", write("text.s", text)], 0, read("linked.out"))

@@ -1,0 +1,153 @@
+"""What `make` does with the prover, and in which order. A stand-in for `rt` notes in which crate it runs, needs the libraries of the crates
+below, and proves nothing. stmt65 and info65, which do not depend on each other, each wait until the other begins. Here `make` prints its
+progress once a second."""
+import os, re, shutil
+import pytest
+from conftest import MADE, ROOT, Program, holds, read, rows, write
+
+RT = r"""#!/usr/bin/env bash
+set -eu
+[ "$1" != version ] || { echo "${KIT-rattle-kit-13f} logic 0"; exit; }
+crate=$(basename "$PWD")
+echo "$crate" >>"$NOTES"
+[ "$1" != try ] || { echo "$*"; exit; }
+for name in $(sed -n "s/^$crate://p" ../../crates.txt); do
+    [ ! -d ../"$name" ] || [ -d ../"$name"/out/rlib ] || { echo "$crate: no library $name"; exit 1; }
+done
+case $crate in
+stmt65) other=info65 ;;
+info65) other=stmt65 ;;
+*) other=$crate ;;
+esac
+for _ in $(seq "${WAITS-100}"); do
+    ! grep -qx "$other" "$NOTES" || break
+    sleep 0.1
+done
+grep -qx "$other" "$NOTES" || [ "${WAITS-}" = 0 ] || { echo "$crate: $other does not begin"; exit 1; }
+case $crate in
+stmt65) echo 'so far: 0 of 66 functions checked; the verdict comes last'; echo 'so far: 10 of 66 functions checked' ;;
+info65) echo 'so far: 7 of 9 functions checked' ;;
+esac
+[ "$other" = "$crate" ] || sleep "${SLOW-0}"
+mkdir -p out/incremental out/rlib
+cat src/*.rt >>out/incremental/kept
+nice >out/nice
+[ "$crate" != "${REFUSED-}" ] || { echo "$crate: not proved"; exit 1; }
+printf '#!/bin/sh\necho "%s"\n' "$crate" >out/"$crate"
+chmod +x out/"$crate"
+"""
+PARTS = ("src", "specs", "proofs")
+LINES = [line.split(":") for line in (ROOT / "crates.txt").read_text().splitlines() if re.match(r"\w+:", line)]
+BELOW = {name: below.split() for name, below in LINES}
+
+
+def closure(crates, below):
+    """These crates and all below them."""
+    return set(crates).union(*(closure(below(name), below) for name in crates)) if crates else set()
+
+
+def own(name):
+    """The crates here right below this one."""
+    return [other for other in BELOW[name] if other in BELOW]
+
+
+ALL = closure(["da65_cli", *MADE[1:]], own)
+
+
+def above(*crates):
+    """What is proved again if these change."""
+    return closure(crates, lambda name: [other for other in ALL if name in BELOW[other]])
+
+
+def run(words, crates, status=0, last="da65_cli", env=None, program="make"):
+    """make ends with this status, and apart from its own errors prints this line last. It runs the prover once in each of these crates,
+    and in no other. Gives what it printed."""
+    here = os.path.dirname(os.getcwd())
+    write("../notes", "")
+    env = {"PATH": f"{here}/path:{os.environ['PATH']}", "NOTES": f"{here}/notes", **(env or {})}
+    done = Program(shutil.which(program)).run(words, env=env).gives(status, None, None)
+    printed = (done.out + done.err).decode()
+    assert [line for line in printed.splitlines() if not line.startswith("make")][-1:] == [last] or program != "make", printed
+    assert sorted(read("../notes").decode().split()) == sorted(crates), printed
+    assert not [name for name in os.listdir("bin/made") if name.endswith(".room")], "a room is left"
+    return printed
+
+
+@pytest.fixture(scope="module")
+def proved(tmp_path_factory):
+    """A checkout in which everything is proved."""
+    here = tmp_path_factory.mktemp("make")
+    for folder in "path", *(f"checkout/crates/{crate.name}/{part}" for crate in (ROOT / "crates").iterdir() for part in PARTS):
+        os.makedirs(here / folder)
+    os.chmod(write(here / "path/rt", RT), 0o755)
+    for crate in (here / "checkout/crates").iterdir():
+        write(crate / "src/lib.rt", "// one\n")
+    for name in "Makefile", "crates.txt", "HANDLES":
+        shutil.copy(ROOT / name, here / "checkout")
+    before = os.getcwd()
+    os.chdir(here / "checkout")
+    run("-s -j3", ALL)
+    os.chdir(before)
+    yield here
+    shutil.rmtree(here)
+
+
+@pytest.fixture
+def make(folder, proved):
+    shutil.copytree(proved, folder / "make")
+    os.chdir("make/checkout")
+    return run
+
+
+def test_the_first_time(make):
+    for name in MADE:
+        assert os.access("bin/" + name, os.X_OK)
+
+
+def test_what_gives_way_to_da65(make):
+    slow = {name for name in ALL if int(read(f"crates/{name}/out/nice")) > os.nice(0)}
+    assert slow == ALL - closure(["da65_cli"], own)
+
+
+def test_nothing_changed(make):
+    assert "proved with" not in make("-s -j3", [])
+
+
+def test_another_kit(make):
+    assert "proved with rattle-kit-13f, not yet with rattle-kit-1\n" in make("-s -j3", [], env={"KIT": "rattle-kit-1"})
+
+
+def test_before_any_proof(make):
+    make("-s try", ["da65_cli"], last="try --data three.bin=../../examples/three.bin -- three.bin")
+
+
+def test_map65_changed(make):
+    write("crates/map65/src/lib.rt", "// two\n")
+    make("-s -j3", above("map65"))
+    assert above("map65") >= {"da65", "as65", "trace65", "name65", "move65"}
+    holds("crates/map65/out/incremental/kept", "// one\n// two\n")
+
+
+def test_text65_is_not_proved(make):
+    write("crates/text65/src/lib.rt", "// two\n")
+    make("-s -j3", ["text65"], 2, "text65: not proved", env={"REFUSED": "text65"})
+    holds("crates/text65/out/incremental/kept", "// one\n// two\n")
+
+
+@rows("program words shown", [
+    ("elsewhere", "make", "-s -j3", "\ninfo65 7 of 9, stmt65 10 of 66 functions\n"),
+    ("on a terminal", "script", "-qec 'make -s -j3' /dev/null", "\r\x1b[Kinfo65 7 of 9, stmt65 10 of 66 functions\r\x1b[K"),
+])
+def test_how_far_it_is(make, program, words, shown):
+    if not shutil.which(program):
+        pytest.skip(f"{program} is not installed")
+    for crate in "info65", "stmt65":
+        write(f"crates/{crate}/src/lib.rt", "// two\n")
+    printed = make(words, above("info65", "stmt65"), env={"EVERY": "1", "SLOW": "3"}, program=program)
+    assert shown in "\n" + printed
+    assert b"so far: 10 of 66" in read("bin/made/stmt65"), "the words of the prover are not kept"
+
+
+def test_one_at_a_time(make):
+    write("crates/text65/src/lib.rt", "// two\n")
+    make("-s -j1", above("text65"), env={"WAITS": "0"})

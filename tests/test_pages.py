@@ -1,0 +1,225 @@
+"""What the pages show: every command of README.md, docs/GUIDE.md, docs/RECIPES.md and the examples of the man pages. Each page has a folder
+of its own that looks like a checkout after `make`. A block of a page is one of these:
+
+  ```sh      commands, run in order; the words after `sh` are further programs that the block needs
+  ```        an excerpt: its lines stand, one after the other, in what the last commands printed or in a file that the page made
+
+In tables, a command `bin/da65 ..` or `bin/as65 ..` is run. If a row has an information file or a command, and beside it the message
+`da65: ..` or the word nothing, the program must say that; so must it for the rows of docs/INFORMATION_FILE.md with a message. A section
+ends at the first block whose programs are missing. Then everything is installed, completed by bash and zsh, and uninstalled."""
+import glob, os, pathlib, random, re, shutil, subprocess
+import pytest
+from conftest import MADE, ROOT, command, fails, lack, path_of, read, same, write
+
+# What a login to another machine would run, for the commands that spread their work: it runs here.
+SSH = r"""#!/bin/sh
+host=
+while [ $# -gt 0 ]; do
+    case $1 in
+    --) shift; break ;;
+    -[lp]) shift 2 ;;
+    -*) shift ;;
+    *) [ -z "$host" ] || break; host=$1; shift ;;
+    esac
+done
+cd && exec sh -c "$*"
+"""
+
+
+@pytest.fixture
+def checkout(folder, monkeypatch, request):
+    """A folder that has what a checkout has after `make`, in which nothing has to be built."""
+    for name in "bin/made", "docs", "crates", "path", "home":
+        os.makedirs(name)
+    os.remove("examples")
+    for name in MADE:
+        write("bin/made/" + ("da65_cli" if name == "da65" else name), "")
+        shutil.copy(path_of(request.config, name), "bin/" + name)
+        os.symlink(folder / "bin" / name, "path/" + name)
+    for name in "examples", "names", "completions":
+        shutil.copytree(ROOT / name, name)
+    shutil.copy(ROOT / "Makefile", ".")
+    for page in (ROOT / "docs").glob("*.[15]"):
+        shutil.copy(page, "docs")
+    write("crates.txt", "")
+    os.chmod(write("path/ssh", SSH), 0o755)
+    # SHELL is what a login sets: without it, parallel loses the status of a command that it runs elsewhere.
+    for name, value in ("SHELL", "/bin/sh"), ("HOME", f"{folder}/home"), ("DESTDIR", f"{folder}/installed"), (
+            "PATH", f"{folder}/path:{os.environ['PATH']}"):
+        monkeypatch.setenv(name, value)
+
+
+class Page:
+    """A page, what its last commands printed, and how many ran."""
+
+    def __init__(self, name):
+        self.name, self.printed, self.ran, self.found, self.left_out = name, "", 0, 0, 0
+        self.text = (ROOT / name).read_text()
+
+    def does(self, commands):
+        """They end with status 0."""
+        run = subprocess.run(["bash", "-eu", "-o", "pipefail", "-c", commands], stdout=subprocess.PIPE, stderr=subprocess.STDOUT,
+                             stdin=subprocess.DEVNULL, timeout=300)
+        self.printed = run.stdout.decode("latin-1")
+        if run.returncode:
+            fails(f"{self.name}: status {run.returncode} of\n{commands}\n{self.printed}")
+        self.ran += 1
+
+    def has(self, lines):
+        """The lines stand, one after the other, in what the last commands printed, or in a text that the page has or makes."""
+        names = [name for end in ("*.s", "*.info", "*.cfg", "*.inc", "examples/*.info", "examples/*.cfg", "examples/board/*")
+                 for name in glob.glob(end) if os.path.isfile(name) and not name.endswith(".bin")]
+        texts = [self.printed, *(read(name).decode("latin-1") for name in names)]
+        return any(f"\n{lines}\n" in "\n" + text.replace("\0", "").rstrip("\n") + "\n" for text in texts)
+
+    def blocks(self):
+        """Runs the blocks in their order."""
+        skipped = False
+        for heading, kind, text in re.findall(r"^(#.*)|^```(.*)\n((?s:.*?))^```$", self.text, re.M):
+            text = text.rstrip("\n")
+            skipped = skipped and not heading
+            if skipped or heading:
+                continue
+            assert not kind or kind.split()[0] == "sh", f"{self.name}: a block of kind {kind}"
+            if not kind:
+                if not self.has(text.encode().decode("latin-1")):
+                    fails(f"{self.name}: not in what the commands made:\n{text}\n\nThey printed:\n{self.printed}")
+                self.found += 1
+            elif not all(map(shutil.which, kind.split()[1:])) or re.search("(ca|cl|ld)65", text) and lack("ca65"):
+                self.left_out += 1
+                skipped = True
+            else:
+                self.does(text)
+
+    def tables(self):
+        """Runs the commands in the page's tables, and its tables of mistakes with their messages."""
+        write("zeros.bin", bytes(65536))
+        write("bom.info", "\xef\xbb\xbfGLOBAL { };")
+        for row in re.findall(r"^\|.*", self.text, re.M):
+            row = row.replace("` and in line 2 `", "\n").replace("` and a line feed |", "\n` |")
+            said = re.match(r"\| `([^`]+)` \| (`(da65: [^`]+)`|nothing \|)", row)
+            if said:
+                text, message = said[1].replace(r"\|", "|"), said[3] or ""
+                mistake = f"bin/da65 -i {write('mistake.info', text.encode())} examples/three.bin"
+                run = subprocess.run(["bash", "-c", text if text.startswith("bin/da65") else mistake], capture_output=True)
+                same(message, run.stderr.rstrip(b"\n"), f"{self.name}: {text}")
+                self.ran += 1
+            else:
+                for text in re.findall(r"`(bin/(?:da|as)65[^`]*)`", row):
+                    self.does(text)
+
+
+@pytest.mark.parametrize("name", ("README.md", "docs/GUIDE.md", "docs/RECIPES.md"))
+def test_page(checkout, name, record_property):
+    page = Page(name)
+    page.blocks()
+    page.tables()
+    assert page.ran > 10 and page.found
+    record_property("shown", f"{name}: ran {page.ran} commands and found {page.found} excerpts; left out {page.left_out}")
+
+
+def test_mistakes_of_information_files(checkout):
+    page = Page("docs/INFORMATION_FILE.md")
+    page.tables()
+    assert page.ran > 10
+
+
+def example(page):
+    """The commands of the man page's example."""
+    text = re.search(r"^\.SH EXAMPLES(.*)^\.SH SEE", (ROOT / "docs" / page).read_text(), re.M | re.S)[1]
+    commands = re.findall(r"^(?:da65|as65|trace65|name65|ca65|ld65|cmp) .*", text, re.M)
+    return "\n".join(commands).replace(r"\(aq", "'").replace(r"\-", "-")
+
+
+@pytest.mark.parametrize("page", ("as65.1", "trace65.1", "name65.1"))
+def test_example_of(checkout, page):
+    write("rom.bin", read("bin/da65")[:4096])
+    Page("docs/" + page).does(example(page))
+
+
+@pytest.mark.ca65
+@pytest.mark.parametrize("start, size", (
+    *((start, 16384) for start in ("0x0000", "0x2000", "0x4000", "0x7800", "0xC000")), ("0xF000", 4096), ("0x0000", 65536)))
+def test_example_of_da65_at(checkout, start, size):
+    write("rom.bin", (4 * random.Random(1).randbytes(16384))[:size])
+    Page("docs/da65.1").does(example("da65.1").replace("0xF000", start))
+
+
+# ---- installing
+
+def options(name):
+    """Those of the help text."""
+    text = command(["bin/" + name, "-h"]).decode()
+    found = [word for line in re.findall(r"^  (-[^ ]+(?: --[^ ]+)?)", text, re.M) for word in re.findall("-[^ ,]+", line)]
+    assert len(found) >= 10, text
+    return found
+
+
+def bash_completes(file, *words):
+    """What bash offers for the last of these words after the name."""
+    script = ('source "$1"; shift; COMP_WORDS=("$@") COMP_CWORD=$(($# - 1)); function=$(complete -p "$1") && function=${function#*-F } && '
+              '"${function% *}" 2>/dev/null && printf "%s\\n" "${COMPREPLY[@]}"')
+    return subprocess.run(["bash", "-c", script, "-", file, *words], stdout=subprocess.PIPE).stdout.decode().split()
+
+
+def zsh_completes(folder, line, last):
+    """What zsh shows after two TABs behind the line, up to the last word."""
+    script = ("""zmodload zsh/zpty; zpty z "TERM=dumb zsh -f -i"
+zpty -w z "PS1=; fpath=($1 \\$fpath); autoload -Uz compinit; compinit -u -D; LISTMAX=0; COLUMNS=120; LINES=100; print re''ady"
+zpty -r z out "*ready*"; zpty -w -n z "$2"$'\\t\\t'; zpty -r z out "*$3*"; print -r -- "$out" """)
+    return subprocess.run(["zsh", "-f", "-c", script, "-", folder, line, last], stdout=subprocess.PIPE, timeout=60).stdout.decode()
+
+
+@pytest.fixture
+def installed(checkout, folder, request):
+    """Everything installed under the programs' names with a prefix."""
+    words = [f"DESTDIR={folder}/made", "PREFIX=/usr", f"PROGRAM_PREFIX={request.param}"]
+    command(["make", "-s", "install", *words])
+    yield request.param, f"{folder}/made/usr"
+    command(["make", "-s", "uninstall", *words])
+    assert not [path for path in pathlib.Path(folder / "made").rglob("*") if path.is_file() or path.name == "names"], "left after uninstall"
+
+
+with_prefix = pytest.mark.parametrize("installed", ("", "proved-"), ids=("by its name", "by another name"), indirect=True)
+
+
+@with_prefix
+def test_what_is_installed(installed):
+    prefix, made = installed
+    files = [file for name in (prefix + name for name in MADE) for file in (
+        f"bin/{name}", f"share/man/man1/{name}.1", f"share/bash-completion/completions/{name}", f"share/zsh/site-functions/_{name}")]
+    files += [f"share/man/man5/{prefix}da65.info.5"]
+    files += [f"share/{prefix}da65/names/{path.name}" for path in (ROOT / "names").iterdir() if path.suffix in (".inc", ".info")]
+    assert sorted(files) == sorted(str(path.relative_to(made)) for path in pathlib.Path(made).rglob("*") if path.is_file())
+    for name in MADE:
+        same(read("bin/" + name), read(f"{made}/bin/{prefix}{name}"), "another program")
+
+
+@with_prefix
+@pytest.mark.parametrize("program", MADE)
+def test_bash_completes(installed, program):
+    prefix, made = installed
+    file, name = f"{made}/share/bash-completion/completions/{prefix}{program}", prefix + program
+    assert not [option for option in options(program) if option not in bash_completes(file, name, option)]
+    if program == "da65":
+        assert bash_completes(file, name, "--cpu", "65") == ["6502", "65SC02", "65C02"]
+
+
+@pytest.mark.skipif(not shutil.which("zsh"), reason="zsh is not installed")
+@with_prefix
+@pytest.mark.parametrize("program", MADE)
+def test_zsh_completes(installed, program):
+    prefix, made = installed
+    listed = zsh_completes(f"{made}/share/zsh/site-functions", f"{prefix}{program} -", "-o ")
+    assert not [option for option in options(program) if not re.search(rf"(^|[ ]){re.escape(option)} ", listed, re.M)]
+
+
+def test_man_pages_refer_to_what_is_installed():
+    for page in (ROOT / "docs").glob("*.[15]"):
+        for line in page.read_text().splitlines()[1:]:
+            assert not re.search(r"\.md\b|docs/|crates/|examples/", line), f"{page.name}: {line}"
+
+
+@pytest.mark.skipif(not shutil.which("mandoc"), reason="mandoc is not installed")
+def test_man_pages_are_well_formed():
+    command(["mandoc", "-T", "lint", *map(str, (ROOT / "docs").glob("*.[15]"))])
