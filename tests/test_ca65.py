@@ -263,9 +263,10 @@ class Text:
         return name
 
     def value(self):
-        """A number, or a name, perhaps with an offset."""
+        """A number or the sum of two, or a name, perhaps with an offset."""
         if self.any(2) == 0:
-            return self.number(self.draw.choice((65536, 256, 256, 256)))
+            number = self.number(self.draw.choice((65536, 256, 256, 256)))
+            return number if self.any(6) else number + self.draw.choice(("+", " + ")) + self.number(256)
         value, kind = self.name(), self.any(5)
         if kind == 1:
             return value + self.draw.choice(("-", " - ")) + self.number(300)

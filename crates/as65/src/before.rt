@@ -64,7 +64,7 @@ fn add_name<'t>(names: &mut Vec<&'t [u8]>, name: &'t [u8]) -> Result<(), AllocEr
 
 fn add_names_of<'t>(names: &mut Vec<&'t [u8]>, value: &Value<'t>) -> Result<(), AllocError> {
     match *value {
-        Value::Number(_) => Ok(()),
+        Value::Number(_) | Value::Sum(_, _) => Ok(()),
         Value::Name(name, _, _) | Value::Less(name, _) => add_name(names, name),
         Value::Difference(name, other) => {
             add_name(names, name)?;

@@ -121,7 +121,7 @@ fn hint_in(line: &[u8]) -> &'static [u8] {
     } else if has_unknown_operation(line) {
         b"no such operation"
     } else if has_difference(line) {
-        b"a difference of names stands after # or in .word and .byte"
+        b"a difference stands alone, after # or in .word and .byte"
     } else {
         b"not a line of a listing"
     }
@@ -132,7 +132,7 @@ fn hint_in(line: &[u8]) -> &'static [u8] {
 fn hint_for(line: &[u8]) -> &'static [u8] {
     match after_string(line) {
         Some(b'|' | b'+' | b'^' | b'&') =>
-            b"what is no string is a number, as $C4 for a D with the high bit",
+            b"what is no string is a number, as 'D'+$80",
         Some(_) => b"a quote inside a string is written $22",
         None => hint_in(code_of(line)),
     }

@@ -67,7 +67,7 @@ impl<'t> Names<'t> {
 
     fn use_value(&mut self, value: &Value<'t>) -> Result<(), AllocError> {
         match *value {
-            Value::Number(_) => Ok(()),
+            Value::Number(_) | Value::Sum(_, _) => Ok(()),
             Value::Name(name, _, _) | Value::Less(name, _) => self.use_name(name),
             Value::Difference(name, other) => {
                 self.use_name(name)?;

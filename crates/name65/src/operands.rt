@@ -107,7 +107,7 @@ impl<'w, 't, 'l> Operands<'w, 't, 'l> {
             _ => self.size,
         };
         let operand = match found.datum {
-            Datum::Value(Value::Number(_)) => self.of_number()?,
+            Datum::Value(Value::Number(_) | Value::Sum(_, _)) => self.of_number()?,
             _ => {
                 keep_free(self.wishes, self.address, count)?;
                 Operand::Kept

@@ -145,6 +145,11 @@ repairs =
     ∷ (codes "cmp #'A'", op Cmp (One (Plain Immediate) (number 65)))
     ∷ (codes "cmp #'''", op Cmp (One (Plain Immediate) (number 39)))
     ∷ (codes "cmp #';'", op Cmp (One (Plain Immediate) (number 59)))
+    ∷ (codes "lda #'D'+$80", op Lda (One (Plain Immediate) (number 196)))
+    ∷ (codes "lda $12 + 1 , x", op Lda (One (Plain DirectX) (number 19)))
+    ∷ (codes "lda #>($12FF+1)", op Lda (One (Half High) (number 0x1300)))
+    ∷ (codes ".byte \"REA\",'D'+$80", line (Data (StringDatum (codes "REA") ∷ ValueDatum (number 196) ∷ [])))
+    ∷ (codes ".word $1000+2", line (Values Word (number 0x1002 ∷ [])))
     ∷ (codes ".byte <a0,>a0,a0,a0+2,a0-1,end-start", line (Data (HalfDatum Low (plus (codes "a0") 0) ∷ HalfDatum High (plus (codes "a0") 0) ∷ ValueDatum (plus (codes "a0") 0) ∷ ValueDatum (plus (codes "a0") 2) ∷ ValueDatum (minus_one (codes "a0") 0) ∷ ValueDatum difference ∷ [])))
     ∷ (codes ".byte 'x',%11,$FF,\"a\",<($1234)", line (Data (NumberDatum 120 ∷ NumberDatum 3 ∷ NumberDatum 255 ∷ StringDatum (codes "a") ∷ HalfDatum Low (number 0x1234) ∷ [])))
     ∷ (codes ".lobytes a0,b0+1,end-start", line (Data (HalfDatum Low (plus (codes "a0") 0) ∷ HalfDatum Low (plus (codes "b0") 1) ∷ HalfDatum Low difference ∷ [])))
@@ -168,7 +173,7 @@ lines_of_repairs = refl
 abbrev refused_of_repairs : List (List ℕ)
 refused_of_repairs =
     -- ca65 reads a sum after the half
-    codes "lda #<name+1" ∷ codes "lda #>name-1" ∷ codes ".byte <name+1" ∷ codes "lda #<" ∷ codes "lda #<(name" ∷ codes "lda #<<name" ∷ codes "lda <name"
+    codes "lda #<name+1" ∷ codes "lda #>name-1" ∷ codes "lda #<5+1" ∷ codes ".byte <name+1" ∷ codes "lda #<" ∷ codes "lda #<(name" ∷ codes "lda #<<name" ∷ codes "lda <name"
     -- an address is no half and no difference
     ∷ codes "lda end-start" ∷ codes "lda (end-start),y" ∷ codes "jmp >name" ∷ codes ".word <name"
     -- a number or a name is subtracted, once, from a name alone
@@ -178,6 +183,8 @@ refused_of_repairs =
     ∷ codes ".lobytes" ∷ codes ".lobytes <name" ∷ codes ".lobytes \"a\"" ∷ codes ".res" ∷ codes ".res name" ∷ codes ".res 1," ∷ codes ".res 1,2,3"
     ∷ codes "v = name" ∷ codes "v = * + 1" ∷ codes "a = 5" ∷ codes "lda #%" ∷ codes "lda #%12"
     ∷ codes "lda #''" ∷ codes "lda #'AB'" ∷ codes "lda #'\t'" ∷ (codes "lda #'" ++ 0x80 ∷ codes "'")
+    -- one number is added to a number
+    ∷ codes "lda 5+1+1" ∷ codes "lda 5+name" ∷ codes "lda 5+1-1" ∷ codes "lda 5-1" ∷ codes ".byte 5+" ∷ codes "v = 5+1"
     ∷ codes "asl (" ∷ codes "lda #(name)" ∷ codes ".org $1000" ∷ codes "@loop: nop"
     ∷ []
 

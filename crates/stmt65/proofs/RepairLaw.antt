@@ -35,6 +35,31 @@ stays_then : {A B : Type 0} (o r : Option A) (k l : A → Option B) → Stays o 
 stays_then None r k l h g = tt
 stays_then (Some x) r k l h g = rw h (g x)
 
+-- the same, unless it goes on with `+`: there a repair may read more
+abbrev Goes : {A : Type 0} → Option (A × List Part) → Option (A × List Part) → Type 0
+Goes o r = IfSome o (λ x. is_mark 43 x.1 ≡ false → r ≡ Some x)
+
+goes : {A : Type 0} (o r : Option (A × List Part)) → Stays o r → Goes o r
+goes None r h = tt
+goes (Some x) r h = λ plus. h
+
+-- nothing of a listing that comes after it begins with `+`
+goes_then : {A B : Type 0} (o r : Option (A × List Part)) (k l : A × List Part → Option B) → Goes o r → ((x : A × List Part) → is_mark 43 x.1 ≡ true → k x ≡ None) → ((x : A × List Part) → Stays (k x) (l x)) → Stays (o >>= k) (r >>= l)
+goes_then None r k l h none g = tt
+goes_then (Some x) r k l h none g = by_test (is_mark 43 x.1) (λ plus. rw (none x plus) tt) (λ plus. rw (h plus) (g x))
+
+whole_none : {A : Type 0} (x : A) (ps : List Part) → is_mark 43 ps ≡ true → whole x ps ≡ None
+whole_none x [] plus = absurd cc
+whole_none x (p ∷ ps) plus = refl
+
+tail_none : (size : AddressSize) (v : Value) (ps : List Part) → is_mark 43 ps ≡ true → tail_at Listing size v ps ≡ None
+unfolding tail_at
+tail_none size v ps plus = rw (mark_is 43 ps plus) refl
+
+inner_none : (v : Value) (ps : List Part) → is_mark 43 ps ≡ true → inner_at v ps ≡ None
+unfolding inner_at
+inner_none v ps plus = rw (mark_is 43 ps plus) refl
+
 less_stays : (w : List ℕ) (n : ℕ) (ps : List Part) → Stays (less_one Listing w n ps) (less_one Repair w n ps)
 unfolding less_one
 less_stays w n ps =
@@ -49,11 +74,11 @@ named_stays w ps =
     (λ plus. rw plus (stays (number_in (drop 1 ps) >>= λ n. less_one Listing w n.0 n.1)))
     (λ plus. rw plus (less_stays w 0 ps))
 
-value_stays : (ps : List Part) → Stays (next_value Listing ps) (next_value Repair ps)
+value_goes : (ps : List Part) → Goes (next_value Listing ps) (next_value Repair ps)
 unfolding next_value
-value_stays (Number t ∷ ps) = refl
-value_stays (Word w ∷ ps) = by_test (is_name w) (λ n. rw n (named_stays w ps)) (λ n. rw n tt)
-value_stays _ = tt
+value_goes (Number t ∷ ps) = λ plus. rw plus refl
+value_goes (Word w ∷ ps) = by_test (is_name w) (λ n. rw n (goes (named_at Listing w ps) (named_at Repair w ps) (named_stays w ps))) (λ n. rw n tt)
+value_goes _ = tt
 
 no_difference : (v : Value) (front : List Part) → IsValue v front → is_difference v ≡ false
 no_difference (NumberValue n) front h = refl
@@ -61,18 +86,18 @@ no_difference (NameValue w n minus) front h = refl
 no_difference (LessValue w n) front h = refl
 no_difference (DifferenceValue w v) front h = absurd h
 
-address_stays : (ps : List Part) → Stays (next_address Listing ps) (next_address Repair ps)
-address_stays ps =
+address_goes : (ps : List Part) → Goes (next_address Listing ps) (next_address Repair ps)
+address_goes ps =
     by_option (next_value Listing ps)
     (λ v e. let f = at (λ v. Fronts (IsValue v.0) ps v.1) (next_value Listing ps) v e (value_read ps) in
-    rw e (rw (at (λ v. next_value Repair ps ≡ Some v) (next_value Listing ps) v e (value_stays ps), no_difference v.0 f.front f.is) refl))
+    rw e (λ plus. rw (at (λ v. is_mark 43 v.1 ≡ false → next_value Repair ps ≡ Some v) (next_value Listing ps) v e (value_goes ps) plus, no_difference v.0 f.front f.is) refl))
     (λ e. rw e tt)
 
 -- ---- operands
 
 second_stays : (size : AddressSize) (v : Value) (ps : List Part) → Stays (cond (is_absolute size) None (next_address Listing ps >>= λ w. whole (Two v w.0) w.1)) (cond (is_absolute size) None (next_address Repair ps >>= λ w. whole (Two v w.0) w.1))
 second_stays Absolute v ps = tt
-second_stays Automatic v ps = stays_then (next_address Listing ps) (next_address Repair ps) _ _ (address_stays ps) (λ w. stays (whole (Two v w.0) w.1))
+second_stays Automatic v ps = goes_then (next_address Listing ps) (next_address Repair ps) _ _ (address_goes ps) (λ w plus. whole_none (Two v w.0) w.1 plus) (λ w. stays (whole (Two v w.0) w.1))
 
 tail_stays : (size : AddressSize) (v : Value) (ps : List Part) → Stays (tail_at Listing size v ps) (tail_at Repair size v ps)
 unfolding tail_at
@@ -85,10 +110,13 @@ tail_stays size v ps =
     (λ y. rw y (second_stays size v (drop 1 ps)))))))
     (λ comma. rw comma (stays _))
 
+value_alone_stays : (ps : List Part) → Stays (next_value Listing ps >>= λ v. whole (One (notation.Plain Immediate) v.0) v.1) (next_value Repair ps >>= λ v. whole (One (notation.Plain Immediate) v.0) v.1)
+value_alone_stays ps = goes_then (next_value Listing ps) (next_value Repair ps) (λ v. whole (One (notation.Plain Immediate) v.0) v.1) (λ v. whole (One (notation.Plain Immediate) v.0) v.1) (value_goes ps) (λ v plus. whole_none (One (notation.Plain Immediate) v.0) v.1 plus) (λ v. stays (whole (One (notation.Plain Immediate) v.0) v.1))
+
 immediate_stays : (ps : List Part) → Stays (immediate_of Listing ps) (immediate_of Repair ps)
 unfolding immediate_of next_value
-immediate_stays (Number t ∷ ps) = stays _
-immediate_stays (Word w ∷ ps) = stays_then (next_value Listing (Word w ∷ ps)) (next_value Repair (Word w ∷ ps)) _ _ (value_stays (Word w ∷ ps)) (λ v. stays _)
+immediate_stays (Number t ∷ ps) = value_alone_stays (Number t ∷ ps)
+immediate_stays (Word w ∷ ps) = value_alone_stays (Word w ∷ ps)
 immediate_stays _ = tt
 
 form_stays : (ps : List Part) → Stays (form_of Listing ps) (form_of Repair ps)
@@ -97,27 +125,27 @@ form_stays ps =
     by_test (is_mark 35 ps)
     (λ hash. rw hash (immediate_stays (drop 1 ps)))
     (λ hash. rw hash (by_test (is_mark 40 ps)
-    (λ paren. rw paren (stays_then (next_address Listing (drop 1 ps)) (next_address Repair (drop 1 ps)) _ _ (address_stays (drop 1 ps)) (λ v. stays (inner_at v.0 v.1))))
+    (λ paren. rw paren (goes_then (next_address Listing (drop 1 ps)) (next_address Repair (drop 1 ps)) _ _ (address_goes (drop 1 ps)) (λ v plus. inner_none v.0 v.1 plus) (λ v. stays (inner_at v.0 v.1))))
     (λ paren. rw paren (by_test (is_word_here (codes "a") ps)
     (λ a. rw a (by_test (is_mark 58 (drop 1 ps))
-    (λ colon. rw colon (stays_then (next_address Listing (drop 1 (drop 1 ps))) (next_address Repair (drop 1 (drop 1 ps))) _ _ (address_stays (drop 1 (drop 1 ps))) (λ v. tail_stays Absolute v.0 v.1)))
+    (λ colon. rw colon (goes_then (next_address Listing (drop 1 (drop 1 ps))) (next_address Repair (drop 1 (drop 1 ps))) _ _ (address_goes (drop 1 (drop 1 ps))) (λ v plus. tail_none Absolute v.0 v.1 plus) (λ v. tail_stays Absolute v.0 v.1)))
     (λ colon. rw colon (stays _))))
     (λ a. rw a (by_list ps
     (λ end. rw end refl)
-    (λ q qs e. rw e (stays_then (next_address Listing (q ∷ qs)) (next_address Repair (q ∷ qs)) _ _ (address_stays (q ∷ qs)) (λ v. tail_stays Automatic v.0 v.1)))))))))
+    (λ q qs e. rw e (goes_then (next_address Listing (q ∷ qs)) (next_address Repair (q ∷ qs)) _ _ (address_goes (q ∷ qs)) (λ v plus. tail_none Automatic v.0 v.1 plus) (λ v. tail_stays Automatic v.0 v.1)))))))))
 
 -- ---- lists
 
-datum_stays : (ps : List Part) → Stays (next_datum Listing ps) (next_datum Repair ps)
+datum_goes : (ps : List Part) → Goes (next_datum Listing ps) (next_datum Repair ps)
 unfolding next_datum word_datum mark_datum
-datum_stays (Number t ∷ ps) = refl
-datum_stays (Text t ∷ ps) = refl
-datum_stays _ = tt
+datum_goes (Number t ∷ ps) = λ plus. rw plus refl
+datum_goes (Text t ∷ ps) = λ plus. refl
+datum_goes _ = tt
 
-joined_stays : {A : Type 0} (read again : List Part → Option (A × List Part)) → ((ps : List Part) → Stays (read ps) (again ps)) → (most : ℕ) (ps : List Part) → Stays (joined read most ps) (joined again most ps)
+joined_stays : {A : Type 0} (read again : List Part → Option (A × List Part)) → ((ps : List Part) → Goes (read ps) (again ps)) → (most : ℕ) (ps : List Part) → Stays (joined read most ps) (joined again most ps)
 unfolding joined
 joined_stays read again h zero ps = tt
-joined_stays read again h (suc most) ps = stays_then (read ps) (again ps) _ _ (h ps) (λ x. by_test (is_mark 44 x.1)
+joined_stays read again h (suc most) ps = goes_then (read ps) (again ps) _ _ (h ps) (λ x plus. rw (mark_is 43 x.1 plus) refl) (λ x. by_test (is_mark 44 x.1)
     (λ comma. rw comma (stays_then (joined read most (drop 1 x.1)) (joined again most (drop 1 x.1)) _ _ (joined_stays read again h most (drop 1 x.1)) (λ xs. refl)))
     (λ comma. rw comma (stays _)))
 
@@ -175,7 +203,7 @@ other_turns : (w : List ℕ) (ps : List Part) → Turns (other_at Listing w ps) 
 unfolding other_at
 other_turns w ps =
     by_test (same w (codes ".byte"))
-    (λ e. rw e (turns_made (list_of (next_datum Listing) ps) (list_of (next_datum Repair) ps) Data (λ xs. refl) (joined_stays (next_datum Listing) (next_datum Repair) datum_stays _ ps)))
+    (λ e. rw e (turns_made (list_of (next_datum Listing) ps) (list_of (next_datum Repair) ps) Data (λ xs. refl) (joined_stays (next_datum Listing) (next_datum Repair) datum_goes _ ps)))
     (λ e. rw e (by_test (same w (codes ".segment"))
     (λ e. rw e (segment_turns ps))
     (λ e. rw e (by_test (same w (codes ".code"))
@@ -188,7 +216,7 @@ at_turns : (w : List ℕ) (ps : List Part) → Turns (operation_at Listing w ps)
 unfolding operation_at
 at_turns w ps =
     by_option (directive_named w)
-    (λ d e. rw e (turns_made (list_of (next_value Listing) ps) (list_of (next_value Repair) ps) (Values d) (λ vs. refl) (joined_stays (next_value Listing) (next_value Repair) value_stays _ ps)))
+    (λ d e. rw e (turns_made (list_of (next_value Listing) ps) (list_of (next_value Repair) ps) (Values d) (λ vs. refl) (joined_stays (next_value Listing) (next_value Repair) value_goes _ ps)))
     (λ e. rw e (other_turns w ps))
 
 operation_turns : (ps : List Part) → Turns (operation_of Listing ps) (operation_of Repair ps)

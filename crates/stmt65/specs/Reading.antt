@@ -1,7 +1,7 @@
 -- What a line says, by its parts, as the reader goes: each step is decided by the next part.
 --
 -- A line of a repair can say all that one of a listing can, and more: each row that has more asks for the language.
-use Rattle.std.specs.Prelude.{ℕ, zero, suc, Bool, true, false, List, [], ◌∷◌, length, drop, codes, ◌==◌, if◌then◌else◌, Option, Some, None, option_and_then}
+use Rattle.std.specs.Prelude.{ℕ, zero, suc, ◌+◌, Bool, true, false, List, [], ◌∷◌, length, drop, codes, ◌==◌, if◌then◌else◌, Option, Some, None, option_and_then}
 use Rattle.std.specs.Str.{bytes_eq}
 use Rattle.isa65.specs.Words.{mnemonic_named}
 use Rattle.stmt65.specs.Types.{AddressSize, Asl, Automatic, Dec, Direct, DirectX, DirectY, Directive, High, Immediate, Inc, Indirect, IndirectX, IndirectY, Language, Listing, Low, Lsr, Mnemonic, Repair, Rol, Ror, Zero}
@@ -85,8 +85,13 @@ less_one language w n ps =
 unfoldable pub named_at : Language → List ℕ → List Part → Option (Value × List Part)
 named_at language w ps = if is_mark plus ps then (number_in (drop 1 ps) >>= λ n. less_one Listing w n.0 n.1) else less_one language w 0 ps
 
+-- after the number n: in a repair `+` and a number that is added to it, or nothing
+abbrev pub number_at : Language → ℕ → List Part → Option (Value × List Part)
+number_at Listing n ps = Some (NumberValue n, ps)
+number_at Repair n ps = if is_mark plus ps then (number_in (drop 1 ps) >>= λ m. Some (NumberValue (n + m.0), m.1)) else Some (NumberValue n, ps)
+
 unfoldable pub next_value : Language → List Part → Option (Value × List Part)
-next_value language (Number t ∷ ps) = Some (NumberValue (number_of t), ps)
+next_value language (Number t ∷ ps) = number_at language (number_of t) ps
 next_value language (Word w ∷ ps) = if_name w (named_at language w ps)
 next_value language _ = None
 
@@ -183,8 +188,13 @@ unfoldable pub mark_datum : Language → ℕ → List Part → Option (Datum × 
 mark_datum Listing b ps = None
 mark_datum Repair b ps = if b == less then half_datum Low ps else (if b == greater then half_datum High ps else None)
 
+-- after the number n: in a repair a number that is added to it makes both an expression
+abbrev pub number_datum : Language → ℕ → List Part → Option (Datum × List Part)
+number_datum Listing n ps = Some (NumberDatum n, ps)
+number_datum Repair n ps = if is_mark plus ps then (number_in (drop 1 ps) >>= λ m. Some (ValueDatum (NumberValue (n + m.0)), m.1)) else Some (NumberDatum n, ps)
+
 unfoldable pub next_datum : Language → List Part → Option (Datum × List Part)
-next_datum language (Number t ∷ ps) = Some (NumberDatum (number_of t), ps)
+next_datum language (Number t ∷ ps) = number_datum language (number_of t) ps
 next_datum language (Text t ∷ ps) = Some (StringDatum t, ps)
 next_datum language (Word w ∷ ps) = word_datum language w ps
 next_datum language (Mark b ∷ ps) = mark_datum language b ps

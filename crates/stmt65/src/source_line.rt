@@ -19,6 +19,8 @@ pub enum Minus {
 pub enum Value<'a> {
     /// A number.
     Number(Numeral<'a>),
+    /// A number, and the number that is added to it. Only a repair has it.
+    Sum(Numeral<'a>, Numeral<'a>),
     /// A name, the number that is added to its value, and what is subtracted.
     Name(&'a [u8], Numeral<'a>, Minus),
     /// A name, and the number that is subtracted from its value. Only a repair has it.

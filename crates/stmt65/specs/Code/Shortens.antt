@@ -6,7 +6,7 @@ use Rattle.stmt65.specs.SourceLine.{Value, Datum}
 use Rattle.stmt65.specs.Types.{Language, Listing, Repair}
 use Rattle.stmt65.specs.declared.source_line.Half.{Half}
 use Rattle.stmt65.specs.Parts.{Part, Word, Number, Text, Mark}
-use Rattle.stmt65.specs.Reading.{number_in, name_in, less_at, less_one, named_at, next_value, bracketed_in, halved_in, word_datum, half_datum, mark_datum, next_datum, next_half}
+use Rattle.stmt65.specs.Reading.{number_in, name_in, less_at, less_one, named_at, number_at, next_value, bracketed_in, halved_in, word_datum, half_datum, mark_datum, number_datum, next_datum, next_half}
 
 pub record Shortens {A : Type 0} (read : List Part → Option (A × List Part)) : Type 0 where
   pub shorter : (ps : List Part) (x : A × List Part) → read ps ≡ Some x → length x.1 < length ps
@@ -36,9 +36,13 @@ named_at-shorter : (l : Language) (w : List ℕ) (ps : List Part) (v : Value × 
 unfolding named_at
 named_at-shorter l w ps v e = grind (arith, by_option, less_one-shorter, number_in-shorter, length-drop)
 
+number_at-shorter : (l : Language) (n : ℕ) (ps : List Part) (v : Value × List Part) → number_at l n ps ≡ Some v → length v.1 ≤ length ps
+number_at-shorter Listing n ps v e = grind arith
+number_at-shorter Repair n ps v e = grind (arith, by_option, number_in-shorter, length-drop)
+
 next_value-shorter : (l : Language) (ps : List Part) (v : Value × List Part) → next_value l ps ≡ Some v → length v.1 < length ps
 unfolding next_value
-next_value-shorter l (Number t ∷ ps) v e = grind arith
+next_value-shorter l (Number t ∷ ps) v e = grind (arith, number_at-shorter)
 next_value-shorter l (Word w ∷ ps) v e = grind (arith, named_at-shorter)
 next_value-shorter l _ v e = absurd cc
 
@@ -73,9 +77,13 @@ mark_datum-shorter Repair b ps x e = grind (arith, half_datum-shorter)
 pub next_value-Shortens : (l : Language) → Shortens (next_value l)
 next_value-Shortens l = record { shorter = next_value-shorter l }
 
+number_datum-shorter : (l : Language) (n : ℕ) (ps : List Part) (x : Datum × List Part) → number_datum l n ps ≡ Some x → length x.1 ≤ length ps
+number_datum-shorter Listing n ps x e = grind arith
+number_datum-shorter Repair n ps x e = grind (arith, by_option, number_in-shorter, length-drop)
+
 next_datum-shorter : (l : Language) (ps : List Part) (x : Datum × List Part) → next_datum l ps ≡ Some x → length x.1 < length ps
 unfolding next_datum
-next_datum-shorter l (Number t ∷ ps) x e = grind arith
+next_datum-shorter l (Number t ∷ ps) x e = grind (arith, number_datum-shorter)
 next_datum-shorter l (Text t ∷ ps) x e = grind arith
 next_datum-shorter l (Word w ∷ ps) x e = word_datum-shorter l w ps x e
 next_datum-shorter l (Mark b ∷ ps) x e = mark_datum-shorter l b ps x e

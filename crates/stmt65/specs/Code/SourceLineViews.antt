@@ -1,5 +1,5 @@
 -- What the code's reading of a line stands for.
-use Rattle.std.specs.Prelude.{ℕ, map}
+use Rattle.std.specs.Prelude.{ℕ, ◌+◌, map}
 use Rattle.std.specs.Option.{option_copied}
 use Rattle.stmt65.specs.Types.{Numeral}
 use Rattle.stmt65.specs.declared.source_line.Value.{Value as CodeValue}
@@ -20,6 +20,7 @@ numeral_of n = number_of n.text.now
 
 abbrev pub value_of : CodeValue → Value
 value_of (code_value.Number n) = NumberValue (numeral_of n)
+value_of (code_value.Sum n m) = NumberValue (numeral_of n + numeral_of m)
 value_of (code_value.Name w n minus) = NameValue w.now (numeral_of n) minus
 value_of (code_value.Less w n) = LessValue w.now (numeral_of n)
 value_of (code_value.Difference w v) = DifferenceValue w.now v.now

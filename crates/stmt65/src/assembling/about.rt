@@ -82,7 +82,7 @@ fn unknown_in<'a, A: Allocator + Clone>(
     value: Value<'a>,
 ) -> Option<About<'a>> {
     match value {
-        Value::Number(_) => None,
+        Value::Number(_) | Value::Sum(_, _) => None,
         Value::Name(name, _, _) | Value::Less(name, _) if names.find(name).is_none() => {
             Some(About::Name(name))
         }

@@ -18,6 +18,7 @@ fn value_in<A: Allocator + Clone>(names: &Names<'_, '_, A>, value: &Value) -> Op
 {
     match *value {
         Value::Number(n) => Some(u128::from(n.value())),
+        Value::Sum(n, m) => Some(u128::from(n.value().saturating_add(m.value()))),
         Value::Name(name, n, minus) => {
             let definition = names.find(name)?;
             value_from(definition, n, minus)
@@ -75,7 +76,7 @@ pub fn is_known<A: Allocator + Clone>(names: &Names<'_, '_, A>, value: &Value) -
     ensures { result ≡ is_known names.now (value_of value.now) }
 {
     match *value {
-        Value::Number(_) => true,
+        Value::Number(_) | Value::Sum(_, _) => true,
         Value::Name(name, _, _) | Value::Less(name, _) => names.find(name).is_some(),
         Value::Difference(name, other) => {
             names.find(name).is_some() && names.find(other).is_some()
@@ -134,6 +135,7 @@ fn held_zero_page_size<A: Allocator + Clone>(above: &Names<'_, '_, A>, value: &V
 {
     match *value {
         Value::Number(n) => n.value() < 256,
+        Value::Sum(n, m) => n.value().saturating_add(m.value()) < 256,
         Value::Name(name, n, minus) => match above.find(name) {
             Some(definition) => {
                 definition.constant && is_small(value_from(definition, n, minus))

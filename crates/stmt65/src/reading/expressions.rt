@@ -1,8 +1,8 @@
-//! Expressions: a number, a name with an optional number added and an optional `-1`, a name less a number, or the difference of two
-//! names; and what is an address or is halved.
+//! Expressions: a number, the sum of two, a name with an optional number added and an optional `-1`, a name less a number, or the
+//! difference of two names; and what is an address or is halved.
 
 ghost use Rattle.std.specs.Prelude.{◌≡◌};
-ghost use Rattle.stmt65.specs.Words.{Reads, bracketed_in, halved_in, is_difference, less_at, less_one, named_at, next_address, next_value, numeral_of, value_of};
+ghost use Rattle.stmt65.specs.Words.{Reads, bracketed_in, halved_in, is_difference, less_at, less_one, named_at, next_address, next_value, number_at, numeral_of, value_of};
 
 use crate::language::Language;
 use crate::reading::lexer::Part;
@@ -56,13 +56,29 @@ pub fn named_at<'a>(language: Language, name: &'a [u8], parts: &mut Parts<'a>) -
     less_one(Language::Listing, name, plus, parts)
 }
 
+/// After a number: in a repair `+` and a number that is added to it, or nothing.
+fn number_at<'a>(
+    language: Language,
+    number: Numeral<'a>,
+    parts: &mut Parts<'a>,
+) -> Option<Value<'a>>
+    ensures { Reads value_of result
+        (number_at language (numeral_of number.entry) parts.old) parts.new }
+{
+    if language == Language::Listing || !parts.eat(b'+') {
+        return Some(Value::Number(number));
+    }
+    let plus = parts.number()?;
+    Some(Value::Sum(number, plus))
+}
+
 /// The next expression.
 #[tactic(auto, unfolding(crate::specs::Reading::next_value))]
 pub fn next_value<'a>(language: Language, parts: &mut Parts<'a>) -> Option<Value<'a>>
     ensures { Reads value_of result (next_value language parts.old) parts.new }
 {
     match parts.next()? {
-        Part::Number(text) => Some(Value::Number(Numeral { text })),
+        Part::Number(text) => number_at(language, Numeral { text }, parts),
         Part::Word(word) => {
             if !is_name(word) {
                 return None;

@@ -1,7 +1,7 @@
 //! Operations: a mnemonic with its operand, or an operation of the assembler.
 
 ghost use Rattle.std.specs.Prelude.{◌≡◌, List, Option, map};
-ghost use Rattle.stmt65.specs.Words.{Gives, GivesIfOk, Part, Reads, Shortens, data_of, datum_of, further_at, half_datum, list_of, mark_datum, next_datum, next_half, operand_in, operation_at, other_at, reserve_of, segment_of, takes_accumulator, text_in, word_datum};
+ghost use Rattle.stmt65.specs.Words.{Gives, GivesIfOk, Part, Reads, Shortens, data_of, datum_of, further_at, half_datum, list_of, mark_datum, next_datum, next_half, number_datum, numeral_of, operand_in, operation_at, other_at, reserve_of, segment_of, takes_accumulator, text_in, word_datum};
 ghost use Rattle.stmt65.specs.Code.SourceLineViews.{form_of as form_of_code, operation_of as operation_of_code};
 ghost use Rattle.stmt65.specs.Reading.{instruction_of, operation_of};
 
@@ -126,13 +126,29 @@ fn mark_datum<'a>(language: Language, mark: u8, parts: &mut Parts<'a>) -> Option
     }
 }
 
+/// After a number as an operand of `.byte`: in a repair what is added to it makes it an expression.
+fn number_datum<'a>(
+    language: Language,
+    number: Numeral<'a>,
+    parts: &mut Parts<'a>,
+) -> Option<Datum<'a>>
+    ensures { Reads datum_of result
+        (number_datum language (numeral_of number.entry) parts.old) parts.new }
+{
+    if language == Language::Listing || !parts.eat(b'+') {
+        return Some(Datum::Number(number));
+    }
+    let plus = parts.number()?;
+    Some(Datum::Value(Value::Sum(number, plus)))
+}
+
 /// The next operand of `.byte`.
 #[tactic(auto, unfolding(crate::specs::Reading::next_datum))]
 fn next_datum<'a>(language: Language, parts: &mut Parts<'a>) -> Option<Datum<'a>>
     ensures { Reads datum_of result (next_datum language parts.old) parts.new }
 {
     match parts.next()? {
-        Part::Number(text) => Some(Datum::Number(Numeral { text })),
+        Part::Number(text) => number_datum(language, Numeral { text }, parts),
         Part::Text(text) => Some(Datum::String(text)),
         Part::Word(word) => word_datum(language, word, parts),
         Part::Mark(mark) => mark_datum(language, mark, parts),
