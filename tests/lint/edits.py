@@ -21,6 +21,8 @@ WRONG_BODIES = {
     "da65_cli": """failure_made_up flush_leaves_bytes message_after_a_failed_flush""",
     "as65": """bytes_of_a_faulty_listing failed_write_called_a_difference image_cut_short listing_without_bytes_passed_on
         syntax_called_another_fault write_fault_passed_over""",
+    "reach65": """no_target_followed range_with_a_taken_byte goes_on_before_its_text""",
+    "trace65": """setting_not_compared proposals_left_out longer_item_passed_over""",
     "run65": """program_counter_overflows decimal_difference_overflows""",
 }
 

@@ -32,6 +32,13 @@ pub struct Step {
     pub text: Option<u16>,
 }
 
+/// An instruction, and the address where it begins.
+#[derive(Clone, Copy)]
+pub struct Placed<'s> {
+    pub at: u16,
+    pub step: &'s Step,
+}
+
 impl Step {
     /// Returns how many bytes the instruction has.
     pub fn len(&self) -> usize {
@@ -195,13 +202,18 @@ impl<'f, 'm> Steps<'f, 'm> {
         }
     }
 
-    /// Returns the instruction that begins at the address, which may lie past $FFFF, if it is marked.
-    pub fn marked(&self, marks: &Marks, at: usize) -> Option<&Step> {
-        if marks.get_at(at) {
-            self.at(u16::try_from(at).ok()?)
-        } else {
-            None
+    /// Returns the instruction that begins at the address, if that is marked.
+    pub fn marked(&self, marks: &Marks, at: u16) -> Option<Placed<'_>> {
+        if !marks.get(at) {
+            return None;
         }
+        let step = self.at(at)?;
+        Some(Placed { at, step })
+    }
+
+    /// Returns the marked instruction right behind this one and its text.
+    pub fn behind(&self, marks: &Marks, placed: Placed<'_>) -> Option<Placed<'_>> {
+        self.marked(marks, placed.step.end?)
     }
 }
 

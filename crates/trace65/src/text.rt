@@ -26,7 +26,6 @@ pub fn put_text(
     ranges: &[RangeSpec],
 ) -> Result<(), AllocError> {
     picture::put_picture(out, advice)?;
-    picture::put_help(out, advice)?;
     misplaced::put_misplaced(out, advice, given)?;
     ranges::put_ranges(out, advice, ranges)?;
     labels::put_labels(out, &advice.labels)?;

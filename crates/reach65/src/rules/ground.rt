@@ -1,6 +1,6 @@
 //! The addresses of an image that nothing speaks for, and the words among them that are addresses.
 
-use crate::rules::bytes::{ends, word};
+use crate::rules::bytes::{address, ends, word};
 use map65::{ADDRESSES, Image, Marks, is_inside};
 use std::alloc::{AllocError, Global};
 
@@ -42,8 +42,11 @@ impl<'i> Ground<'i> {
         let mut plain = Marks::none(alloc)?;
         let (start, end) = ends(image);
         for at in start..end {
-            if !taken.get_at(at) && !numbers.get_at(at) {
-                plain.set_span(at, at.saturating_add(1));
+            if let Some(at) = address(at)
+                && !taken.get(at)
+                && !numbers.get(at)
+            {
+                plain.set(at);
             }
         }
         Ok(Ground {

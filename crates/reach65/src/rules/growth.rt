@@ -3,10 +3,9 @@
 use crate::rules::bytes::address;
 use crate::rules::declared::{addresses_of, declared_of};
 use crate::rules::entries::pointers_of;
-use crate::rules::halves::{Pair, is_first, put_pairs_at};
+use crate::rules::halves::{is_first, pairs_at};
 use crate::rules::jumps::join_jumps;
 use crate::rules::obstacles::{Stops, worst_of};
-use crate::rules::readers::tables_of;
 use crate::rules::search::{Least, Search};
 use crate::rules::step::Steps;
 use crate::rules::words::Words;
@@ -48,31 +47,24 @@ fn put_candidate(
 /// Adds the addresses that a reached instruction gives: the one behind it and its text, and those that it begins to load in halves.
 fn put_candidates_of(
     found: &mut Vec<Candidate>,
-    pairs: &mut Vec<Pair>,
     search: &Search<'_, '_, '_>,
     reason: u16,
 ) -> Result<(), AllocError> {
-    let Some(step) = search.steps.at(reason) else {
+    let Some(placed) = search.steps.marked(&search.marks, reason) else {
         return Ok(());
     };
-    if is_first(step.op) {
-        pairs.clear();
-        put_pairs_at(
-            pairs,
-            search.steps,
-            &search.marks,
-            step,
-            usize::from(reason),
-        )?;
-        for pair in pairs.as_slice() {
-            if let Some(meant) = address(pair.meant())
+    if is_first(placed.step.op) {
+        for pair in pairs_at(search.steps, &search.marks, placed) {
+            if let Some(pair) = pair
+                && search.steps.image().start() <= pair.address
                 && pair.is_plausible()
+                && let Some(meant) = address(pair.meant())
             {
                 put_candidate(found, search, meant, false)?;
             }
         }
     }
-    if let Some(end) = step.end {
+    if let Some(end) = placed.step.end {
         put_candidate(found, search, end, true)?;
     }
     Ok(())
@@ -162,9 +154,8 @@ fn join_candidates(
     behind: &[u16],
 ) -> Result<Vec<u16>, AllocError> {
     let mut candidates = Vec::new(alloc);
-    let mut pairs = Vec::new(alloc);
     for &reason in reasons {
-        put_candidates_of(&mut candidates, &mut pairs, search, reason)?;
+        put_candidates_of(&mut candidates, search, reason)?;
     }
     for &address in behind {
         put_candidate(&mut candidates, search, address, true)?;
@@ -214,7 +205,9 @@ fn join_entry(
 fn join_tables(alloc: Global, search: &mut Search<'_, '_, '_>) -> Result<Vec<u16>, AllocError> {
     let mut fresh = Vec::new(alloc);
     let steps = search.steps;
-    let tables = tables_of(alloc, steps, &search.marks, &search.code)?;
+    let tables = search
+        .readers
+        .tables(alloc, steps, &search.marks, &search.code)?;
     for &table in &tables {
         if !table.is_code {
             continue;

@@ -1,8 +1,7 @@
 //! Addresses that code loads in halves.
 
-use crate::rules::bytes::address;
 use crate::rules::sound::holder_of;
-use crate::rules::step::{Step, Steps};
+use crate::rules::step::{Placed, Step, Steps};
 use crate::rules::survey::Survey;
 use isa65::{Mnemonic, Mode, Op};
 use map65::Marks;
@@ -30,7 +29,26 @@ pub struct Pair {
     rank: u8,
 }
 
+/// An immediate that may be half of an address, and the instruction that loads or adds it.
+#[derive(Clone, Copy)]
+struct Half {
+    place: u16,
+    byte: u8,
+    by: Mnemonic,
+}
+
 impl Pair {
+    /// The pair of these halves.
+    fn of(rank: u8, low: Half, high: Half) -> Pair {
+        Pair {
+            low: low.place,
+            high: high.place,
+            address: u16::from_le_bytes([low.byte, high.byte]),
+            less: u16::from(rank == PUSHED),
+            rank,
+        }
+    }
+
     /// Returns the address that is meant.
     pub fn meant(&self) -> usize {
         usize::from(self.address).saturating_add(usize::from(self.less))
@@ -47,281 +65,196 @@ impl Pair {
     }
 }
 
-/// A register that an immediate can be loaded into.
-#[derive(Clone, Copy, PartialEq, Eq)]
-enum Register {
-    A,
-    X,
-    Y,
-}
-
-/// An immediate that may be half of an address.
-#[derive(Clone, Copy)]
-struct Half {
-    place: u16,
-    byte: u8,
-}
-
-/// An instruction that loads a register with an immediate, and the address after it.
-#[derive(Clone, Copy)]
-struct Load {
-    register: Register,
-    half: Half,
-    end: usize,
-}
-
-/// Two halves of an address.
-#[derive(Clone, Copy)]
-struct Joined {
-    rank: u8,
-    low: Half,
-    high: Half,
-}
-
 /// Returns whether the instruction may be the first of a pair: it loads an immediate, or is `clc`.
 pub fn is_first(op: Op) -> bool {
     op.mode == Mode::Imm || op.mnemonic == Mnemonic::Clc
 }
 
-/// The immediate of the instruction at the address, if it is this one.
-fn half_of(step: &Step, at: usize, mnemonic: Mnemonic) -> Option<Half> {
-    if step.op.mnemonic != mnemonic || step.op.mode != Mode::Imm {
+/// The immediate of the instruction, if it has one.
+fn half_of(placed: Placed<'_>) -> Option<Half> {
+    if placed.step.op.mode != Mode::Imm {
         return None;
     }
     Some(Half {
-        place: address(at.saturating_add(1))?,
-        byte: step.byte?,
+        place: placed.at.checked_add(1)?,
+        byte: placed.step.byte?,
+        by: placed.step.op.mnemonic,
     })
 }
 
-/// The instruction at the address, if it loads a register with an immediate.
-fn load_of(step: &Step, at: usize) -> Option<Load> {
-    if step.op.mode != Mode::Imm {
-        return None;
-    }
-    let register = match step.op.mnemonic {
-        Mnemonic::Lda => Register::A,
-        Mnemonic::Ldx => Register::X,
-        Mnemonic::Ldy => Register::Y,
-        _ => return None,
-    };
-    Some(Load {
-        register,
-        half: half_of(step, at, step.op.mnemonic)?,
-        end: at.saturating_add(step.len()),
-    })
-}
-
-/// The marked instruction of the address, if it loads a register with an immediate.
-fn load_at(steps: &Steps<'_, '_>, marks: &Marks, at: usize) -> Option<Load> {
-    load_of(steps.marked(marks, at)?, at)
-}
-
-/// The address to which the instruction stores the register, if it does.
-fn stored_to(step: &Step, register: Register) -> Option<u16> {
-    let stores = match register {
-        Register::A => Mnemonic::Sta,
-        Register::X => Mnemonic::Stx,
-        Register::Y => Mnemonic::Sty,
-    };
-    if step.op.mnemonic != stores {
-        return None;
-    }
-    match step.op.mode {
-        Mode::Zp => Some(u16::from(step.byte?)),
-        Mode::Abs => step.operand,
+/// The immediate that the instruction loads into a register, if it does.
+fn load_of(placed: Placed<'_>) -> Option<Half> {
+    match placed.step.op.mnemonic {
+        Mnemonic::Lda | Mnemonic::Ldx | Mnemonic::Ldy => half_of(placed),
         _ => None,
     }
 }
 
-/// Adds the pair of these halves, if they form an address that does not lie before the image.
-fn put_joined(found: &mut Vec<Pair>, start: u16, joined: Joined) -> Result<(), AllocError> {
-    let Joined { rank, low, high } = joined;
-    let address = u16::from_le_bytes([low.byte, high.byte]);
-    if address < start {
-        return Ok(());
+/// The immediate that the instruction adds, if it does.
+fn added_by(placed: Placed<'_>) -> Option<Half> {
+    match placed.step.op.mnemonic {
+        Mnemonic::Adc => half_of(placed),
+        _ => None,
     }
-    found.push(Pair {
-        low: low.place,
-        high: high.place,
-        address,
-        less: u16::from(rank == PUSHED),
-        rank,
-    })?;
-    Ok(())
 }
 
-/// The halves of two loads, the low one first. Their rank is that of the registers.
-fn loaded(low: Load, high: Load) -> Joined {
-    let rank = match (low.register, high.register) {
-        (Register::A, Register::X) => 1,
-        (Register::X, Register::Y) => 2,
-        (Register::A, Register::Y) => 3,
-        (Register::X, Register::A) => 4,
-        (Register::Y, Register::A) => 5,
+/// Returns the address to which the instruction stores a register, if it does.
+pub fn stored_to(step: &Step) -> Option<u16> {
+    match (step.op.mnemonic, step.op.mode) {
+        (Mnemonic::Sta | Mnemonic::Stx | Mnemonic::Sty, Mode::Abs) => step.operand,
+        (Mnemonic::Sta | Mnemonic::Stx | Mnemonic::Sty, Mode::Zp) => step.byte.map(u16::from),
+        _ => None,
+    }
+}
+
+/// Whether the first instruction stores the register that the second one loads.
+fn stores_what(stores: Mnemonic, loads: Mnemonic) -> bool {
+    match loads {
+        Mnemonic::Lda => stores == Mnemonic::Sta,
+        Mnemonic::Ldx => stores == Mnemonic::Stx,
+        _ => stores == Mnemonic::Sty,
+    }
+}
+
+/// The pair of two loads of different registers, the low half first. Its rank is that of the registers.
+fn loaded(low: Half, high: Half) -> Pair {
+    let rank = match (low.by, high.by) {
+        (Mnemonic::Lda, Mnemonic::Ldx) => 1,
+        (Mnemonic::Ldx, Mnemonic::Ldy) => 2,
+        (Mnemonic::Lda, _) => 3,
+        (Mnemonic::Ldx, _) => 4,
+        (_, Mnemonic::Lda) => 5,
         _ => 6,
     };
-    Joined {
-        rank,
-        low: low.half,
-        high: high.half,
-    }
+    Pair::of(rank, low, high)
 }
 
-/// The halves of two loads that are stored to these addresses, if these are neighbours.
-fn neighbours(to: u16, other: u16, one: Load, two: Load) -> Option<Joined> {
-    let (low, high) = if to.checked_add(1) == Some(other) {
-        (one.half, two.half)
+/// The pair of two loads of a register that these instructions store to neighbours.
+fn stored(then: &Step, last: &Step, one: Half, two: Half) -> Option<Pair> {
+    let to = stored_to(then)?;
+    let other = stored_to(last)?;
+    if !stores_what(then.op.mnemonic, one.by) || then.op.mnemonic != last.op.mnemonic {
+        None
+    } else if to.checked_add(1) == Some(other) {
+        Some(Pair::of(0, one, two))
     } else if other.checked_add(1) == Some(to) {
-        (two.half, one.half)
+        Some(Pair::of(0, two, one))
     } else {
-        return None;
-    };
-    Some(Joined { rank: 0, low, high })
-}
-
-/// The halves of two loads of A that these instructions push for `rts`, which leads to one more: the high half comes first.
-fn pushed(then: &Step, last: &Step, one: Load, two: Load) -> Option<Joined> {
-    if one.register != Register::A || last.op.mnemonic != then.op.mnemonic {
-        return None;
-    }
-    Some(Joined {
-        rank: PUSHED,
-        low: two.half,
-        high: one.half,
-    })
-}
-
-/// The halves of two loads of a register that these instructions store to neighbours.
-fn stored(then: &Step, last: &Step, one: Load, two: Load) -> Option<Joined> {
-    let to = stored_to(then, one.register)?;
-    let other = stored_to(last, one.register)?;
-    neighbours(to, other, one, two)
-}
-
-/// The halves of a load and what keeps it, and the same again of the same register.
-fn kept_twice(steps: &Steps<'_, '_>, marks: &Marks, one: Load, then: &Step) -> Option<Joined> {
-    let place = one.end.saturating_add(then.len());
-    match load_at(steps, marks, place) {
-        Some(two) if two.register == one.register => {
-            let last = steps.marked(marks, two.end)?;
-            if then.op.mnemonic == Mnemonic::Pha {
-                pushed(then, last, one, two)
-            } else {
-                stored(then, last, one, two)
-            }
-        }
-        _ => None,
+        None
     }
 }
 
-/// The halves that are stored through a pointer: `lda #`, `sta (p),y` at this address, and the same again after one `iny` or `dey`, with other
-/// instructions between them.
-fn stored_twice(steps: &Steps<'_, '_>, marks: &Marks, one: Load, store: usize) -> Option<Joined> {
-    if one.register != Register::A {
-        return None;
+/// The instructions of an image, and where those begin that are reached.
+#[derive(Clone, Copy)]
+struct Code<'a, 'f, 'm> {
+    steps: &'a Steps<'f, 'm>,
+    marks: &'a Marks,
+}
+
+impl<'a, 'f, 'm> Code<'a, 'f, 'm> {
+    /// The reached instruction right behind this one.
+    fn behind(&self, placed: Placed<'a>) -> Option<Placed<'a>> {
+        self.steps.behind(self.marks, placed)
     }
-    let pointer = stored_through(steps, marks, store)?;
-    let mut then = store.saturating_add(2);
-    let mut up = 0u8;
-    let mut down = 0u8;
-    for _ in 0..BETWEEN {
-        let step = steps.marked(marks, then)?;
-        match step.op.mnemonic {
-            Mnemonic::Iny => up = up.saturating_add(1),
-            Mnemonic::Dey => down = down.saturating_add(1),
-            _ => {}
-        }
-        if let Some(two) = load_of(step, then)
-            && two.register == Register::A
-        {
-            let again = stored_through(steps, marks, two.end)? == pointer;
-            let (low, high) = if again && up == down.saturating_add(1) {
-                (one.half, two.half)
-            } else if again && down == up.saturating_add(1) {
-                (two.half, one.half)
-            } else {
-                return None;
-            };
-            return Some(Joined { rank: 7, low, high });
-        }
-        if step.op.mnemonic == Mnemonic::Jsr || step.next.is_none() {
+
+    /// The pair of a load and what keeps it, and the same again of the same register: two stores to neighbours, or `pha` for `rts`, where the high
+    /// half comes first.
+    fn kept_twice(&self, one: Half, then: Placed<'a>) -> Option<Pair> {
+        let second = self.behind(then)?;
+        let two = load_of(second)?;
+        if two.by != one.by {
             return None;
         }
-        then = then.saturating_add(step.len());
-    }
-    None
-}
-
-/// The immediate that the marked instruction of the address adds, if it does.
-fn added_at(steps: &Steps<'_, '_>, marks: &Marks, at: usize) -> Option<Half> {
-    half_of(steps.marked(marks, at)?, at, Mnemonic::Adc)
-}
-
-/// The address after the marked instruction of this one, if it leaves the carry.
-fn behind_move(steps: &Steps<'_, '_>, marks: &Marks, at: usize) -> Option<usize> {
-    match steps.marked(marks, at) {
-        Some(step) if keeps_carry(step.op) => Some(at.saturating_add(step.len())),
-        _ => None,
-    }
-}
-
-/// The halves that are added to a number: `clc`, `adc #`, and `adc #` again, with one instruction between them that takes the low half away,
-/// and one that brings the high half of the number.
-fn added_twice(steps: &Steps<'_, '_>, marks: &Marks, at: usize) -> Option<Joined> {
-    let first = behind_move(steps, marks, at.saturating_add(3))?;
-    let second = behind_move(steps, marks, first)?;
-    match (
-        added_at(steps, marks, at.saturating_add(1)),
-        added_at(steps, marks, second),
-    ) {
-        (Some(low), Some(high)) => Some(Joined { rank: 8, low, high }),
-        _ => None,
-    }
-}
-
-/// Adds the pairs of which this first instruction begins at the address: two loads of different registers, one right behind the other, or one of
-/// the forms above; a `ldy #` may stand before a store through a pointer. Fails only if an allocation failed.
-pub fn put_pairs_at(
-    found: &mut Vec<Pair>,
-    steps: &Steps<'_, '_>,
-    marks: &Marks,
-    step: &Step,
-    at: usize,
-) -> Result<(), AllocError> {
-    let start = steps.image().start();
-    let Some(one) = load_of(step, at) else {
-        if step.op.mnemonic == Mnemonic::Clc
-            && let Some(joined) = added_twice(steps, marks, at)
-        {
-            put_joined(found, start, joined)?;
+        let last = self.behind(second)?;
+        if then.step.op.mnemonic != Mnemonic::Pha {
+            stored(then.step, last.step, one, two)
+        } else if one.by == Mnemonic::Lda && last.step.op.mnemonic == Mnemonic::Pha {
+            Some(Pair::of(PUSHED, two, one))
+        } else {
+            None
         }
-        return Ok(());
-    };
-    let Some(then) = steps.marked(marks, one.end) else {
-        return Ok(());
-    };
-    let joined = match load_of(then, one.end) {
-        Some(two) => {
-            if one.register != two.register {
-                put_joined(found, start, loaded(one, two))?;
-                put_joined(found, start, loaded(two, one))?;
-            }
-            if two.register == Register::Y {
-                stored_twice(steps, marks, one, two.end)
-            } else {
-                None
-            }
-        }
-        None => match kept_twice(steps, marks, one, then) {
-            None => stored_twice(steps, marks, one, one.end),
-            joined => joined,
-        },
-    };
-    match joined {
-        Some(joined) => put_joined(found, start, joined),
-        None => Ok(()),
     }
+
+    /// The pair that is stored through a pointer: `lda #`, `sta (p),y` here, and the same again after one `iny` or `dey`, with other
+    /// instructions between them.
+    fn stored_twice(&self, one: Half, store: Placed<'a>) -> Option<Pair> {
+        let pointer = stored_through(store.step)?;
+        if one.by != Mnemonic::Lda {
+            return None;
+        }
+        let mut then = self.behind(store)?;
+        let (mut up, mut down) = (0u8, 0u8);
+        for _ in 0..BETWEEN {
+            match then.step.op.mnemonic {
+                Mnemonic::Iny => up = up.saturating_add(1),
+                Mnemonic::Dey => down = down.saturating_add(1),
+                Mnemonic::Jsr => return None,
+                Mnemonic::Lda if then.step.op.mode == Mode::Imm => {
+                    let two = half_of(then)?;
+                    let again = self.behind(then)?;
+                    return if stored_through(again.step)? != pointer {
+                        None
+                    } else if up == down.saturating_add(1) {
+                        Some(Pair::of(7, one, two))
+                    } else if down == up.saturating_add(1) {
+                        Some(Pair::of(7, two, one))
+                    } else {
+                        None
+                    };
+                }
+                _ => {}
+            }
+            then = self.steps.marked(self.marks, then.step.next?)?;
+        }
+        None
+    }
+
+    /// The pair that is added to a number: `clc`, `adc #`, and `adc #` again, with one instruction between them that takes the low half away,
+    /// and one that brings the high half of the number.
+    fn added_twice(&self, first: Placed<'a>) -> Option<Pair> {
+        if first.step.op.mnemonic != Mnemonic::Clc {
+            return None;
+        }
+        let second = self.behind(first)?;
+        let low = added_by(second)?;
+        let takes = self.behind(second)?;
+        let brings = self.behind(takes)?;
+        if !keeps_carry(takes.step.op) || !keeps_carry(brings.step.op) {
+            return None;
+        }
+        let high = added_by(self.behind(brings)?)?;
+        Some(Pair::of(8, low, high))
+    }
+
+    /// The pairs of which this instruction is the first.
+    fn pairs_of(&self, first: Placed<'a>) -> [Option<Pair>; 3] {
+        let Some(one) = load_of(first) else {
+            return [self.added_twice(first), None, None];
+        };
+        let Some(then) = self.behind(first) else {
+            return [None; 3];
+        };
+        let Some(two) = load_of(then) else {
+            return match self.kept_twice(one, then) {
+                None => [self.stored_twice(one, then), None, None],
+                kept => [kept, None, None],
+            };
+        };
+        if one.by == two.by {
+            return [None; 3];
+        }
+        let through = match self.behind(then) {
+            Some(store) if two.by == Mnemonic::Ldy => self.stored_twice(one, store),
+            _ => None,
+        };
+        [Some(loaded(one, two)), Some(loaded(two, one)), through]
+    }
+}
+
+/// Returns the pairs of which the instruction is the first: two loads of different registers, one right behind the other, or one of
+/// the forms above; a `ldy #` may stand before a store through a pointer.
+pub fn pairs_at(steps: &Steps<'_, '_>, marks: &Marks, first: Placed<'_>) -> [Option<Pair>; 3] {
+    Code { steps, marks }.pairs_of(first)
 }
 
 /// Whether the instruction moves a byte, and leaves the carry.
@@ -339,13 +272,11 @@ fn keeps_carry(op: Op) -> bool {
     )
 }
 
-/// The pointer in the zero page through which the marked instruction of the address stores A.
-fn stored_through(steps: &Steps<'_, '_>, marks: &Marks, at: usize) -> Option<u8> {
-    let step = steps.marked(marks, at)?;
-    if step.op.mnemonic == Mnemonic::Sta && step.op.mode == Mode::Indy {
-        step.byte
-    } else {
-        None
+/// The pointer in the zero page through which the instruction stores A.
+fn stored_through(step: &Step) -> Option<u8> {
+    match (step.op.mnemonic, step.op.mode) {
+        (Mnemonic::Sta, Mode::Indy) => step.byte,
+        _ => None,
     }
 }
 
@@ -377,25 +308,25 @@ pub struct Halves {
     pub likely: Vec<Pair>,
 }
 
-/// The pairs of immediates in reached code that may be an address before `limit`, from the lowest rank on.
+/// The pairs of immediates in reached code that may be an address from the start of the image to before `limit`, from the lowest rank on.
 fn pairs_of(
     alloc: Global,
     steps: &Steps<'_, '_>,
     survey: &Survey<'_>,
     limit: usize,
 ) -> Result<Vec<Pair>, AllocError> {
+    let start = steps.image().start();
     let mut pairs = Vec::new(alloc);
-    let mut here = Vec::new(alloc);
     for &at in &survey.firsts {
-        let Some(step) = steps.at(at) else {
+        let Some(first) = steps.marked(survey.reached, at) else {
             continue;
         };
-        here.clear();
-        put_pairs_at(&mut here, steps, survey.reached, step, usize::from(at))?;
-        for &pair in here.as_slice() {
-            let meant = pair.meant();
-            if meant < limit
-                && (pair.less == 0 && survey.is_likely(pair.address) || survey.is_routine(meant))
+        for pair in pairs_at(steps, survey.reached, first) {
+            if let Some(pair) = pair
+                && start <= pair.address
+                && pair.meant() < limit
+                && (pair.less == 0 && survey.is_likely(pair.address)
+                    || survey.is_routine(pair.meant()))
             {
                 pairs.push(pair)?;
             }

@@ -55,7 +55,6 @@ pub fn mark_orphans(
     pairs: &[Pair],
     words: &[u16],
 ) -> Result<(), AllocError> {
-    let referred = referred(alloc, ground, survey, pairs)?;
     let start = ground.image.start();
     let mut found = Vec::new(alloc);
     for &first in words {
@@ -63,18 +62,21 @@ pub fn mark_orphans(
         if let Some(word) = ground.word(at)
             && word != start
             && is_unled(survey, word)
-            && !referred.get(word)
         {
             found.push((word, at))?;
         }
     }
+    if found.is_empty() {
+        return Ok(());
+    }
+    let referred = referred(alloc, ground, survey, pairs)?;
     found.sort()?;
     for same in found.as_slice().chunk_by(|one, other| one.0 == other.0) {
         if MOST < same.len() {
             continue;
         }
-        for &(_, at) in same {
-            if ground.word(at).is_some() {
+        for &(word, at) in same {
+            if !referred.get(word) && ground.word(at).is_some() {
                 ground.put_words(0, at, at.saturating_add(2));
             }
         }

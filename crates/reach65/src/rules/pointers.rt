@@ -3,6 +3,8 @@
 use crate::rules::bytes::{byte, ends};
 use crate::rules::ground::Ground;
 use crate::rules::texts::{ALPHABETS, text_len};
+use map65::Marks;
+use std::alloc::{AllocError, Global};
 
 /// How many words a row has at least.
 const ROW: usize = 3;
@@ -14,9 +16,8 @@ const APART: usize = 8;
 const LOOKED: usize = 16;
 
 /// Whether a text begins at the address: it is one up to the 16th character, and no character stands before it.
-fn begins_text(ground: &Ground<'_>, address: u16) -> bool {
+fn begins_text(ground: &Ground<'_>, at: usize) -> bool {
     let image = ground.image;
-    let at = usize::from(address);
     let before = byte(image, at.saturating_sub(1));
     let Some(here) = byte(image, at) else {
         return false;
@@ -24,7 +25,6 @@ fn begins_text(ground: &Ground<'_>, address: u16) -> bool {
     for alphabet in ALPHABETS {
         if alphabet.is_char(here)
             && !before.is_some_and(|before| alphabet.is_char(before))
-            && ground.is_plain(at)
             && 0 < text_len(image, alphabet, at, LOOKED)
         {
             return true;
@@ -33,15 +33,35 @@ fn begins_text(ground: &Ground<'_>, address: u16) -> bool {
     false
 }
 
+/// Marks of where texts begin, and whether there are any.
+fn text_marks(alloc: Global, ground: &Ground<'_>) -> Result<(Marks, bool), AllocError> {
+    let mut texts = Marks::none(alloc)?;
+    let mut has_any = false;
+    let (start, end) = ends(ground.image);
+    for at in start..end {
+        if ground.is_plain(at) && begins_text(ground, at) {
+            texts.set_span(at, at.saturating_add(1));
+            has_any = true;
+        }
+    }
+    Ok((texts, has_any))
+}
+
+/// Whether the word at the address is where a text begins that nothing speaks for.
+fn leads(ground: &Ground<'_>, texts: &Marks, at: usize) -> bool {
+    ground.word(at).is_some_and(|word| texts.get(word) && ground.is_plain(usize::from(word)))
+}
+
 /// Marks the words that are where texts begin, in rows of three at least that stand at the same distance from each other, each of another text than
-/// the one before.
-pub fn mark_pointers(ground: &mut Ground<'_>) {
+/// the one before. Fails only if an allocation failed.
+pub fn mark_pointers(alloc: Global, ground: &mut Ground<'_>) -> Result<(), AllocError> {
+    let (texts, has_any) = text_marks(alloc, ground)?;
+    if !has_any {
+        return Ok(());
+    }
     let (start, end) = ends(ground.image);
     for from in start..end {
-        let Some(first) = ground.word(from) else {
-            continue;
-        };
-        if !begins_text(ground, first) {
+        if !leads(ground, &texts, from) {
             continue;
         }
         for apart in 2..=APART {
@@ -49,7 +69,7 @@ pub fn mark_pointers(ground: &mut Ground<'_>) {
             let mut before = None;
             for at in (from..end).step_by(apart) {
                 let word = ground.word(at);
-                if word == before || !word.is_some_and(|word| begins_text(ground, word)) {
+                if word == before || !leads(ground, &texts, at) {
                     break;
                 }
                 before = word;
@@ -62,4 +82,5 @@ pub fn mark_pointers(ground: &mut Ground<'_>) {
             }
         }
     }
+    Ok(())
 }

@@ -1,9 +1,10 @@
 //! Tables by the instructions that read them.
 
-use crate::rules::bytes::{address, byte, ends};
+use crate::rules::bytes::{address, byte};
 use crate::rules::growth::IN_TABLE;
+use crate::rules::halves::stored_to;
 use crate::rules::sound::reads_on;
-use crate::rules::step::{Step, Steps};
+use crate::rules::step::{Placed, Step, Steps};
 use isa65::{Mnemonic, Mode};
 use map65::{Image, Marks};
 use std::alloc::{AllocError, Global};
@@ -96,130 +97,106 @@ fn indexed(step: &Step) -> Option<u16> {
     }
 }
 
-/// The address to which the instruction stores a register.
-fn stored_to(image: &Image, step: &Step, at: usize) -> Option<u16> {
-    match (step.op.mnemonic, step.op.mode) {
-        (Mnemonic::Sta | Mnemonic::Stx | Mnemonic::Sty, Mode::Abs) => step.operand,
-        (Mnemonic::Sta | Mnemonic::Stx | Mnemonic::Sty, Mode::Zp) => {
-            Some(u16::from(byte(image, at.saturating_add(1))?))
-        }
-        _ => None,
-    }
-}
-
-/// What reached code does with pointers.
+/// The instructions of reached code that read tables, and what code does with pointers.
 #[derive(Drop)]
-struct Pointers {
-    /// It jumps through the pointer.
+pub struct Readers {
+    /// Where those begin that have an index, or jump through a table.
+    at: Vec<u16>,
+    /// Code jumps through the pointer.
     jumps: Marks,
     /// It loads or stores through it.
     others: Marks,
 }
 
-/// Finds the pointers of reached code, and adds where instructions begin that load with an index, or jump through a table. The operand of a jump or a
-/// call is a pointer too: other code may store to it.
-fn pointers_of(
-    alloc: Global,
-    steps: &Steps<'_, '_>,
-    reached: &Marks,
-    readers: &mut Vec<usize>,
-) -> Result<Pointers, AllocError> {
-    let mut pointers = Pointers {
-        jumps: Marks::none(alloc)?,
-        others: Marks::none(alloc)?,
-    };
-    let image = steps.image();
-    let (start, end) = ends(image);
-    for at in start..end {
-        let Some(step) = steps.marked(reached, at) else {
-            continue;
-        };
-        match (step.op.mode, step.operand) {
-            (Mode::Absx | Mode::Absy | Mode::Absindx, _) => readers.push(at)?,
-            (Mode::Ind, Some(pointer)) => pointers.jumps.set(pointer),
-            (Mode::Indx | Mode::Indy | Mode::Zpind, _) => {
-                if let Some(pointer) = byte(image, at.saturating_add(1)) {
-                    pointers.others.set(u16::from(pointer));
-                }
+impl Readers {
+    /// Returns none. Fails only if an allocation failed.
+    pub fn none(alloc: Global) -> Result<Readers, AllocError> {
+        Ok(Readers {
+            at: Vec::new(alloc),
+            jumps: Marks::none(alloc)?,
+            others: Marks::none(alloc)?,
+        })
+    }
+
+    /// Adds what the instruction does. The operand of a jump or a call is a pointer too: other code may store to it. Fails only if an allocation
+    /// failed.
+    pub fn put(&mut self, placed: Placed<'_>) -> Result<(), AllocError> {
+        let Placed { at, step } = placed;
+        match (step.op.mode, step.operand, step.byte) {
+            (Mode::Absx | Mode::Absy | Mode::Absindx, _, _) => self.at.push(at)?,
+            (Mode::Ind, Some(pointer), _) => self.jumps.set(pointer),
+            (Mode::Indx | Mode::Indy | Mode::Zpind, _, Some(pointer)) => {
+                self.others.set(u16::from(pointer));
             }
-            (Mode::Abs, Some(_)) if step.to.is_some() => {
-                if let Some(operand) = address(at.saturating_add(1)) {
-                    pointers.jumps.set(operand);
-                }
-            }
+            (Mode::Abs, Some(_), _) if step.to.is_some() => self.jumps.set(at.saturating_add(1)),
             _ => {}
         }
+        Ok(())
     }
-    Ok(pointers)
-}
 
-/// The table that the instructions from the address on read: two loads with an index, each pushed or stored to one byte of a pointer.
-fn table_at(
-    steps: &Steps<'_, '_>,
-    reached: &Marks,
-    pointers: &Pointers,
-    at: usize,
-) -> Option<Table> {
-    let image = steps.image();
-    let first = steps.marked(reached, at)?;
-    if first.op.mode == Mode::Absindx {
-        let low = first.operand?;
-        return Some(Table {
-            low,
-            high: low.checked_add(1)?,
-            less: 0,
-            is_code: true,
-        });
-    }
-    let one = indexed(first)?;
-    let place = at.saturating_add(first.len());
-    let keeps = steps.marked(reached, place)?;
-    let then = place.saturating_add(keeps.len());
-    let second = steps.marked(reached, then)?;
-    let other = indexed(second)?;
-    let other_place = then.saturating_add(second.len());
-    let keeps_other = steps.marked(reached, other_place)?;
-    let (low, high, less, is_code) = if keeps.op.mnemonic == Mnemonic::Pha
-        && keeps_other.op.mnemonic == Mnemonic::Pha
-    {
-        (other, one, 1, true)
-    } else {
-        let to = stored_to(image, keeps, place)?;
-        let other_to = stored_to(image, keeps_other, other_place)?;
+    /// The table that this instruction and those behind it read: two loads with an index, each pushed or stored to one byte of a pointer.
+    fn table_at(&self, steps: &Steps<'_, '_>, reached: &Marks, at: u16) -> Option<Table> {
+        let first = steps.marked(reached, at)?;
+        if first.step.op.mode == Mode::Absindx {
+            let low = first.step.operand?;
+            return Some(Table {
+                low,
+                high: low.checked_add(1)?,
+                less: 0,
+                is_code: true,
+            });
+        }
+        let one = indexed(first.step)?;
+        let keeps = steps.behind(reached, first)?;
+        let second = steps.behind(reached, keeps)?;
+        let other = indexed(second.step)?;
+        let last = steps.behind(reached, second)?;
+        if keeps.step.op.mnemonic == Mnemonic::Pha && last.step.op.mnemonic == Mnemonic::Pha {
+            return Some(Table {
+                low: other,
+                high: one,
+                less: 1,
+                is_code: true,
+            });
+        }
+        let to = stored_to(keeps.step)?;
+        let other_to = stored_to(last.step)?;
         let pointer = to.min(other_to);
-        let jumps = pointers.jumps.get(pointer);
-        if to.max(other_to) - pointer != 1 || !jumps && !pointers.others.get(pointer) {
+        let is_code = self.jumps.get(pointer);
+        if to.max(other_to) - pointer != 1 || !is_code && !self.others.get(pointer) {
             return None;
-        } else if to < other_to {
-            (one, other, 0, jumps)
+        }
+        let (low, high) = if to < other_to {
+            (one, other)
         } else {
-            (other, one, 0, jumps)
-        }
-    };
-    Some(Table {
-        low,
-        high,
-        less,
-        is_code,
-    })
-}
-
-/// Returns the tables that reached code reads, which has these bytes. Fails only if an allocation failed.
-pub fn tables_of(
-    alloc: Global,
-    steps: &Steps<'_, '_>,
-    reached: &Marks,
-    code: &Marks,
-) -> Result<Vec<Table>, AllocError> {
-    let mut found = Vec::new(alloc);
-    let mut readers = Vec::new(alloc);
-    let pointers = pointers_of(alloc, steps, reached, &mut readers)?;
-    for &at in &readers {
-        if let Some(table) = table_at(steps, reached, &pointers, at) {
-            let behind = table.behind(code);
-            let is_better = behind.low != table.low && behind.is_whole(steps);
-            found.push(if is_better { behind } else { table })?;
-        }
+            (other, one)
+        };
+        Some(Table {
+            low,
+            high,
+            less: 0,
+            is_code,
+        })
     }
-    Ok(found)
+
+    /// Returns the tables that reached code reads, which has these bytes, in the order of the instructions. Fails only if an allocation failed.
+    pub fn tables(
+        &self,
+        alloc: Global,
+        steps: &Steps<'_, '_>,
+        reached: &Marks,
+        code: &Marks,
+    ) -> Result<Vec<Table>, AllocError> {
+        let mut readers = Vec::from_slice(alloc, &self.at)?;
+        readers.sort()?;
+        let mut found = Vec::new(alloc);
+        for &at in &readers {
+            if let Some(table) = self.table_at(steps, reached, at) {
+                let behind = table.behind(code);
+                let is_better = behind.low != table.low && behind.is_whole(steps);
+                found.push(if is_better { behind } else { table })?;
+            }
+        }
+        Ok(found)
+    }
 }

@@ -1,6 +1,7 @@
 //! The search for code, with trials: an entry joins if all that is reached from it reads as code, else all is as before.
 
 use crate::rules::obstacles::{Obstacle, obstacle_of};
+use crate::rules::readers::Readers;
 use crate::rules::sound::{is_apart, is_fine};
 use crate::rules::step::Steps;
 use crate::rules::texts::{ALPHABETS, text_len};
@@ -52,6 +53,8 @@ pub struct Search<'a, 'f, 'm> {
     pub obstacles: Vec<Obstacle>,
     /// The calls that they had read.
     pub calls: Marks,
+    /// The instructions that have joined and read tables.
+    pub readers: Readers,
 }
 
 /// Marks the addresses that instructions store to, if the bytes of the image are instructions.
@@ -90,12 +93,13 @@ impl<'a, 'f, 'm> Search<'a, 'f, 'm> {
             stopped: None,
             obstacles: Vec::new(alloc),
             calls: Marks::none(alloc)?,
+            readers: Readers::none(alloc)?,
         };
         for &entry in entries {
             search.put_entry(entry)?;
         }
         search.run(false)?;
-        search.keep();
+        search.keep()?;
         Ok(search)
     }
 
@@ -212,6 +216,18 @@ impl<'a, 'f, 'm> Search<'a, 'f, 'm> {
         Ok(self.run(true)? && self.is_sound(least) && !self.is_text(address))
     }
 
+    /// Whether a trial of the address is not worth while: none is left, or no instruction begins there that is not marked.
+    fn is_vain(&mut self, address: u16) -> bool {
+        if self.is_tired() || self.marks.get(address) {
+            return true;
+        }
+        let is_vain = self.steps.at(address).is_none();
+        if is_vain && is_inside(self.steps.image(), usize::from(address)) {
+            self.wasted = self.wasted.saturating_add(1);
+        }
+        is_vain
+    }
+
     /// Keeps where the trial could not go on, if it could not, and the calls that it had read.
     fn put_obstacle(&mut self) -> Result<(), AllocError> {
         let Some(address) = self.stopped else {
@@ -230,13 +246,16 @@ impl<'a, 'f, 'm> Search<'a, 'f, 'm> {
         Ok(())
     }
 
-    /// Marks what the instructions have that were added.
-    fn keep(&mut self) {
+    /// Marks what the instructions have that were added, and keeps those that read tables.
+    fn keep(&mut self) -> Result<(), AllocError> {
         for &address in self.added.as_slice() {
-            let at = usize::from(address);
-            let len = self.steps.len_at(address);
-            self.code.set_span(at, at.saturating_add(len));
+            if let Some(placed) = self.steps.marked(&self.marks, address) {
+                let at = usize::from(address);
+                self.code.set_span(at, at.saturating_add(placed.step.len()));
+                self.readers.put(placed)?;
+            }
         }
+        Ok(())
     }
 
     /// Takes the last entry back, and what was added since.
@@ -257,12 +276,12 @@ impl<'a, 'f, 'm> Search<'a, 'f, 'm> {
     /// Adds an address to the entries, with what is reached from it, if it is a sound beginning of so many instructions at least. Returns
     /// whether it is.
     pub fn join(&mut self, address: u16, least: Least) -> Result<bool, AllocError> {
-        if self.is_tired() {
+        if self.is_vain(address) {
             return Ok(false);
         }
         let joins = self.tries(address, least)?;
         if joins {
-            self.keep();
+            self.keep()?;
         } else {
             self.put_obstacle()?;
             self.undo();
@@ -272,7 +291,7 @@ impl<'a, 'f, 'm> Search<'a, 'f, 'm> {
 
     /// Returns whether the address is a sound beginning of so many instructions at least. The search is as before.
     pub fn would_join(&mut self, address: u16, least: Least) -> Result<bool, AllocError> {
-        if self.is_tired() {
+        if self.is_vain(address) {
             return Ok(false);
         }
         let joins = self.tries(address, least)?;

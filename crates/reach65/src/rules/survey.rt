@@ -2,7 +2,8 @@
 
 use crate::rules::bytes::{address, ends};
 use crate::rules::halves::is_first;
-use crate::rules::step::{Step, Steps};
+use crate::rules::readers::Readers;
+use crate::rules::step::{Placed, Step, Steps};
 use isa65::{Mnemonic, Mode};
 use map65::{Marks, is_jump};
 use std::alloc::{AllocError, Global};
@@ -19,7 +20,9 @@ pub struct Survey<'r> {
     /// One goes to it by its operand.
     pub goals: Marks,
     /// One calls it.
-    pub called: Marks,
+    called: Marks,
+    /// A routine begins there: it is called, or no code goes on to it.
+    pub routines: Marks,
     /// One has it as its absolute operand, and does not go there.
     pub operands: Marks,
     /// One stores to it, or changes it.
@@ -32,6 +35,10 @@ pub struct Survey<'r> {
     pub loads: Vec<u16>,
     /// Where those begin that have an absolute operand with an index.
     pub indexed: Vec<u16>,
+    /// Where calls begin.
+    pub calls: Vec<u16>,
+    /// Those that read tables.
+    pub readers: Readers,
 }
 
 /// Returns whether an instruction stores to its operand, or changes it.
@@ -74,21 +81,28 @@ impl<'r> Survey<'r> {
             gone_on: Marks::none(alloc)?,
             goals: Marks::none(alloc)?,
             called: Marks::none(alloc)?,
+            routines: Marks::none(alloc)?,
             operands: Marks::none(alloc)?,
             written: Marks::none(alloc)?,
             texts: Marks::none(alloc)?,
             firsts: Vec::new(alloc),
             loads: Vec::new(alloc),
             indexed: Vec::new(alloc),
+            calls: Vec::new(alloc),
+            readers: Readers::none(alloc)?,
         };
         let (start, end) = ends(steps.image());
         for at in start..end {
-            if let Some(address) = address(at)
-                && reached.get(address)
-                && let Some(step) = steps.at(address)
+            if let Some(at) = address(at)
+                && let Some(placed) = steps.marked(reached, at)
             {
-                survey.put(step);
-                survey.put_place(step, address)?;
+                survey.put(placed.step);
+                survey.put_place(placed)?;
+            }
+        }
+        for at in start..end {
+            if let Some(at) = address(at) {
+                survey.put_routine(at);
             }
         }
         Ok(survey)
@@ -117,28 +131,40 @@ impl<'r> Survey<'r> {
         }
     }
 
-    /// Keeps where the instruction begins, if that is asked for.
-    fn put_place(&mut self, step: &Step, address: u16) -> Result<(), AllocError> {
-        if is_first(step.op) {
-            self.firsts.push(address)?;
+    /// Marks the address, if a routine begins there.
+    fn put_routine(&mut self, at: u16) {
+        if self.reached.get(at)
+            && self.code.get(at)
+            && (self.called.get(at) || !self.gone_on.get(at))
+        {
+            self.routines.set(at);
         }
-        match step.op.mode {
-            Mode::Abs if step.to.is_none() => self.loads.push(address)?,
-            Mode::Absx | Mode::Absy => self.indexed.push(address)?,
-            _ => {}
-        }
-        Ok(())
     }
 
-    /// Returns whether a routine begins at the address, which may lie past $FFFF: it is called, or no code goes on to it.
+    /// Keeps where the instruction begins, if that is asked for.
+    fn put_place(&mut self, placed: Placed<'_>) -> Result<(), AllocError> {
+        let Placed { at, step } = placed;
+        if is_first(step.op) {
+            self.firsts.push(at)?;
+        }
+        match step.op.mode {
+            Mode::Abs if step.to.is_none() => self.loads.push(at)?,
+            Mode::Absx | Mode::Absy => self.indexed.push(at)?,
+            _ => {}
+        }
+        if step.op.mnemonic == Mnemonic::Jsr {
+            self.calls.push(at)?;
+        }
+        self.readers.put(placed)
+    }
+
+    /// Returns whether a routine begins at the address, which may lie past $FFFF.
     pub fn is_routine(&self, at: usize) -> bool {
-        self.reached.get_at(at)
-            && self.code.get_at(at)
-            && (self.called.get_at(at) || !self.gone_on.get_at(at))
+        self.routines.get_at(at)
     }
 
     /// Returns whether no reached instruction has the address, or a routine begins there.
     pub fn is_likely(&self, address: u16) -> bool {
-        !self.code.get(address) || self.is_routine(usize::from(address))
+        !self.code.get(address) || self.routines.get(address)
     }
 }

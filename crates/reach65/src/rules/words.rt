@@ -50,9 +50,10 @@ fn is_hopeful(marks: &Marks, address: u16, step: &Step) -> bool {
 
 /// Whether a reached instruction, this many bytes before the address, goes on to it.
 fn goes_on_to(search: &Search<'_, '_, '_>, address: u16, distance: u16) -> bool {
-    let at = usize::from(address).saturating_sub(usize::from(distance));
-    let before = search.steps.marked(&search.marks, at);
-    before.is_some_and(|step| step.next == Some(address))
+    let before = search
+        .steps
+        .marked(&search.marks, address.saturating_sub(distance));
+    before.is_some_and(|placed| placed.step.next == Some(address))
 }
 
 /// Whether a reached instruction begins at the address. For a word that is one less, none right before it goes on to it, either.
@@ -93,21 +94,21 @@ impl<'i> Words<'i> {
             let Some(address) = address(at) else {
                 continue;
             };
-            let is_hopeful = match steps.at(address) {
-                _ if reached.get(address) => true,
-                Some(step) => { !search.code.get(address) && is_hopeful(&hopeful, address, step) }
-                None => false,
-            };
-            if is_hopeful {
+            if reached.get(address)
+                || !search.code.get(address)
+                    && steps
+                        .at(address)
+                        .is_some_and(|step| is_hopeful(&hopeful, address, step))
+            {
                 hopeful.set(address);
             }
         }
         let mut worth = Vec::new(alloc);
         for at in start..end {
-            if !reached.get_at(at)
-                && !search.code.get_at(at)
-                && is_worth(image, &hopeful, at)
-                && let Some(at) = address(at)
+            if let Some(at) = address(at)
+                && !reached.get(at)
+                && !search.code.get(at)
+                && is_worth(image, &hopeful, usize::from(at))
             {
                 worth.push(at)?;
             }
@@ -161,8 +162,8 @@ impl<'i> Words<'i> {
     ) -> Result<bool, AllocError> {
         if let Some(one) = self.target(search, less, at)
             && let Some(two) = self.target(search, less, at.saturating_add(2))
-            && let Some(three) = self.target(search, less, at.saturating_add(4))
             && one != two
+            && let Some(three) = self.target(search, less, at.saturating_add(4))
             && one != three
             && two != three
             && !self.is_operand(at)
@@ -228,12 +229,8 @@ impl<'i> Words<'i> {
 
     /// Whether a word at the address leads to reached code, this much after it.
     fn leads(&self, search: &Search<'_, '_, '_>, less: u16, at: usize) -> bool {
-        let Some(to) = word(self.image, at).and_then(|word| word.checked_add(less)) else {
-            return false;
-        };
-        search.marks.get(to)
-            && self.target(search, less, at).is_some()
-            && is_entered(search, less, to)
+        self.target(search, less, at)
+            .is_some_and(|to| search.marks.get(to) && is_entered(search, less, to))
     }
 
     /// Returns the addresses right behind rows of words that lead to reached code. Fails only if an allocation failed.

@@ -2,7 +2,6 @@
 
 use crate::advice::Advice;
 use files65::{put_address, put_decimal};
-use isa65::Mnemonic;
 use reach65::rules::bytes::address;
 use reach65::rules::sound::reads_on;
 use std::alloc::{AllocError, Global};
@@ -10,35 +9,38 @@ use std::alloc::{AllocError, Global};
 /// How many instructions after a call are looked at.
 const STEPS: usize = 8;
 
-/// The call at the address of a routine: one that is reached, or one that was read in a trial that failed, of a routine that is reached or lies
-/// outside the image.
-fn call_at(advice: &Advice<'_, '_, '_>, at: u16) -> Option<(u16, bool)> {
-    let reached = &advice.survey.reached;
-    let is_reached = reached.get(at);
-    if !is_reached && !advice.stops.calls.get(at) {
-        return None;
+/// Adds the call at the address: the routine, and whether nothing decodes after the call. A call that is not reached counts if its routine is, or
+/// lies outside the image.
+fn put_call(
+    calls: &mut Vec<(u16, bool)>,
+    advice: &Advice<'_, '_, '_>,
+    at: u16,
+    is_reached: bool,
+) -> Result<(), AllocError> {
+    let Some(step) = advice.steps.at(at) else {
+        return Ok(());
+    };
+    if let Some(routine) = step.to
+        && (is_reached || step.goal.is_none() || advice.survey.reached.get(routine))
+    {
+        calls.push((routine, !reads_on(advice.steps, step.next, STEPS)))?;
     }
-    let step = advice.steps.at(at)?;
-    if step.op.mnemonic != Mnemonic::Jsr {
-        return None;
-    }
-    let routine = step.to?;
-    if is_reached || reached.get(routine) || step.goal.is_none() {
-        Some((routine, !reads_on(advice.steps, step.next, STEPS)))
-    } else {
-        None
-    }
+    Ok(())
 }
 
-/// The calls: the routine, and whether nothing decodes after the call; by routine.
+/// The calls that are reached, and those that were read in trials that failed; by routine.
 fn calls_of(alloc: Global, advice: &Advice<'_, '_, '_>) -> Result<Vec<(u16, bool)>, AllocError> {
     let mut calls = Vec::new(alloc);
+    for &at in &advice.survey.calls {
+        put_call(&mut calls, advice, at, true)?;
+    }
     let (start, end) = advice.ends();
     for at in start..end {
         if let Some(at) = address(at)
-            && let Some(call) = call_at(advice, at)
+            && advice.stops.calls.get(at)
+            && !advice.survey.reached.get(at)
         {
-            calls.push(call)?;
+            put_call(&mut calls, advice, at, false)?;
         }
     }
     calls.sort_by_key(|call| call.0)?;

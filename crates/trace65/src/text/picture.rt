@@ -2,7 +2,6 @@
 
 use crate::advice::Advice;
 use files65::{put_address, put_decimal};
-use map65::Marks;
 use std::alloc::AllocError;
 
 /// How many bytes a character stands for.
@@ -11,16 +10,12 @@ const CELL: usize = 64;
 /// How many bytes a line stands for.
 const ROW: usize = 1024;
 
-/// How many of the addresses from one to before another are marked.
-fn count(marks: &Marks, from: usize, end: usize) -> usize {
-    let mut count = 0usize;
-    for at in from..end {
-        if marks.get_at(at) {
-            count = count.saturating_add(1);
-        }
-    }
-    count
-}
+/// What usually helps where little is known.
+const HELP: &[u8] = b"\
+# Less than half is known. What usually helps, in this order: an emulator's log
+# of what ran, `#: ENTRY` for other code, AddrTable or RtsTable for tables that
+# code reads, `#: INLINE` for routines with a text or words behind their calls.
+";
 
 /// The character of that many bytes, of which so many are code, and so many code or in ranges.
 fn character(len: usize, code: usize, both: usize) -> u8 {
@@ -32,7 +27,8 @@ fn character(len: usize, code: usize, both: usize) -> u8 {
     }
 }
 
-/// Adds a picture of the image, with what its characters stand for, and the counts of its bytes.
+/// Adds a picture of the image, with what its characters stand for, and the counts of its bytes; and what usually helps, in the order that helped, if
+/// code and ranges have less than half of the image.
 pub fn put_picture(out: &mut Vec<u8>, advice: &Advice<'_, '_, '_>) -> Result<(), AllocError> {
     out.extend_from_slice(b"# a character for 64 bytes: # code that is reached, + partly,\n")?;
     out.extend_from_slice(b"# r in a range of the information file, . neither\n")?;
@@ -43,42 +39,30 @@ pub fn put_picture(out: &mut Vec<u8>, advice: &Advice<'_, '_, '_>) -> Result<(),
         out.extend_from_slice(b" ")?;
         for cell in (row..end.min(row.saturating_add(ROW))).step_by(CELL) {
             let next = end.min(cell.saturating_add(CELL));
-            let code = count(advice.survey.code, cell, next);
-            let taken = count(advice.taken, cell, next);
+            let (mut code, mut taken) = (0usize, 0usize);
+            for at in cell..next {
+                if advice.taken.get_at(at) {
+                    taken = taken.saturating_add(1);
+                    code = code.saturating_add(usize::from(advice.survey.code.get_at(at)));
+                }
+            }
             out.push(character(next.saturating_sub(cell), code, taken))?;
             reached = reached.saturating_add(code);
             both = both.saturating_add(taken);
         }
         out.extend_from_slice(b"\n")?;
     }
+    let len = end.saturating_sub(start);
     put_decimal(out, b"# ", reached)?;
     put_decimal(
         out,
         b" bytes of code that is reached, ",
         both.saturating_sub(reached),
     )?;
-    put_decimal(
-        out,
-        b" in ranges, ",
-        end.saturating_sub(start).saturating_sub(both),
-    )?;
-    out.extend_from_slice(b" in neither\n")
-}
-
-/// Adds what usually helps, in the order that helped, if code and ranges have less than half of the image.
-pub fn put_help(out: &mut Vec<u8>, advice: &Advice<'_, '_, '_>) -> Result<(), AllocError> {
-    let (start, end) = advice.ends();
-    let len = end.saturating_sub(start);
-    if len <= count(advice.taken, start, end).saturating_mul(2) || len < ROW {
+    put_decimal(out, b" in ranges, ", len.saturating_sub(both))?;
+    out.extend_from_slice(b" in neither\n")?;
+    if len <= both.saturating_mul(2) || len < ROW {
         return Ok(());
     }
-    out.extend_from_slice(
-        b"# Less than half is known. What usually helps, in this order: an emulator's log\n",
-    )?;
-    out.extend_from_slice(
-        b"# of what ran, `#: ENTRY` for other code, AddrTable or RtsTable for tables that\n",
-    )?;
-    out.extend_from_slice(
-        b"# code reads, `#: INLINE` for routines with a text or words behind their calls.\n",
-    )
+    out.extend_from_slice(HELP)
 }
