@@ -4,7 +4,7 @@
 # make try           lists the example before any proof
 # make test          the merge gate: every proof from nothing, the edits that must fail, the tests and the stored runs; then pytest
 #                    on the programs that this built. Its last line is the result of `rt ci`.
-#                    CA65=skip leaves out what needs cc65, CC=skip what needs a C compiler, and CHROMIUM=skip what needs a browser.
+#                    CA65=skip leaves out what needs cc65, CC=skip what needs a C compiler, and BROWSER=skip what needs a browser.
 # make check         the same
 # make contracts     writes docs/contracts anew, after an intended change of public contracts
 # make manual        writes docs/da65.info.5 anew, after a change of docs/INFORMATION_FILE.md
@@ -109,8 +109,7 @@ test:
 	@cp crates/name65/out/name65 bin/name65
 	@cp crates/move65/out/move65 bin/move65
 	@cp crates/html65/out/html65 bin/html65
-	@$(pytest) -q -n auto -m 'not alone' --ignore tests/test_make.py tests
-	@$(pytest) -q -m alone tests
+	@$(pytest) -q -n auto --ignore tests/test_make.py tests
 	@tail -n 1 bin/gate.log
 
 check: test

@@ -4,8 +4,9 @@ from conftest import write
 
 
 def groups(kind, count):
-    """That many groups of an information file, or lines with a definition. Ranges and segments have one byte each. Labels have ascending
-    addresses; those that are `ends` end at one address, and those that are `nested` lie in each other."""
+    """That many groups of an information file, or lines with a definition. Ranges and segments have one byte each.
+    Labels have ascending addresses; those that are `ends` end at one address, and those that are `nested` lie in each
+    other."""
     text = []
     for k in range(count):
         at = count - 1 - k if kind == "descending" else k * 40503 % 65536 if kind == "shuffled" else k
@@ -35,8 +36,8 @@ def hashed(name):
 
 
 def colliding(count):
-    """That many groups LABEL whose names share one of the slots in which names are looked up by their text: the last four letters of each
-    make its hash 0."""
+    """That many groups LABEL whose names share one of the slots in which names are looked up by their text: the last
+    four letters of each make its hash 0."""
     letters = "abcdefghijklmnopqrstuvwxyz"
     ends, text = {}, []
     for end in ("".join(four)[::-1] for four in itertools.product(letters, repeat=4)):

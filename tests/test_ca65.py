@@ -1,9 +1,11 @@
-"""The programs beside those of cc65. Each information file of tests/peer goes through this da65 and through cc65's. The names of names/
-have the values of cc65's include files. ca65 with ld65, and as65, assemble the listings of random images and of the examples to the image.
-Both assemblers give the same bytes for random texts, as people write them who edit a listing, or both refuse them.
+"""The programs beside those of cc65. Each information file of tests/peer goes through this da65 and through cc65's. The
+names of names/ have the values of cc65's include files. ca65 with ld65, and as65, assemble the listings of random
+images and of the examples to the image. Both assemblers give the same bytes for random texts, as people write them who
+edit a listing, or both refuse them.
 
-The same seed gives the same images and texts; --images, --texts and --seed say which. A failure shows a smaller case that fails too. Left
-out, since ca65 treats them in its own way: a segment named ZEROPAGE, a byte $FF in a comment, and what `excused` names."""
+The same seed gives the same images and texts; --images, --texts and --seed say which. A failure shows a smaller case
+that fails too. Left out, since ca65 treats them in its own way: a segment named ZEROPAGE, a byte $FF in a comment, and
+what `excused` names."""
 import os, random, re, shutil, subprocess
 import pytest
 from conftest import CPUS, IMAGES, INFORMATION, ROOT, Program, command, example, fails, read, write
@@ -14,7 +16,8 @@ PAGE = (ROOT / "docs/DIFFERENCES.md").read_text()
 
 
 def shrunk(items, is_bad, most=300):
-    """A part of a list that is bad too: as long as it stays so, pieces are left out, first large and then small ones."""
+    """A part of a list that is bad too: as long as it stays so, pieces are left out, first large and then small
+    ones."""
     size = len(items) // 2
     while size:
         at = 0
@@ -27,8 +30,6 @@ def shrunk(items, is_bad, most=300):
         size //= 2
     return items
 
-
-# ---- what both da65 say
 
 def is_cc65s():
     return shutil.which(PEER) and b"da65 V" in subprocess.run([PEER, "--version"], capture_output=True).stderr
@@ -51,7 +52,8 @@ def test_differences(da65, name):
     """What both say of a file is a row of docs/DIFFERENCES.md."""
     for path in (ROOT / "tests/peer").iterdir():
         shutil.copy(path, ".")
-    for file, text in (("image.bin", "\xa5\x10\xe8\xd0\xfb\x85\x11\xea"), ("jumps.bin", "\x4c\x04\x10\x60\x60"), ("stop.bin", "\xdb\xcb"),
+    for file, text in (("image.bin", "\xa5\x10\xe8\xd0\xfb\x85\x11\xea"), ("jumps.bin", "\x4c\x04\x10\x60\x60"),
+                       ("stop.bin", "\xdb\xcb"),
                        ("indirect.bin", "\xa5\x10\x6c\x10\x00"), ("ffff.bin", "\xff\xff\x60"),
                        ("above_1_mib.info", f"# {0:01048600}\nLABEL {{ ADDR $1000; NAME \"start\"; }};\n")):
         write(file, text)
@@ -68,33 +70,33 @@ def test_the_page_has_no_other_row():
     assert sorted(re.findall(r"^\| `([a-z0-9_]+)` \|", PAGE, re.M)) == sorted(names)
 
 
-# ---- names of machines
-
-# cc65 has other names for the NES, and none for the BBC Micro and the Atari 7800. Its PTRIG6 is PTRIG5, and it has the registers of the TIA
-# that are read at the addresses where others are written.
+# cc65 has other names for the NES, and none for the BBC Micro and the Atari 7800. Its PTRIG6 is PTRIG5, and it has the
+# registers of the TIA that are read at the addresses where others are written.
 @pytest.mark.parametrize("name, count, others, includes", [
     ("c64", 140, "", "c64 cbm_kernal"), ("vic20", 80, "", "vic20 cbm_kernal"), ("c128", 160, "", "c128 cbm_kernal"),
     ("pet", 30, "", "pet cbm_kernal"), ("apple2", 35, "", "apple2"), ("atari", 350, "PTRIG6", "atari"),
     ("atari5200", 100, "", "atari5200"), ("oric", 45, "", "atmos"),
-    ("atari2600", 65, "CXM0P CXM1P CXP0FB CXP1FB CXM0FB CXM1FB CXBLPF CXPPMM INPT0 INPT1 INPT2 INPT3 INPT4 INPT5", "atari2600"),
+    ("atari2600", 65, "CXM0P CXM1P CXP0FB CXP1FB CXM0FB CXM1FB CXBLPF CXPPMM INPT0 INPT1 INPT2 INPT3 INPT4 INPT5",
+     "atari2600"),
 ])
 def test_names_agree(name, count, others, includes):
     """These include files have at least that many of the names, and give them the same values, except the others."""
     names = re.findall(r"^(\w+) += (\$....)  ;", (ROOT / "names" / (name + ".inc")).read_text(), re.M)
     lines = ["names_of_both .set 0", *(f'.include "{include}.inc"' for include in includes.split())]
     for word, value in names:
-        lines += [f".ifdef {word}", f'.assert {word} = {value}, warning, "{word}"', "names_of_both .set names_of_both + 1", ".endif"]
+        lines += [f".ifdef {word}", f'.assert {word} = {value}, warning, "{word}"',
+                  "names_of_both .set names_of_both + 1", ".endif"]
     write("names.s", "\n".join([*lines, '.out .sprintf("%d", names_of_both)\n']))
-    run = subprocess.run(["ca65", "-o", "names.o", "-D", f"__{name.upper()}__", "names.s"], capture_output=True, check=True)
+    run = subprocess.run(["ca65", "-o", "names.o", "-D", f"__{name.upper()}__", "names.s"], capture_output=True,
+                         check=True)
     assert int(run.stdout) >= count
     assert {line.rsplit(b": ", 1)[1].decode() for line in run.stderr.splitlines()} <= set(others.split())
 
 
-# ---- listings
-
 def segments(text, renamed=False):
-    """The segments of a text, in the order in which they are entered with a statement; a segment that is entered again comes again. Or the
-    text in which each segment line leads to a segment of its own, since ld65 puts the stretches of one segment together."""
+    """The segments of a text, in the order in which they are entered with a statement; a segment that is entered again
+    comes again. Or the text in which each segment line leads to a segment of its own, since ld65 puts the stretches of
+    one segment together."""
     current, is_entered, found, lines, count = "CODE", False, [], [], 0
     for line in text.removesuffix("\n").split("\n"):
         words = line.split()
@@ -105,7 +107,8 @@ def segments(text, renamed=False):
                 lines.append(f' .segment "{current}"')
                 continue
         lines.append(line)
-        says_nothing = not words or words[0] in (".segment", ".code", ".setcpu") or words[0][0] == ";" or words[1:2] == [":="]
+        says_nothing = not words or words[0] in (".segment", ".code",
+                                                 ".setcpu") or words[0][0] == ";" or words[1:2] == [":="]
         if not says_nothing and not re.match(r" *[A-Za-z_0-9]+ *=", line) and not is_entered:
             found.append(current)
             is_entered = True
@@ -113,10 +116,11 @@ def segments(text, renamed=False):
 
 
 def linked(text, start, size):
-    """The bytes of a text by ca65 and ld65, where one memory area takes its segments in their order; or what they say."""
+    """The bytes of a text by ca65 and ld65, where one memory area takes its segments in their order; or what they
+    say."""
     write("linked.s", text.encode("latin-1"))
     areas = "".join(f"    {name}: load = MAIN, type = ro;\n" for name in segments(text))
-    write("linked.cfg", f"MEMORY {{ MAIN: start = ${start:04X}, size = ${size:X}, file = %O; }}\nSEGMENTS {{\n{areas}}}\n")
+    write("linked.cfg", f"MEMORY {{ MAIN: start = {start}, size = {size}, file = %O; }}\nSEGMENTS {{\n{areas}}}\n")
     for words in ("ca65 --relax-checks -o linked.o linked.s", "ld65 -C linked.cfg -o linked.out linked.o"):
         run = subprocess.run(words.split(), capture_output=True)
         if run.returncode:
@@ -155,8 +159,9 @@ def random_image(draw):
 
 
 def random_information(draw, start, size, cpu, apart):
-    """Lines with ranges that do not overlap, labels, segments and a layout. No label is named ina, dea, wai or stp, which ca65 takes for
-    mnemonics of the later CPUs. Segments that are apart have names of their own and reach to the end, so that none is entered again."""
+    """Lines with ranges that do not overlap, labels, segments and a layout. No label is named ina, dea, wai or stp,
+    which ca65 takes for mnemonics of the later CPUs. Segments that are apart have names of their own and reach to the
+    end, so that none is entered again."""
     end, lines, named = start + size, [f'GLOBAL {{ STARTADDR ${start:04X}; CPU "{cpu}"; }};'], set()
     at = start + draw.randrange(200)
     while at < end:
@@ -164,18 +169,22 @@ def random_information(draw, start, size, cpu, apart):
         lines.append(f"RANGE {{ START ${at:04X}; END ${last:04X}; TYPE {draw.choice(TYPES)}; }};")
         at = last + 1 + draw.randrange(100) * draw.randrange(2)
     for _ in range(draw.randrange(30)):
-        at, count = draw.choice((draw.randrange(256), draw.randrange(65536), start + draw.randrange(size))), draw.randrange(1, 4)
+        at, count = draw.choice((draw.randrange(256), draw.randrange(65536),
+                                 start + draw.randrange(size))), draw.randrange(1, 4)
         if at not in named and at + count <= 65536:
             named.add(at)
-            remark = "".join(chr(9 if byte in (34, 127) else byte) for byte in draw.choices(range(32, 255), k=draw.randrange(40)))
+            remark = "".join(chr(9 if byte in (34, 127) else byte)
+                             for byte in draw.choices(range(32, 255), k=draw.randrange(40)))
             lines.append(f'LABEL {{ ADDR ${at:04X}; NAME "n_{at:04x}"; SIZE {count}; COMMENT "{remark}"; }};')
     at, k = start + draw.randrange(size), 0
     while at < end and k < 30:
         last = at + draw.randrange(300)
         last = end - 1 if apart and (last >= end or k == 29) else min(last, 65535)
-        lines.append(f'SEGMENT {{ START ${at:04X}; END ${last:04X}; NAME "{f"t{k}" if apart else draw.choice(NAMES)}"; }};')
+        name = f"t{k}" if apart else draw.choice(NAMES)
+        lines.append(f'SEGMENT {{ START ${at:04X}; END ${last:04X}; NAME "{name}"; }};')
         at, k = last + 1 + (0 if apart else draw.randrange(50) * draw.randrange(2)), k + 1
-    columns = "".join(f" {name}COLUMN {draw.randrange(1, 121)};" for name in "MNEMONIC ARGUMENT COMMENT TEXT".split() if draw.randrange(2))
+    columns = "".join(f" {name}COLUMN {draw.randrange(1, 121)};" for name in "MNEMONIC ARGUMENT COMMENT TEXT".split()
+                      if draw.randrange(2))
     layout = f"LABELBREAK {draw.randrange(121)}; NEWLINEAFTERJMP on; NEWLINEAFTERRTS on;"
     return [*lines, f"GLOBAL {{ COMMENTS {draw.randrange(5)};{columns} {layout} }};"]
 
@@ -217,8 +226,6 @@ def test_the_listing_of_an_image(da65, as65, name, cpu):
     assert not fault(da65, as65, 65536 - len(read(name)), name, f"--cpu {cpu} {name}")
 
 
-# ---- random texts
-
 ANY_FORM = "adc and cmp eor lda ora sbc sta".split()
 IMPLIED = "brk clc cld cli clv dex dey inx iny nop pha php pla plp rti rts sec sed sei tax tay tsx txa txs tya".split()
 BRANCHES = "bcc bcs beq bmi bne bpl bvc bvs".split()
@@ -228,7 +235,8 @@ NEWER = ("bra here1", "stz $10", "lda ($20)", "rmb3 $40", "bbs7 $12,here1", "inc
 
 
 class Text:
-    """A random text: lines with a statement each, with the names that it defines and those that a later line may define."""
+    """A random text: lines with a statement each, with the names that it defines and those that a later line may
+    define."""
 
     def __init__(self, draw, cpu):
         self.draw, self.any, self.defined, self.wanted = draw, draw.randrange, [], set()
@@ -236,7 +244,8 @@ class Text:
         for self.count in range(1, self.any(3, 43) + 1):
             kind = self.any(12)
             if kind == 0:
-                statement = f"k{self.count}{draw.choice((' := ', ' = ', '='))}{self.number(draw.choice((65536, 256, 256)))} ; a constant"
+                value = self.number(draw.choice((65536, 256, 256)))
+                statement = f"k{self.count}{draw.choice((' := ', ' = ', '='))}{value} ; a constant"
                 self.defined.append(f"k{self.count}")
             elif kind == 1:
                 statement = f"p{self.count} := * + {self.number(20)}"
@@ -308,10 +317,12 @@ class Text:
         if kind < 7:
             return f".byte {self.some(self.datum)}"
         if kind < 9:
-            return (f"{pick(('.lobytes', '.hibytes', '.LoBytes', '.HIBYTES'))} {self.some(self.expression)}" if kind == 7
+            return (f"{pick(('.lobytes', '.hibytes', '.LoBytes', '.HIBYTES'))} {self.some(self.expression)}"
+                    if kind == 7
                     else f"{pick(('.word', '.addr', '.dbyt', '.dword'))} {self.some(self.difference)}")
         if kind < 11:
-            return f".res {self.number(20 if self.any(40) else 70000)}" + (f", {self.number(260)}" if self.any(2) == 0 else "")
+            return f".res {self.number(20 if self.any(40) else 70000)}" + (f", {self.number(260)}" if self.any(2) == 0
+                                                                           else "")
         return pick(("asl", "lsr", "rol", "ror", "ASL", "Ror", pick(NEWER)))
 
     def operand(self):
@@ -336,9 +347,10 @@ class Text:
 
 
 def excused(message):
-    """as65 refuses what ca65 takes: a value below 0 or above $FFFF whose half is taken or that .dbyt has, a value below 0 in .dword, of
-    which ca65 takes the low bytes, and a text without a byte."""
-    return re.search(r": value out of range: .*([<>]|\.lobytes|\.hibytes|\.dbyt|\.dword)|: no bytes$", message.lower(), re.M)
+    """as65 refuses what ca65 takes: a value below 0 or above $FFFF whose half is taken or that .dbyt has, a value below
+    0 in .dword, of which ca65 takes the low bytes, and a text without a byte."""
+    return re.search(r": value out of range: .*([<>]|\.lobytes|\.hibytes|\.dbyt|\.dword)|: no bytes$", message.lower(),
+                     re.M)
 
 
 def judged(as65, lines, start):
@@ -347,9 +359,11 @@ def judged(as65, lines, start):
     ours, theirs = as65.run(f"-S {start} text.s"), linked(segments("\n".join(lines), True), start, 65536 - start)
     if ours.status == 0:
         is_same = theirs == ours.out
-        return is_same, None if is_same else f"as65 takes it from {start}, and ca65: {theirs if isinstance(theirs, str) else 'other bytes'}"
+        they_say = theirs if isinstance(theirs, str) else "other bytes"
+        return is_same, None if is_same else f"as65 takes it from {start}, and ca65: {they_say}"
     said = ours.err.decode("latin-1")
-    return False, None if isinstance(theirs, str) or excused(said) else f"ca65 takes it from {start}, and not as65: {said}"
+    return False, None if isinstance(theirs,
+                                     str) or excused(said) else f"ca65 takes it from {start}, and not as65: {said}"
 
 
 def test_texts(as65, text):
@@ -368,7 +382,8 @@ def test_texts(as65, text):
 def test_segments_at_their_place(as65):
     text = ('start: lda #<last\n ldx #last-start\nlast:\n.segment "TABLES"\nthere: .addr start,there,last\n .res 3\n'
             '.segment "VECTORS"\nend: .word end-there,end,start\n')
-    write("a.info", 'SEGMENT { START $1010; END $1FFF; NAME "TABLES"; };\nSEGMENT { START $2FFA; END $2FFF; NAME "VECTORS"; };\n')
+    write("a.info", 'SEGMENT { START $1010; END $1FFF; NAME "TABLES"; };\n'
+          'SEGMENT { START $2FFA; END $2FFF; NAME "VECTORS"; };\n')
     write("a.cfg", "MEMORY { ROM: start = $1000, size = $2000, file = %O, fill = yes, fillval = $EA; }\n"
           "SEGMENTS { CODE: load = ROM, type = ro; TABLES: load = ROM, type = ro, start = $1010;"
           " VECTORS: load = ROM, type = ro, start = $2FFA; }\n")

@@ -1,41 +1,9 @@
-"""What `make` does with the prover, and in which order. A stand-in for `rt` notes in which crate it runs, needs the libraries of the crates
-below, and proves nothing. stmt65 and info65, which do not depend on each other, each wait until the other begins. Here `make` prints its
+"""What `make` does with the prover, and in which order. tests/stand_ins/rt stands in for it. Here `make` prints its
 progress once a second."""
 import os, re, shutil
 import pytest
 from conftest import MADE, ROOT, Program, holds, read, rows, write
 
-RT = r"""#!/usr/bin/env bash
-set -eu
-[ "$1" != version ] || { echo "${KIT-rattle-kit-13f} logic 0"; exit; }
-crate=$(basename "$PWD")
-echo "$crate" >>"$NOTES"
-[ "$1" != try ] || { echo "$*"; exit; }
-for name in $(sed -n "s/^$crate://p" ../../crates.txt); do
-    [ ! -d ../"$name" ] || [ -d ../"$name"/out/rlib ] || { echo "$crate: no library $name"; exit 1; }
-done
-case $crate in
-stmt65) other=info65 ;;
-info65) other=stmt65 ;;
-*) other=$crate ;;
-esac
-for _ in $(seq "${WAITS-100}"); do
-    ! grep -qx "$other" "$NOTES" || break
-    sleep 0.1
-done
-grep -qx "$other" "$NOTES" || [ "${WAITS-}" = 0 ] || { echo "$crate: $other does not begin"; exit 1; }
-case $crate in
-stmt65) echo 'so far: 0 of 66 functions checked; the verdict comes last'; echo 'so far: 10 of 66 functions checked' ;;
-info65) echo 'so far: 7 of 9 functions checked' ;;
-esac
-[ "$other" = "$crate" ] || sleep "${SLOW-0}"
-mkdir -p out/incremental out/rlib
-cat src/*.rt >>out/incremental/kept
-nice >out/nice
-[ "$crate" != "${REFUSED-}" ] || { echo "$crate: not proved"; exit 1; }
-printf '#!/bin/sh\necho "%s"\n' "$crate" >out/"$crate"
-chmod +x out/"$crate"
-"""
 PARTS = ("src", "specs", "proofs")
 LINES = [line.split(":") for line in (ROOT / "crates.txt").read_text().splitlines() if re.match(r"\w+:", line)]
 BELOW = {name: below.split() for name, below in LINES}
@@ -60,14 +28,15 @@ def above(*crates):
 
 
 def run(words, crates, status=0, last="da65_cli", env=None, program="make"):
-    """make ends with this status, and apart from its own errors prints this line last. It runs the prover once in each of these crates,
-    and in no other. Gives what it printed."""
+    """make ends with this status, and apart from its own errors prints this line last. It runs the prover once in each
+    of these crates, and in no other. Gives what it printed."""
     here = os.path.dirname(os.getcwd())
     write("../notes", "")
     env = {"PATH": f"{here}/path:{os.environ['PATH']}", "NOTES": f"{here}/notes", **(env or {})}
     done = Program(shutil.which(program)).run(words, env=env).gives(status, None, None)
     printed = (done.out + done.err).decode()
-    assert [line for line in printed.splitlines() if not line.startswith("make")][-1:] == [last] or program != "make", printed
+    assert [line for line in printed.splitlines()
+            if not line.startswith("make")][-1:] == [last] or program != "make", printed
     assert sorted(read("../notes").decode().split()) == sorted(crates), printed
     assert not [name for name in os.listdir("bin/made") if name.endswith(".room")], "a room is left"
     return printed
@@ -77,9 +46,10 @@ def run(words, crates, status=0, last="da65_cli", env=None, program="make"):
 def proved(tmp_path_factory):
     """A checkout in which everything is proved."""
     here = tmp_path_factory.mktemp("make")
-    for folder in "path", *(f"checkout/crates/{crate.name}/{part}" for crate in (ROOT / "crates").iterdir() for part in PARTS):
+    for folder in "path", *(f"checkout/crates/{crate.name}/{part}" for crate in (ROOT / "crates").iterdir()
+                            for part in PARTS):
         os.makedirs(here / folder)
-    os.chmod(write(here / "path/rt", RT), 0o755)
+    shutil.copy(ROOT / "tests/stand_ins/rt", here / "path")
     for crate in (here / "checkout/crates").iterdir():
         write(crate / "src/lib.rt", "// one\n")
     for name in "Makefile", "crates.txt", "HANDLES":
@@ -136,7 +106,8 @@ def test_text65_is_not_proved(make):
 
 @rows("program words shown", [
     ("elsewhere", "make", "-s -j3", "\ninfo65 7 of 9, stmt65 10 of 66 functions\n"),
-    ("on a terminal", "script", "-qec 'make -s -j3' /dev/null", "\r\x1b[Kinfo65 7 of 9, stmt65 10 of 66 functions\r\x1b[K"),
+    ("on a terminal", "script", "-qec 'make -s -j3' /dev/null",
+     "\r\x1b[Kinfo65 7 of 9, stmt65 10 of 66 functions\r\x1b[K"),
 ])
 def test_how_far_it_is(make, program, words, shown):
     if not shutil.which(program):

@@ -1,32 +1,6 @@
-"""How good the proposals of trace65 are, and what moves: tests/corpus/*.s, small programs whose truth is known, one for each rule and for
-each way to err.
-
-A program is a text for ca65. Its parts, which begin at `.code` or `.rodata`, stand in the image in the order of the text. What follows
-`.bss` lies after the image. A segment VECTORS ends a ROM at $FFFF. ca65 and ld65 make the image, so nothing is guessed: code is what stands
-in parts `.code`, the rest are constants, and addresses are what changes if the program is linked a byte or a page later (a ROM: earlier).
-The image goes through trace65, da65, name65 and as65 without a hand, which gives these figures:
-
-  code 20 of 23              no range covers 20 of 23 bytes of code
-  constants as code 0 of 9   no range covers none of 9 bytes of constants
-  halves 2 right 1 wrong     two of three proposed pairs of bytes are an address wherever the program is linked
-  rows 1 right 0 wrong       all words of one proposed AddrTable or RtsTable are addresses wherever it is linked
-  follows 8 of 9, wrong 0    of 9 bytes that change by the linker 8 change so in the listing by names; no other byte changes
-  runs 5 of 6                sim65 runs the listing by names with bytes inserted at 6 places; 5 times output and status stay as they were.
-                             Inserted are 3 and 300 nops before the first instruction, and one nop before each other one with a label.
-  refused by name65: ..      instead of figures
-
-The comment at the head of a program says what it shows. Further lines of it, in which @NAME and @NAME+1 are addresses of labels:
-
-  ; expect: FIGURES          what is found. Any other figure fails, a better one too: then write it here.
-  ; should be: FIGURES       some that are not reached yet. Once they are, this line goes.
-  ; shows: TEXT              what trace65 writes has this line
-  ; info: TEXT               a line of the information file
-  ; entry: NAME ..           further entries
-  ; start: $1000             where the image begins; there it does without such a line
-
-A program that includes sim65.inc is run. --write writes what is found.
-
-The end of the run has the figures of all programs together."""
+"""How good the proposals of trace65 are, and what moves: tests/corpus/*.s, small programs whose truth is known. The
+README beside them says what a program is, and what its figures are. --write writes what is found. The end of the run
+has the figures of all programs together."""
 import re, shutil, subprocess
 from collections import Counter, defaultdict
 from functools import cache
@@ -65,7 +39,8 @@ class Sample:
         """What a tool writes."""
         done = self.tools.get(tool, Program(shutil.which(tool) or tool)).run(words)
         if done.status:
-            raise Refused(f"refused by {tool}: " + done.err.decode(errors="replace").split("\n")[0].removeprefix(f"{tool}: "))
+            raise Refused(f"refused by {tool}: "
+                          + done.err.decode(errors="replace").split("\n")[0].removeprefix(f"{tool}: "))
         return done.out.decode(errors="replace")
 
     def assemble(self):
@@ -90,16 +65,19 @@ class Sample:
         """The image, linked this many bytes later, or a ROM earlier."""
         size = 0x10000 - self.start
         Path("config").write_text(
-            f"MEMORY {{ ZP: start = $80, size = $70; MAIN: start = {self.start_at(distance)}, size = {size}, file = %O, "
-            f"fill = {'yes' if self.is_rom else 'no'}, fillval = $FF; }}\nSEGMENTS {{ ZEROPAGE: load = ZP, type = zp, optional = yes;\n"
+            f"MEMORY {{ ZP: start = $80, size = $70; MAIN: start = {self.start_at(distance)}, size = {size}, file = %O,"
+            f" fill = {'yes' if self.is_rom else 'no'}, fillval = $FF; }}\nSEGMENTS {{"
+            " ZEROPAGE: load = ZP, type = zp, optional = yes; BSS: load = MAIN, type = bss, optional = yes;\n"
             + "".join(f"{part}: load = MAIN;\n" for part in self.parts)
-            + f"VECTORS: load = MAIN, offset = {size - 6}, optional = yes;\nBSS: load = MAIN, type = bss, optional = yes; }}\n"
+            + f"VECTORS: load = MAIN, offset = {size - 6}, optional = yes; }}\n"
         )
-        self.run("ld65", "-C", "config", *(() if distance else ("-m", "map", "-Ln", "labels")), "-o", "image", "program.o")
+        self.run("ld65", "-C", "config", *(() if distance else ("-m", "map", "-Ln", "labels")), "-o", "image",
+                 "program.o")
         return Path("image").read_bytes()
 
     def is_address(self, low, high):
-        """Whether the bytes at these addresses are the halves of one wherever the program is linked, with a carry between them too."""
+        """Whether the bytes at these addresses are the halves of one wherever the program is linked, with a carry
+        between them too."""
         word = lambda image: image[low - self.start] + 256 * image[high - self.start]
         value = word(self.image)
         carry = value % 256 + 1 if self.is_rom else 256 - value % 256
@@ -132,11 +110,9 @@ def addresses(spans):
     return {at for first, last in spans for at in range(int(first, 16), int(last, 16) + 1)}
 
 
-# ---- the figures of a program
-
-
 def propose(sample):
-    """Takes the image through trace65, da65 and name65. Returns what the information file says, and what trace65 proposes."""
+    """Takes the image through trace65, da65 and name65. Returns what the information file says, and what trace65
+    proposes."""
     Path("image.bin").write_bytes(sample.image)
     info = f'GLOBAL {{ INPUTNAME "image.bin"; STARTADDR ${sample.start:04X}; CPU "{sample.cpu}"; }};\n'
     info += "".join(sample.with_addresses(line) + "\n" for line in sample.head["info"])
@@ -154,16 +130,19 @@ def propose(sample):
 
 def count_code(sample, info, found):
     code, all_bytes = sample.code, set(range(sample.start, sample.start + len(sample.image)))
-    reached = all_bytes - addresses((first, last) for first, last, kind in RANGE.findall(info + found) if kind != "Code")
+    reached = all_bytes - addresses((first, last) for first, last,
+                                    kind in RANGE.findall(info + found) if kind != "Code")
     sample.figures.update(code=len(code), reached=len(code & reached))
     sample.figures.update(constants=len(all_bytes - code), taken=len(reached - code))
 
 
 def count_addresses(sample, found):
     pairs = [sample.is_address(int(low, 16), int(high, 16)) for low, high in HALVES.findall(found)]
-    tables = [range(int(first, 16), int(last, 16), 2) for first, last, kind in RANGE.findall(found) if kind in ("AddrTable", "RtsTable")]
+    tables = [range(int(first, 16), int(last, 16), 2) for first, last,
+              kind in RANGE.findall(found) if kind in ("AddrTable", "RtsTable")]
     rows = [all(sample.is_address(at, at + 1) for at in table) for table in tables]
-    sample.figures.update(pairs=pairs.count(True), false_pairs=pairs.count(False), rows=rows.count(True), false_rows=rows.count(False))
+    sample.figures.update(pairs=pairs.count(True), false_pairs=pairs.count(False), rows=rows.count(True),
+                          false_rows=rows.count(False))
 
 
 def count_places(sample):
@@ -215,8 +194,8 @@ def measure(sample):
 def summary(figures):
     """The figures of several programs together."""
     total, ran = sum(figures, Counter()), [one for one in figures if one["moves"]]
-    return (f"{len(figures)} programs, {total['refused']} refused; {sum(one['runs'] == one['moves'] for one in ran)} of {len(ran)} run as "
-            "before; " + FIGURES.format_map(total))
+    as_before = f"{sum(one['runs'] == one['moves'] for one in ran)} of {len(ran)} run as before"
+    return f"{len(figures)} programs, {total['refused']} refused; {as_before}; {FIGURES.format_map(total)}"
 
 
 @pytest.mark.ca65
@@ -226,9 +205,11 @@ def test_corpus(trace65, da65, as65, name65, name, record_property, request):
     measure(sample)
     record_property("figures", dict(sample.figures))
     if request.config.getoption("--write"):
-        sample.path.write_text(re.sub(r"^; expect:.*", lambda _: f"; expect: {sample.said}", sample.text, count=1, flags=re.M))
+        sample.path.write_text(re.sub(r"^; expect:.*", lambda _: f"; expect: {sample.said}", sample.text, count=1,
+                                      flags=re.M))
         return
-    same("".join(sample.head["expect"]).replace(", ", ",\n"), sample.said.replace(", ", ",\n"), f"{name}.s: the figures")
+    same("".join(sample.head["expect"]).replace(", ", ",\n"), sample.said.replace(", ", ",\n"),
+         f"{name}.s: the figures")
     assert not sample.lost, "trace65 does not show this"
     reached = [line for line in sample.head["should be"] if set(line.split(", ")) <= set(sample.said.split(", "))]
     assert not reached, "it is as it should be, so this line can go"

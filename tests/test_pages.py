@@ -1,29 +1,16 @@
-"""What the pages show: every command of README.md, docs/GUIDE.md, docs/RECIPES.md and the examples of the man pages. Each page has a folder
-of its own that looks like a checkout after `make`. A block of a page is one of these:
+"""What the pages show: every command of README.md, docs/GUIDE.md, docs/RECIPES.md and the examples of the man pages.
+Each page has a folder of its own that looks like a checkout after `make`. A block of a page is one of these:
 
   ```sh      commands, run in order; the words after `sh` are further programs that the block needs
-  ```        an excerpt: its lines stand, one after the other, in what the last commands printed or in a file that the page made
+  ```        an excerpt: its lines stand, one after the other, in what the last commands printed or in a file
 
-In tables, a command `bin/da65 ..` or `bin/as65 ..` is run. If a row has an information file or a command, and beside it the message
-`da65: ..` or the word nothing, the program must say that; so must it for the rows of docs/INFORMATION_FILE.md with a message. A section
-ends at the first block whose programs are missing. Then everything is installed, completed by bash and zsh, and uninstalled."""
+In tables, a command `bin/da65 ..` or `bin/as65 ..` is run. If a row has an information file or a command, and beside it
+the message `da65: ..` or the word nothing, the program must say that; so must it for the rows of
+docs/INFORMATION_FILE.md with a message. A section ends at the first block whose programs are missing. Then everything
+is installed, completed by bash and zsh, and uninstalled."""
 import glob, os, pathlib, random, re, shutil, subprocess
 import pytest
 from conftest import MADE, ROOT, command, fails, lack, path_of, read, same, write
-
-# What a login to another machine would run, for the commands that spread their work: it runs here.
-SSH = r"""#!/bin/sh
-host=
-while [ $# -gt 0 ]; do
-    case $1 in
-    --) shift; break ;;
-    -[lp]) shift 2 ;;
-    -*) shift ;;
-    *) [ -z "$host" ] || break; host=$1; shift ;;
-    esac
-done
-cd && exec sh -c "$*"
-"""
 
 
 @pytest.fixture
@@ -32,6 +19,7 @@ def checkout(folder, monkeypatch, request):
     for name in "bin/made", "docs", "crates", "path", "home":
         os.makedirs(name)
     os.remove("examples")
+    os.remove("names")
     for name in MADE:
         write("bin/made/" + ("da65_cli" if name == "da65" else name), "")
         shutil.copy(path_of(request.config, name), "bin/" + name)
@@ -42,7 +30,7 @@ def checkout(folder, monkeypatch, request):
     for page in (ROOT / "docs").glob("*.[15]"):
         shutil.copy(page, "docs")
     write("crates.txt", "")
-    os.chmod(write("path/ssh", SSH), 0o755)
+    shutil.copy(ROOT / "tests/stand_ins/ssh", "path")
     # SHELL is what a login sets: without it, parallel loses the status of a command that it runs elsewhere.
     for name, value in ("SHELL", "/bin/sh"), ("HOME", f"{folder}/home"), ("DESTDIR", f"{folder}/installed"), (
             "PATH", f"{folder}/path:{os.environ['PATH']}"):
@@ -58,7 +46,8 @@ class Page:
 
     def does(self, commands):
         """They end with status 0."""
-        run = subprocess.run(["bash", "-eu", "-o", "pipefail", "-c", commands], stdout=subprocess.PIPE, stderr=subprocess.STDOUT,
+        run = subprocess.run(["bash", "-eu", "-o", "pipefail", "-c", commands], stdout=subprocess.PIPE,
+                             stderr=subprocess.STDOUT,
                              stdin=subprocess.DEVNULL, timeout=300)
         self.printed = run.stdout.decode("latin-1")
         if run.returncode:
@@ -66,8 +55,10 @@ class Page:
         self.ran += 1
 
     def has(self, lines):
-        """The lines stand, one after the other, in what the last commands printed, or in a text that the page has or makes."""
-        names = [name for end in ("*.s", "*.info", "*.cfg", "*.inc", "examples/*.info", "examples/*.cfg", "examples/board/*")
+        """The lines stand, one after the other, in what the last commands printed, or in a text that the page has or
+        makes."""
+        names = [name for end in ("*.s", "*.info", "*.cfg", "*.inc", "examples/*.info", "examples/*.cfg",
+                                  "examples/board/*")
                  for name in glob.glob(end) if os.path.isfile(name) and not name.endswith(".bin")]
         texts = [self.printed, *(read(name).decode("latin-1") for name in names)]
         return any(f"\n{lines}\n" in "\n" + text.replace("\0", "").rstrip("\n") + "\n" for text in texts)
@@ -101,7 +92,8 @@ class Page:
             if said:
                 text, message = said[1].replace(r"\|", "|"), said[3] or ""
                 mistake = f"bin/da65 -i {write('mistake.info', text.encode())} examples/three.bin"
-                run = subprocess.run(["bash", "-c", text if text.startswith("bin/da65") else mistake], capture_output=True)
+                run = subprocess.run(["bash", "-c", text if text.startswith("bin/da65") else mistake],
+                                     capture_output=True)
                 same(message, run.stderr.rstrip(b"\n"), f"{self.name}: {text}")
                 self.ran += 1
             else:
@@ -115,7 +107,7 @@ def test_page(checkout, name, record_property):
     page.blocks()
     page.tables()
     assert page.ran > 10 and page.found
-    record_property("shown", f"{name}: ran {page.ran} commands and found {page.found} excerpts; left out {page.left_out}")
+    record_property("shown", f"{name}: {page.ran} commands ran, {page.found} excerpts found, {page.left_out} left out")
 
 
 def test_mistakes_of_information_files(checkout):
@@ -139,25 +131,26 @@ def test_example_of(checkout, page):
 
 @pytest.mark.ca65
 @pytest.mark.parametrize("start, size", (
-    *((start, 16384) for start in ("0x0000", "0x2000", "0x4000", "0x7800", "0xC000")), ("0xF000", 4096), ("0x0000", 65536)))
+    *((start, 16384) for start in ("0x0000", "0x2000", "0x4000", "0x7800", "0xC000")), ("0xF000", 4096),
+    ("0x0000", 65536)))
 def test_example_of_da65_at(checkout, start, size):
     write("rom.bin", (4 * random.Random(1).randbytes(16384))[:size])
     Page("docs/da65.1").does(example("da65.1").replace("0xF000", start))
 
 
-# ---- installing
-
 def options(name):
     """Those of the help text."""
     text = command(["bin/" + name, "-h"]).decode()
-    found = [word for line in re.findall(r"^  (-[^ ]+(?: --[^ ]+)?)", text, re.M) for word in re.findall("-[^ ,]+", line)]
+    found = [word for line in re.findall(r"^  (-[^ ]+(?: --[^ ]+)?)", text, re.M)
+             for word in re.findall("-[^ ,]+", line)]
     assert len(found) >= 10, text
     return found
 
 
 def bash_completes(file, *words):
     """What bash offers for the last of these words after the name."""
-    script = ('source "$1"; shift; COMP_WORDS=("$@") COMP_CWORD=$(($# - 1)); function=$(complete -p "$1") && function=${function#*-F } && '
+    script = ('source "$1"; shift; COMP_WORDS=("$@") COMP_CWORD=$(($# - 1)); '
+              'function=$(complete -p "$1") && function=${function#*-F } && '
               '"${function% *}" 2>/dev/null && printf "%s\\n" "${COMPREPLY[@]}"')
     return subprocess.run(["bash", "-c", script, "-", file, *words], stdout=subprocess.PIPE).stdout.decode().split()
 
@@ -165,9 +158,11 @@ def bash_completes(file, *words):
 def zsh_completes(folder, line, last):
     """What zsh shows after two TABs behind the line, up to the last word."""
     script = ("""zmodload zsh/zpty; zpty z "TERM=dumb zsh -f -i"
-zpty -w z "PS1=; fpath=($1 \\$fpath); autoload -Uz compinit; compinit -u -D; LISTMAX=0; COLUMNS=120; LINES=100; print re''ady"
+zpty -w z "PS1=; fpath=($1 \\$fpath); autoload -Uz compinit; compinit -u -D; LISTMAX=0; COLUMNS=120; LINES=100"
+zpty -w z "print re''ady"
 zpty -r z out "*ready*"; zpty -w -n z "$2"$'\\t\\t'; zpty -r z out "*$3*"; print -r -- "$out" """)
-    return subprocess.run(["zsh", "-f", "-c", script, "-", folder, line, last], stdout=subprocess.PIPE, timeout=60).stdout.decode()
+    return subprocess.run(["zsh", "-f", "-c", script, "-", folder, line, last], stdout=subprocess.PIPE,
+                          timeout=60).stdout.decode()
 
 
 @pytest.fixture
@@ -177,20 +172,25 @@ def installed(checkout, folder, request):
     command(["make", "-s", "install", *words])
     yield request.param, f"{folder}/made/usr"
     command(["make", "-s", "uninstall", *words])
-    assert not [path for path in pathlib.Path(folder / "made").rglob("*") if path.is_file() or path.name == "names"], "left after uninstall"
+    assert not [path for path in pathlib.Path(folder / "made").rglob("*") if path.is_file()
+                or path.name == "names"], "left after uninstall"
 
 
-with_prefix = pytest.mark.parametrize("installed", ("", "proved-"), ids=("by its name", "by another name"), indirect=True)
+with_prefix = pytest.mark.parametrize("installed", ("", "proved-"), ids=("by its name", "by another name"),
+                                      indirect=True)
 
 
 @with_prefix
 def test_what_is_installed(installed):
     prefix, made = installed
     files = [file for name in (prefix + name for name in MADE) for file in (
-        f"bin/{name}", f"share/man/man1/{name}.1", f"share/bash-completion/completions/{name}", f"share/zsh/site-functions/_{name}")]
+        f"bin/{name}", f"share/man/man1/{name}.1", f"share/bash-completion/completions/{name}",
+        f"share/zsh/site-functions/_{name}")]
     files += [f"share/man/man5/{prefix}da65.info.5"]
-    files += [f"share/{prefix}da65/names/{path.name}" for path in (ROOT / "names").iterdir() if path.suffix in (".inc", ".info")]
-    assert sorted(files) == sorted(str(path.relative_to(made)) for path in pathlib.Path(made).rglob("*") if path.is_file())
+    files += [f"share/{prefix}da65/names/{path.name}" for path in (ROOT / "names").iterdir()
+              if path.suffix in (".inc", ".info")]
+    assert sorted(files) == sorted(str(path.relative_to(made)) for path in pathlib.Path(made).rglob("*")
+                                   if path.is_file())
     for name in MADE:
         same(read("bin/" + name), read(f"{made}/bin/{prefix}{name}"), "another program")
 

@@ -1,9 +1,11 @@
-"""Compares single instructions of the crate run65 with those of cc65's simulator sim65, from random states: registers, flags, memory.
+"""Compares single instructions of the crate run65 with those of cc65's simulator sim65, from random states: registers,
+flags, memory.
 
-Each state sets memory, the registers and the flags, and one instruction runs. Then the registers, the flags, where code goes on, and the
-memory that it reads and writes must be the same. The opcodes are those of the tables in crates/isa65, each of them as often as every
-other one of its CPU; half of the sums are decimal. sim65 has no 65SC02, so its opcodes run on sim65's 65C02. What sim65 2.19 itself does
-in another way than the data sheets is in `by_data_sheet`, and is compared with what they say.
+Each state sets memory, the registers and the flags, and one instruction runs. Then the registers, the flags, where code
+goes on, and the memory that it reads and writes must be the same. The opcodes are those of the tables in crates/isa65,
+each of them as often as every other one of its CPU; half of the sums are decimal. sim65 has no 65SC02, so its opcodes
+run on sim65's 65C02. What sim65 2.19 itself does in another way than the data sheets is in `by_data_sheet`, and is
+compared with what they say.
 
 --states says how many states there are of each CPU, and --seed which."""
 import collections, random, re, subprocess
@@ -11,103 +13,10 @@ import pytest
 from conftest import ROOT, command, fails, read, write
 
 POKES, PEEKS = 18, 6
-# After `rol abs,x` sim65 2.19 goes on at the last byte of the instruction. That is a `jmp` in each state, and so leads back too.
+# After `rol abs,x` sim65 2.19 goes on at the last byte of the instruction. That is a `jmp` in each state, and so leads
+# back too.
 ROL_ABSX = 0x3E
 
-# Runs in sim65: reads a state from standard input, sets memory and registers, runs the instruction, and writes a result. Two jumps tell
-# where code goes on.
-DRIVER = """
-        .setcpu "6502"
-        .segment "HEAD"
-        .byte   "sim65", 2, {kind}, $F0
-        .word   start, start
-        .segment "CODE"
-start:  ldx     #$FF
-        txs
-        lda     #<from
-        ldx     #>from
-        jsr     arguments
-        lda     #{state}
-        ldx     #0
-        jsr     $FFF6                           ; read
-        cmp     #{state}
-        beq     poke
-        lda     #0
-        jmp     $FFF9                           ; exit
-poke:   ldx     #0
-next:   lda     state+7,x
-        sta     put+1
-        lda     state+8,x
-        sta     put+2
-        lda     state+9,x
-put:    sta     $FFFF
-        inx
-        inx
-        inx
-        cpx     #{pokes}
-        bne     next
-        lda     state+5
-        sta     go+1
-        lda     state+6
-        sta     go+2
-        ldx     state+4
-        dex
-        txs                                     ; the flags are pulled from memory: a state has them there
-        lda     state+1
-        ldx     state+2
-        ldy     state+3
-        plp
-go:     jmp     $FFFF
-here:   sta     result
-        php
-        lda     #0
-        jmp     back
-there:  sta     result
-        php
-        lda     #1
-back:   cld
-        sta     result+5
-        stx     result+1
-        sty     result+2
-        pla
-        sta     result+4
-        tsx
-        stx     result+3
-        ldx     #$FF
-        txs
-        ldx     #0
-        ldy     #0
-peek:   lda     state+7+{pokes},x
-        sta     get+1
-        lda     state+8+{pokes},x
-        sta     get+2
-get:    lda     $FFFF
-        sta     result+6,y
-        inx
-        inx
-        iny
-        cpy     #{peeks}
-        bne     peek
-        lda     #<to
-        ldx     #>to
-        jsr     arguments
-        lda     #12
-        ldx     #0
-        jsr     $FFF7                           ; write
-        jmp     start
-arguments:
-        sta     $F0
-        stx     $F1
-        rts
-from:   .word   state, 0
-to:     .word   result, 1
-state:  .res    {state}
-result: .res    12
-"""
-LINKS = """MEMORY { HEAD: file = %O, start = 0, size = 12; CODE: file = %O, start = $0200, size = $2000; }
-SEGMENTS { HEAD: load = HEAD, type = ro; CODE: load = CODE, type = rw; }
-"""
-READS = {'Zp', 'Zpx', 'Zpy', 'Abs', 'Absx', 'Absy', 'Indx', 'Indy', 'Zpind'}
 PUSHES, PULLS = {'Pha': 1, 'Phx': 1, 'Phy': 1, 'Php': 1, 'Jsr': 2, 'Brk': 3}, {'Pla', 'Plx', 'Ply', 'Plp', 'Rts', 'Rti'}
 
 
@@ -124,7 +33,8 @@ def digits_less(a, b, borrow, is_cmos):
 
 
 def by_data_sheet(state, its):
-    """What an instruction does that sim65 2.19 does not have as the data sheet has it, by name; or None, and what sim65 says."""
+    """What an instruction does that sim65 2.19 does not have as the data sheet has it, by name; or None, and what sim65
+    says."""
     p, is_cmos = state.p | 0x30, state.is_cmos
     nz = lambda p, n: p & 0x7D | n & 0x80 | (2 if n == 0 else 0)
     if state.mnemonic[:3] in ('Rmb', 'Smb', 'Bbr', 'Bbs'):
@@ -132,7 +42,8 @@ def by_data_sheet(state, its):
         goes = state.mode == 'Zprel' and bool(state.byte & bit) == is_set
         byte = state.byte if state.mode == 'Zprel' else state.byte | bit if is_set else state.byte & ~bit
         pc = state.to if goes else state.start + state.length
-        return 'no bit instructions of the 65C02', dict(a=state.a, x=state.x, y=state.y, s=state.s, p=p, pc=pc, m=[byte])
+        return 'no bit instructions of the 65C02', dict(a=state.a, x=state.x, y=state.y, s=state.s, p=p, pc=pc,
+                                                        m=[byte])
     if state.mnemonic == 'Sbc' and p & 8:
         borrow, plain = 1 - (p & 1), state.a - state.byte - (1 - (p & 1))
         a = digits_less(state.a, state.byte, borrow, is_cmos)
@@ -159,7 +70,8 @@ def table(*files):
 
 
 class State:
-    """Registers, and what is written to memory before an instruction; where code goes on, if it does not go on behind the instruction."""
+    """Registers, and what is written to memory before an instruction; where code goes on, if it does not go on behind
+    the instruction."""
 
     def __init__(self, rng, code, mnemonic, mode, here, there):
         self.code, self.pokes, self.peeks, self.mnemonic, self.mode = code, [], [], mnemonic, mode
@@ -196,7 +108,8 @@ class State:
         """The bytes behind the opcode; memory is set to what they need."""
         mode, far, near = self.mode, rng.randrange(0x3000, 0x7FFE), rng.randrange(256)
         self.near = near
-        byte = self.byte = rng.choice((rng.randrange(256), rng.randrange(256), rng.randrange(10) * 16 + rng.randrange(10), 0, 0x80, 0xFF))
+        byte = self.byte = rng.choice((rng.randrange(256), rng.randrange(256),
+                                       rng.randrange(10) * 16 + rng.randrange(10), 0, 0x80, 0xFF))
         if rng.random() < 0.2:
             far |= 0xFF
         if mode in ('Zp', 'Zpx', 'Zpy', 'Zprel'):
@@ -259,18 +172,21 @@ def results(command, states, size):
 
 @pytest.mark.ca65
 @pytest.mark.parametrize('cpu, tables, kind', [
-    ('6502', 'mos_6502', 0), ('65SC02', 'mos_6502 cmos_65sc02', 1), ('65C02', 'mos_6502 cmos_65sc02 rockwell_65c02', 1)])
+    ('6502', 'mos_6502', 0), ('65SC02', 'mos_6502 cmos_65sc02', 1),
+    ('65C02', 'mos_6502 cmos_65sc02 rockwell_65c02', 1)])
 def test_states(step65, cpu, tables, kind, request):
-    """In no state run65 does something else than sim65, or, where that does not do what the data sheets say, than these."""
-    size, count, seed = 7 + POKES * 3 + PEEKS * 2, request.config.getoption('--states'), request.config.getoption('--seed')
-    write('driver.s', DRIVER.format(kind=kind, state=size, pokes=POKES * 3, peeks=PEEKS))
-    write('driver.cfg', LINKS)
-    command('ca65 -g -o driver.o driver.s')
-    command('ld65 -C driver.cfg -Ln driver.map -o driver driver.o')
-    labels = {name: int(value, 16) for value, name in re.findall(r'al ([0-9A-F]{6}) \.(here|there)', read('driver.map').decode())}
+    """In no state run65 does something else than sim65, or, where that does not do what the data sheets say, than
+    these."""
+    size, count, seed = 7 + POKES * 3 + PEEKS * 2, *map(request.config.getoption, ('--states', '--seed'))
+    defined = f'-D KIND={kind} -D STATE={size} -D POKES={POKES * 3} -D PEEKS={PEEKS}'
+    command(f'ca65 -g {defined} -o driver.o {ROOT}/tests/run65.s')
+    command(f'ld65 -C {ROOT}/tests/run65.cfg -Ln driver.map -o driver driver.o')
+    labels = {name: int(value, 16) for value, name in re.findall(r'al ([0-9A-F]{6}) \.(here|there)',
+                                                                 read('driver.map').decode())}
     State.is_cmos, rows, draw = cpu != '6502', table(*tables.split()), random.Random(f'{seed} {cpu}')
     codes = sorted(rows)
-    states = [State(draw, codes[k % len(codes)], *rows[codes[k % len(codes)]], labels['here'], labels['there']) for k in range(count)]
+    states = [State(draw, codes[k % len(codes)], *rows[codes[k % len(codes)]], labels['here'], labels['there'])
+              for k in range(count)]
     known = [state for state in states if state.mnemonic[-1] not in '01234567']
     theirs = dict(zip(map(id, known), results(['sim65', '-x', '4000000000', 'driver'], known, 12)))
     own, differ = collections.Counter(), collections.defaultdict(list)
@@ -278,7 +194,8 @@ def test_states(step65, cpu, tables, kind, request):
         mine, its = dict(a=a, x=x, y=y, s=s, p=p, pc=low + 256 * high, m=memory[:len(state.peeks)]), None
         if id(state) in theirs:
             a, x, y, s, p, jumps, *memory = theirs[id(state)]
-            its = dict(a=a, x=x, y=y, s=s, p=p, pc=state.to if jumps else state.start + state.length, m=memory[:len(state.peeks)])
+            its = dict(a=a, x=x, y=y, s=s, p=p, pc=state.to if jumps else state.start + state.length,
+                       m=memory[:len(state.peeks)])
         cause, wanted = by_data_sheet(state, its)
         own[cause] += bool(cause) and its != wanted
         if mine != wanted:

@@ -22,7 +22,7 @@ CHECKS = {
     manual: "docs/da65.info.5 is made from docs/INFORMATION_FILE.md",
     page: "docs/DEFINITIONS.md is made from the comments of the definitions",
     pages: "each link of a page leads somewhere, and each name of a page about the code stands in the tree",
-    columns: "no more clauses than listed are wider than 100 columns; no script is wider than 140, no page than 120, no man page than 80",
+    columns: "no more clauses than listed are wider than 100 columns; no test or page is wider than 120, no script than 140, no man page than 80",
     names: "the files of names have their form",
     scripts: "shellcheck finds nothing in the scripts",
 }
