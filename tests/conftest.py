@@ -197,12 +197,15 @@ class Program:
         return self(words, status, "", f"{self.name}: {message}\n", **how)
 
     def does(self, given, words, status, out, err, after, stdin):
-        """A row of files: those of `given` are written before, and those of `after` are there then, as `pairs` reads
-        them. Each line of `err` begins with the name of the program. `stdin` is the name of a file."""
+        """A row of files: those of `given` are written before, and those of `after` are there then, as `pairs` reads them.
+        If it fails, there is no other file. Each line of `err` begins with the name of the program. `stdin` is the name
+        of a file."""
         for name, text in pairs(given):
             write(name, text)
+        there = set(os.listdir())
         err = "".join(f"{self.name}: {line}\n" for line in err.split("\n")) if err else ""
         self(words, status or 0, out, err, stdin=open(stdin, "rb") if stdin else b"")
+        assert not status or set(os.listdir()) == there, "it has failed, and there is another file"
         for name, text in pairs(after):
             holds(name, text)
 

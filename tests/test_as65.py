@@ -14,20 +14,6 @@ def files(folder):
         write(name, text)
 
 
-@listed()
-def test_words(as65, words, out):
-    as65(words, 0, out)
-    holds("no.bin", None)
-
-
-@listed()
-def test_refuses_words(as65, words, message, status):
-    """It says so, and creates no file."""
-    before = set(os.listdir())
-    as65.refuses(words, message, status or 1)
-    assert set(os.listdir()) == before
-
-
 @rows("name shown", [
     ("a listing with a name of two lines", "a\nb", "a\\nb"),
     ("a listing with control bytes in its name", "a\x1b[2J\x7fb", "a?[2J?b"),

@@ -22,13 +22,6 @@ def files(folder):
     os.mkdir("folder")
 
 
-@listed()
-def test_words(da65, words, out):
-    da65(words, 0, out)
-    holds("no.s", None)
-    holds("out.s", None)
-
-
 @listed(
     # Each of sixteen include files gives the operand of one instruction its name.
     ("sixteen include files", "-i sixteen.info sixteen.bin",
@@ -74,14 +67,6 @@ def test_sizes(da65, size):
     image, listing = size * b"\xea", HEADER + size * "        nop\n"
     da65(write("sized.bin", image), 0, listing)
     da65("/dev/stdin", 0, listing, stdin=in_pieces(image[:1], image[1:], 0.02))
-
-
-@listed(("an argument that is no text", ["a\xff"], "bad arguments"))
-def test_refuses(da65, words, message):
-    """It says so, and creates no file."""
-    before = set(os.listdir())
-    da65.refuses(words, message)
-    assert set(os.listdir()) == before
 
 
 def test_an_information_file_from_a_pipe_in_two_pieces(da65):

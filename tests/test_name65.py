@@ -6,8 +6,8 @@ from conftest import ROOT, by_as65, command, holds, listed, read, same, write
 
 
 @listed()
-def test_words(name65, words, out):
-    name65(words, 0, out)
+def test_runs(name65, given, words, status, out, err, after, stdin):
+    name65.does(given, words, status, out, err, after, stdin)
 
 
 @listed()
@@ -26,12 +26,6 @@ def test_refuses(name65, da65, info, listing, words, message):
     # A fault of the groups of da65 is what da65 says.
     if "RANGE" in info:
         da65.refuses("-i a.info examples/three.bin", message)
-
-
-def test_group_before_listing(name65):
-    """The groups are read first."""
-    write("a.info", "#: HALF { };\n")
-    name65.refuses("-i a.info absent.s", "info:1: unknown group")
 
 
 def from_1000(groups, listing):

@@ -22,8 +22,8 @@ def words_for(data, words, info):
 
 
 @listed()
-def test_words(trace65, words, out):
-    trace65(words, 0, out)
+def test_runs(trace65, given, words, status, out, err, after, stdin):
+    trace65.does(given, words, status, out, err, after, stdin)
 
 
 @listed()
