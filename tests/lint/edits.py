@@ -24,6 +24,7 @@ WRONG_BODIES = {
     "reach65": """no_target_followed range_with_a_taken_byte goes_on_before_its_text""",
     "trace65": """setting_not_compared proposals_left_out longer_item_passed_over""",
     "run65": """program_counter_overflows decimal_difference_overflows""",
+    "move65": """text_is_not_read_back moved_address_overflows""",
 }
 
 # Those that a test refuses, each with the test and its file. A contract can't say whether memory ran out, or how much there was.

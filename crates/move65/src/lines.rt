@@ -12,6 +12,8 @@ pub struct Lines {
     pub numbers: Marks,
     /// An instruction begins there.
     pub instructions: Marks,
+    /// An instruction begins there that has an address of two bytes as its operand, and is no jump or call of it.
+    pub operands: Marks,
     /// Code is called there, or jumped to, or a table has the address; or a line of code has a label behind code that does not go on.
     pub routines: Marks,
 }
@@ -98,6 +100,7 @@ impl Lines {
         let mut lines = Lines {
             numbers: Marks::none(alloc)?,
             instructions: Marks::none(alloc)?,
+            operands: Marks::none(alloc)?,
             routines: Marks::none(alloc)?,
         };
         let mut rest = text;
@@ -124,6 +127,11 @@ impl Lines {
         Ok(lines)
     }
 
+    /// Whether the byte at a place stays, is a number of its own, and is not taken.
+    pub fn is_open(&self, scene: &Scene, taken: &Marks, place: u16) -> bool {
+        self.numbers.get(place) && scene.stays(place) && !taken.get(place)
+    }
+
     /// Takes a line that gives bytes. Returns whether code goes on behind it.
     fn take(&mut self, scene: &Scene, placed: Placed<'_>, goes_on: bool) -> bool {
         let text = operation(placed.line);
@@ -144,8 +152,13 @@ impl Lines {
             self.numbers.set(placed.at.saturating_add(1));
         }
         let opcode = scene.byte(placed.at);
-        if placed.len == 3 && matches!(opcode, Some(0x20) | Some(0x4C)) {
-            self.put_routine(scene, placed.at.saturating_add(1), 0);
+        match opcode {
+            Some(0x20 | 0x4C) if placed.len == 3 => {
+                self.put_routine(scene, placed.at.saturating_add(1), 0)
+            }
+            // Those that end in F are branches.
+            Some(opcode) if placed.len == 3 && opcode % 16 != 15 => self.operands.set(placed.at),
+            _ => {}
         }
         !matches!(opcode, Some(0x4C) | Some(0x6C) | Some(0x60) | Some(0x40))
     }

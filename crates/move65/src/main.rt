@@ -10,6 +10,7 @@ mod command;
 mod failure;
 mod information;
 mod judge;
+mod likely;
 mod lines;
 mod moving;
 mod pair;
@@ -19,6 +20,7 @@ mod request;
 mod runs;
 mod scene;
 mod sightings;
+mod variables;
 mod world;
 
 use command::this_program;

@@ -3,11 +3,13 @@
 use crate::failure::{Failure, Refused};
 use crate::information::{Information, information_of, options_with, read_back};
 use crate::judge::{Findings, Ground};
+use crate::likely::likely_of;
 use crate::lines::Lines;
 use crate::report::Report;
 use crate::request::Moving;
 use crate::runs::{Both, Starts, run_all};
 use crate::scene::Scene;
+use crate::variables::move_variables;
 use crate::world::World;
 use info65::{Tag, TagKind};
 use isa65::Cpu;
@@ -178,13 +180,10 @@ fn find(
         if machine.bus.is_out_of_memory {
             return Err(AllocError);
         }
-        let is_new = found.judge(
-            &mut machine.bus.scene,
-            ground,
-            &machine.bus.reached,
-            &machine.bus.seen,
-        )?;
-        if !is_new {
+        let bus = &mut machine.bus;
+        let variables = &mut found.variables;
+        let has_moved = move_variables(&mut bus.scene, ground.lines, &bus.touched, variables)?;
+        if !has_moved && !found.judge(bus, ground)? {
             break;
         }
     }
@@ -201,7 +200,11 @@ fn starts_of(
 ) -> Result<Starts, AllocError> {
     let entries = entries_of(alloc, &moving.entries, tags, scene)?;
     let routines = addresses_of(alloc, &lines.routines)?;
-    Ok(Starts { entries, routines })
+    Ok(Starts {
+        entries,
+        routines,
+        instructions: lines.instructions.copy(alloc)?,
+    })
 }
 
 /// Both machines, with these images.
@@ -234,13 +237,16 @@ fn study(
     info: &Information,
     listing: Listing<'_>,
 ) -> Result<Findings, AllocError> {
-    let mut found = Findings::new(alloc)?;
+    let mut found = Findings::new(alloc, &info.tags)?;
     let ground = Ground {
         lines: listing.lines,
         ranges: &info.ranges,
         tags: &info.tags,
     };
     find(machine, &mut found, listing.starts, &ground)?;
+    found.sort()?;
+    let bus = &machine.bus;
+    found.likely = likely_of(alloc, &bus.scene, listing.lines, &bus.ran, &found.taken)?;
     Ok(found)
 }
 

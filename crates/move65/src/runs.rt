@@ -3,6 +3,7 @@
 use crate::pair::Pair;
 use crate::rejoin::rejoins;
 use crate::world::World;
+use map65::Marks;
 use run65::{Machine, Registers, Step, Value};
 use std::alloc::AllocError;
 
@@ -27,6 +28,8 @@ const RTI: u8 = 0x40;
 pub struct Starts {
     pub entries: Vec<u16>,
     pub routines: Vec<u16>,
+    /// Where the listing has instructions.
+    pub instructions: Marks,
 }
 
 /// Both machines as one.
@@ -42,8 +45,9 @@ fn forget(machine: &mut Both) {
     machine.registers.decimal = Pair::of(0);
 }
 
-/// Runs from an address, at most so many instructions. What leads out of the image comes back with unknown registers.
-pub fn run_from(machine: &mut Both, from: u16, steps: u32) -> Result<(), AllocError> {
+/// Runs from an address, at most so many instructions, and only those that the listing has. What leads out of the image comes back with
+/// unknown registers.
+fn run_from(machine: &mut Both, starts: &Starts, from: u16, steps: u32) -> Result<(), AllocError> {
     machine.registers = Registers::at(from);
     machine.registers.s = Pair::of(0xFF);
     forget(machine);
@@ -56,7 +60,8 @@ pub fn run_from(machine: &mut Both, from: u16, steps: u32) -> Result<(), AllocEr
             }
             continue;
         }
-        if matches!(machine.bus.opcode(at), None | Some(BRK) | Some(RTI)) {
+        let ends = matches!(machine.bus.opcode(at), None | Some(BRK) | Some(RTI));
+        if ends || !starts.instructions.get(at) {
             return Ok(());
         }
         machine.bus.begin(at);
@@ -73,14 +78,14 @@ pub fn run_all(machine: &mut Both, starts: &Starts) -> Result<(), AllocError> {
         machine.bus.reset(seed);
         machine.bus.clock = 0;
         for &entry in &starts.entries {
-            run_from(machine, entry, LONG)?;
+            run_from(machine, starts, entry, LONG)?;
         }
     }
     machine.bus.reset(0);
     for &routine in &starts.routines {
         for seed in 0..ROUTINE_SEEDS {
             machine.bus.begin_trial(seed.saturating_add(10));
-            run_from(machine, routine, SHORT)?;
+            run_from(machine, starts, routine, SHORT)?;
             machine.bus.end_trial();
         }
     }

@@ -64,9 +64,19 @@ impl Scene {
         self.later.get(self.index(address)?).copied()
     }
 
-    /// Whether the byte at an address is another one in the image that lies later.
-    pub fn has_moved(&self, address: u16) -> bool {
-        self.byte(address) != self.later_byte(address)
+    /// Whether the byte at an address is the same in the image that lies later.
+    pub fn stays(&self, address: u16) -> bool {
+        self.byte(address) == self.later_byte(address)
+    }
+
+    /// The word of the bytes at two addresses.
+    pub fn word(&self, low: u16, high: u16) -> Option<u16> {
+        Some(u16::from_le_bytes([self.byte(low)?, self.byte(high)?]))
+    }
+
+    /// The bytes of an address, as the image that lies later is to have them.
+    pub fn wanted(&self, address: u16) -> [u8; 2] {
+        address.wrapping_add(self.by).to_le_bytes()
     }
 
     /// Sets the byte of an address in the image that lies later.
@@ -76,5 +86,12 @@ impl Scene {
         {
             *byte = value;
         }
+    }
+
+    /// Sets two bytes to an address, in the image that lies later.
+    pub fn move_word(&mut self, low: u16, high: u16, address: u16) {
+        let [low_byte, high_byte] = self.wanted(address);
+        self.set_later(low, low_byte);
+        self.set_later(high, high_byte);
     }
 }

@@ -3,6 +3,7 @@
 use crate::pair::{Pair, Places};
 use crate::scene::Scene;
 use crate::sightings::{Kind, Sighting, Sightings};
+use crate::variables::Touched;
 use map65::Marks;
 use run65::{Bus, Purpose, Word};
 use std::alloc::{AllocError, Global};
@@ -42,6 +43,10 @@ pub struct World {
     /// Where some have run that began at an entry.
     pub reached: Marks,
     pub seen: Sightings,
+    /// What is read and written behind the image, by addresses that are known.
+    pub touched: Touched,
+    /// Bytes that were used as half of an address that lies where it has to, in both runs.
+    pub used: Marks,
 }
 
 /// A byte that nobody knows, by what decides it.
@@ -91,6 +96,11 @@ impl World {
             ran: Marks::none(alloc)?,
             reached: Marks::none(alloc)?,
             seen: Sightings::new(alloc)?,
+            touched: Touched {
+                read: Marks::none(alloc)?,
+                written: Marks::none(alloc)?,
+            },
+            used: Marks::none(alloc)?,
         };
         world.reset(0);
         Ok(world)
@@ -287,6 +297,9 @@ impl Bus<Pair> for World {
         if self.scene.moves(here) || self.scene.moves(base) {
             if later != here.wrapping_add(self.scene.by) {
                 self.see(Kind::Stays(purpose), base, low, high);
+            } else if let ([low], [high]) = (low.places.as_slice(), high.places.as_slice()) {
+                self.used.set(*low);
+                self.used.set(*high);
             }
         } else if later != here
             && !(self.scene.is_behind(here) && later == here.wrapping_add(self.scene.by))
@@ -311,6 +324,9 @@ impl Bus<Pair> for World {
         };
         let is_guess = self.is_guess;
         self.is_guess = false;
+        if !is_guess && self.scene.is_behind(address) {
+            self.touched.read.set(address);
+        }
         match self.cell(address) {
             Some(pair) => Pair {
                 is_mixed: pair.is_mixed || is_guess,
@@ -325,10 +341,14 @@ impl Bus<Pair> for World {
     }
 
     fn write(&mut self, place: Option<u16>, value: Pair) {
+        let is_guess = self.is_guess;
         self.is_guess = false;
         let Some(address) = place else {
             return;
         };
+        if !is_guess && self.scene.is_behind(address) {
+            self.touched.written.set(address);
+        }
         if self.records {
             let before = self.cell(address);
             if self.undo.push((address, before)).is_err() {
