@@ -197,9 +197,9 @@ class Program:
         return self(words, status, "", f"{self.name}: {message}\n", **how)
 
     def does(self, given, words, status, out, err, after, stdin):
-        """A row of files: those of `given` are written before, and those of `after` are there then, as `pairs` reads them.
-        If it fails, there is no other file. Each line of `err` begins with the name of the program. `stdin` is the name
-        of a file."""
+        """A row of files: those of `given` are written before, and those of `after` are there then, as `pairs` reads
+        them. If it fails, there is no other file. Each line of `err` begins with the name of the program. `stdin` is
+        the name of a file."""
         for name, text in pairs(given):
             write(name, text)
         there = set(os.listdir())
@@ -265,8 +265,8 @@ def example(info):
 
     def attribute(name, otherwise):
         found = re.search(rf'(?<![A-Z]){name}\s+"?([^";]*)"?;', text)
-        return otherwise if not found else found[1] if isinstance(otherwise, str) else int(found[1].replace("$", "0x"),
-                                                                                           0)
+        value = found and found[1].replace("$", "0x")
+        return otherwise if not found else value if isinstance(otherwise, str) else int(value, 0)
 
     data = read(attribute("INPUTNAME", ""))[attribute("INPUTOFFS", 0):][:attribute("INPUTSIZE", 65536)]
     return attribute("STARTADDR", 65536 - len(data)), data

@@ -321,8 +321,8 @@ class Text:
                     if kind == 7
                     else f"{pick(('.word', '.addr', '.dbyt', '.dword'))} {self.some(self.difference)}")
         if kind < 11:
-            return f".res {self.number(20 if self.any(40) else 70000)}" + (f", {self.number(260)}" if self.any(2) == 0
-                                                                           else "")
+            count = self.number(20 if self.any(40) else 70000)
+            return f".res {count}" + (f", {self.number(260)}" if self.any(2) == 0 else "")
         return pick(("asl", "lsr", "rol", "ror", "ASL", "Ror", pick(NEWER)))
 
     def operand(self):

@@ -69,11 +69,11 @@ class Use:
 
     def enlarged(self):
         """Inputs of a run that writes more than 8 KiB, to standard output."""
-        name, text = {"da65": ("a.bin", 5000 * b"\xea"), "trace65": ("y.info",
-                                                                     read("in/y.info") + 5000 * b"# a comment\n"),
-                      "name65": ("t.s", read("in/t.s") + 5000 * b"; a comment\n")}.get(self.kind,
-                                                                                       ("t.s", " .res 20000\n"))
-        write("in/" + name, text)
+        name, text = {"da65": ("in/a.bin", 5000 * b"\xea"),
+                      "trace65": ("in/y.info", read("in/y.info") + 5000 * b"# a comment\n"),
+                      "name65": ("in/t.s", read("in/t.s") + 5000 * b"; a comment\n"),
+                      }.get(self.kind, ("in/t.s", " .res 20000\n"))
+        write(name, text)
         if self.tool == "as65":
             write("in/a.bin", 10000 * b"\0\1")
         return self
@@ -81,12 +81,12 @@ class Use:
     def wanted(self):
         """What the run writes."""
         whole = read("in/y.info").decode() if self.options == "all" else ""
-        return {"trace65": whole + REPORT, "as65": IMAGE, "compare": "$1006: EA -> 60, line 10: rts\n"}.get(self.kind,
-                                                                                                            LISTING)
+        differs = "$1006: EA -> 60, line 10: rts\n"
+        return {"trace65": whole + REPORT, "as65": IMAGE, "compare": differs}.get(self.kind, LISTING)
 
     def words(self):
-        to = ["--compare", self.name["image"]] if self.kind == "compare" else ["-o",
-                                                                               self.out] if self.out is not None else []
+        to = [] if self.out is None else ["-o", self.out]
+        to = ["--compare", self.name["image"]] if self.kind == "compare" else to
         return ["-i", self.name["info"], *self.every, *to, self.name[self.main]]
 
     def go(self, program=None, words=None, **how):

@@ -42,11 +42,9 @@ def test_0_to_40(da65, kind):
                  "labels": f"; c{k}\n{f'n{k}:':8}nop\n"}[kind]
 
 
-ATTRIBUTES = ("INPUTOFFS 0", "INPUTSIZE 82", "STARTADDR $1000", 'CPU "6502"', "HEXOFFS off", "PAGELENGTH 0",
-              "COMMENTS 0",
-              "MNEMONICCOLUMN 9", "ARGUMENTCOLUMN 17", "COMMENTCOLUMN 49", "TEXTCOLUMN 81", "LABELBREAK 7",
-              "NEWLINEAFTERJMP off",
-              "NEWLINEAFTERRTS off")
+ATTRIBUTES = ('INPUTOFFS 0|INPUTSIZE 82|STARTADDR $1000|CPU "6502"|HEXOFFS off|PAGELENGTH 0|COMMENTS 0|MNEMONICCOLUMN 9'
+              "|ARGUMENTCOLUMN 17|COMMENTCOLUMN 49|TEXTCOLUMN 81|LABELBREAK 7|NEWLINEAFTERJMP off"
+              "|NEWLINEAFTERRTS off").split("|")
 
 
 @pytest.mark.parametrize("between", (";", ";}GLOBAL{"), ids=("in one group", "in groups of their own"))
@@ -68,9 +66,8 @@ def test_tables(da65, size, most, directive, entry, names, request):
         lists(da65, image(count, 0x41), body + count % size * "        .byte   $41\n", info)
 
 
-OPTIONS = ("-i empty.info", "-o /dev/stdout", "-S 0x1000", "--cpu 6502", "--comments 0", "--mnemonic-column 9",
-           "--argument-column 17",
-           "--comment-column 49", "--text-column 81", "--label-break 7", "--hexoffs", "--")
+OPTIONS = ("-i empty.info|-o /dev/stdout|-S 0x1000|--cpu 6502|--comments 0|--mnemonic-column 9|--argument-column 17|"
+           "--comment-column 49|--text-column 81|--label-break 7|--hexoffs|--").split("|")
 
 
 def test_options_and_names(da65):
@@ -92,8 +89,8 @@ def test_lengths_of_names_and_comments(da65, lengths):
     image(1)
     for length in lengths:
         long = length * "n"
-        for group, most, body in ((f'LABEL{{ADDR 0;NAME "{long}";', 80,
-                                   f"{long + ':':7} nop\n" if length <= 7 else f"{long}:\n{NOP}"),
+        label = f"{long + ':':7} nop\n" if length <= 7 else f"{long}:\n{NOP}"
+        for group, most, body in ((f'LABEL{{ADDR 0;NAME "{long}";', 80, label),
                                   (f'SEGMENT{{START 0;END 0;NAME "{long}";', 80, f'        .segment "{long}"\n{NOP}'),
                                   (f'LABEL{{ADDR 0;NAME "n";COMMENT "{long}";', 200, f"; {long}\nn:      nop\n")):
             if length <= most:

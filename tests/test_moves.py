@@ -130,16 +130,16 @@ def propose(sample):
 
 def count_code(sample, info, found):
     code, all_bytes = sample.code, set(range(sample.start, sample.start + len(sample.image)))
-    reached = all_bytes - addresses((first, last) for first, last,
-                                    kind in RANGE.findall(info + found) if kind != "Code")
+    ranges = ((first, last) for first, last, kind in RANGE.findall(info + found) if kind != "Code")
+    reached = all_bytes - addresses(ranges)
     sample.figures.update(code=len(code), reached=len(code & reached))
     sample.figures.update(constants=len(all_bytes - code), taken=len(reached - code))
 
 
 def count_addresses(sample, found):
     pairs = [sample.is_address(int(low, 16), int(high, 16)) for low, high in HALVES.findall(found)]
-    tables = [range(int(first, 16), int(last, 16), 2) for first, last,
-              kind in RANGE.findall(found) if kind in ("AddrTable", "RtsTable")]
+    tables = [range(int(first, 16), int(last, 16), 2)
+              for first, last, kind in RANGE.findall(found) if kind in ("AddrTable", "RtsTable")]
     rows = [all(sample.is_address(at, at + 1) for at in table) for table in tables]
     sample.figures.update(pairs=pairs.count(True), false_pairs=pairs.count(False), rows=rows.count(True),
                           false_rows=rows.count(False))
@@ -205,9 +205,8 @@ def test_corpus(trace65, da65, as65, name65, name, record_property, request):
     measure(sample)
     record_property("figures", dict(sample.figures))
     if request.config.getoption("--write"):
-        sample.path.write_text(re.sub(r"^; expect:.*", lambda _: f"; expect: {sample.said}", sample.text, count=1,
-                                      flags=re.M))
-        return
+        said = f"; expect: {sample.said}"
+        return sample.path.write_text(re.sub(r"^; expect:.*", lambda _: said, sample.text, count=1, flags=re.M))
     same("".join(sample.head["expect"]).replace(", ", ",\n"), sample.said.replace(", ", ",\n"),
          f"{name}.s: the figures")
     assert not sample.lost, "trace65 does not show this"

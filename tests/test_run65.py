@@ -181,8 +181,8 @@ def test_states(step65, cpu, tables, kind, request):
     defined = f'-D KIND={kind} -D STATE={size} -D POKES={POKES * 3} -D PEEKS={PEEKS}'
     command(f'ca65 -g {defined} -o driver.o {ROOT}/tests/run65.s')
     command(f'ld65 -C {ROOT}/tests/run65.cfg -Ln driver.map -o driver driver.o')
-    labels = {name: int(value, 16) for value, name in re.findall(r'al ([0-9A-F]{6}) \.(here|there)',
-                                                                 read('driver.map').decode())}
+    places = re.findall(r'al ([0-9A-F]{6}) \.(here|there)', read('driver.map').decode())
+    labels = {name: int(value, 16) for value, name in places}
     State.is_cmos, rows, draw = cpu != '6502', table(*tables.split()), random.Random(f'{seed} {cpu}')
     codes = sorted(rows)
     states = [State(draw, codes[k % len(codes)], *rows[codes[k % len(codes)]], labels['here'], labels['there'])

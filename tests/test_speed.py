@@ -93,9 +93,8 @@ def text(da65, as65):
         data, _, info = name.partition(" ")
         if data == "numbers":
             as65(f"-S 0 -o halves.bin {write('halves.s', HALVES)}")
-        info = INFO.get(info, "") if data != "numbers" else "".join(f'LABEL {{ ADDR ${4 * n:04X}; NAME "n{n}"; }};\n'
-                                                                    for n in range(8000))
-        image = read("halves.bin") if data == "numbers" else DATA[data]
+            named = "".join(f'LABEL {{ ADDR ${4 * n:04X}; NAME "n{n}"; }};\n' for n in range(8000))
+        info, image = (named, read("halves.bin")) if data == "numbers" else (INFO.get(info, ""), DATA[data])
         return da65(["-S", "0", "-i", write("l.info", info), write("l.bin", image)], 0, None).out
     return made
 
