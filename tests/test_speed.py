@@ -136,9 +136,11 @@ def test_large_information_files(da65, shows, kind, count, half, limit):
 def files(what, kind, count):
     """The ends of names, and texts, of that many groups for the bytes of an image; of jumps beside as many labels; of
     definitions; of stretches that differ, in lines or in one line."""
-    jumps = b"".join(b"\x4c" + (32768 + k * 7919 % count).to_bytes(2, "little") for k in range(count))
+    def jumps():
+        return b"".join(b"\x4c" + (32768 + k * 7919 % count).to_bytes(2, "little") for k in range(count))
+
     return {"bytes": lambda: {"info": information(kind, count), "bin": count * b"\xea"},
-            "jumps": lambda: {"info": groups(kind, count), "bin": jumps},
+            "jumps": lambda: {"info": groups(kind, count), "bin": jumps()},
             "definitions": lambda: {"s": groups("definitions", count) + " nop\n"},
             "lines": lambda: {"s": count * " .byte 0,1\n", "bin": bytes(2 * count)},
             "line": lambda: {"s": " .byte 0,1" + (count - 1) * ",0,1" + "\n", "bin": bytes(2 * count)}}[what]()
