@@ -3,12 +3,17 @@ use Rattle.std.proofs.Common.{◌≡◌, ◌+◌, ◌≤◌, ◌<◌, ◌&&◌, 
 use Rattle.std.proofs.lemmas.Bool.Decides.{nat_tests}
 use Rattle.std.specs.List.{list_any}
 use Rattle.std.proofs.lemmas.List.Folds.{list_any-append, list_any_more}
-use Rattle.map65.specs.Words.{MapView, addresses}
-use Rattle.reach65.specs.Words.{is_code, is_code_of}
+use Rattle.info65.specs.Words.{has_address}
+use Rattle.map65.specs.Words.{MapView, addresses, is_between}
+use Rattle.reach65.specs.Words.{RangeSpec, is_code, is_code_of}
 
--- the bytes of an instruction, one by one
-pub in_span : (from len a : ℕ) → len ≤ 3 → ((nat_lt 0 len && from == a) || ((nat_lt 1 len && from + 1 == a) || (nat_lt 2 len && from + 2 == a))) ≡ (nat_le from a && nat_lt a (from + len))
-in_span from len a few = grind (arith, nat_tests)
+-- a span is what lies from its first address to before its last one
+pub in_span : (from to a : ℕ) → to ≤ 65536 → is_between from to a ≡ (nat_le from a && nat_lt a to)
+in_span from to a low = grind (arith, nat_tests)
+
+-- so it is for the addresses of a range
+pub in_range : (r : RangeSpec) (a : ℕ) → r.last < 65536 → is_between r.first (r.last + 1) a ≡ has_address r a
+in_range r a low = grind (arith, nat_tests)
 
 -- one address of the image more
 addresses_more : (k a : ℕ) → addresses (k + 1) a ≡ addresses k a ++ (a + k) ∷ []

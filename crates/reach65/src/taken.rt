@@ -1,6 +1,6 @@
 //! Which addresses are taken.
 
-ghost use Rattle.std.specs.Prelude.{◌≡◌, ◌+◌, ◌≤◌, ◌<◌, ◌==◌, ◌&&◌, IfOk, nat_le, nat_lt, true};
+ghost use Rattle.std.specs.Prelude.{◌≡◌, IfOk};
 ghost use Rattle.info65.specs.Words.{has_address};
 ghost use Rattle.map65.specs.Words.{is_marked};
 ghost use Rattle.reach65.specs.Words.{Adds, AreMarkedBy, is_code, is_code_of, is_taken};
@@ -10,30 +10,8 @@ use info65::RangeSpec;
 use map65::Marks;
 use std::alloc::{AllocError, Global};
 
-/// Marks the address, if that is so.
-fn mark_if(marks: &mut Marks, address: usize, is: bool)
-    requires { is ≡ true → address < 65536 }
-    ensures { Adds (λ a. is && address == a) marks.old marks.new }
-{
-    if is {
-        marks.set(address as u16);
-    }
-}
-
-/// Marks the bytes of an instruction of this length. It has at most three, and setting each by itself takes less time than a loop.
-#[tactic(auto, using(crate::proofs::TakenLemmas::in_span))]
-fn mark_bytes(marks: &mut Marks, address: usize, len: u8)
-    requires few { len ≤ 3 }
-    requires room { address + len ≤ 65536 }
-    ensures { Adds (λ a. nat_le address a && nat_lt a (address + len)) marks.old marks.new }
-{
-    mark_if(marks, address, 0 < len);
-    mark_if(marks, address + 1, 1 < len);
-    mark_if(marks, address + 2, 2 < len);
-}
-
 /// Marks the bytes of the instruction of the address, if it is reached.
-#[tactic(auto, unfolding(crate::specs::Taken::has_byte))]
+#[tactic(auto, unfolding(crate::specs::Taken::has_byte), using(crate::proofs::TakenLemmas::in_span))]
 fn mark_code(code: &mut Marks, steps: &Steps<'_, '_>, reached: &Marks, address: u16)
     ensures { Adds (is_code_of steps.now.map (is_marked reached.now) address) code.old code.new }
 {
@@ -41,7 +19,8 @@ fn mark_code(code: &mut Marks, steps: &Steps<'_, '_>, reached: &Marks, address: 
         return;
     }
     if let Some(op) = steps.instruction_at(address) {
-        mark_bytes(code, usize::from(address), op.mode.len());
+        let from = usize::from(address);
+        code.set_span(from, from + usize::from(op.mode.len()));
     }
 }
 
@@ -59,12 +38,11 @@ pub fn code_of(alloc: Global, steps: &Steps<'_, '_>, reached: &Marks) -> Result<
 }
 
 /// Marks the addresses of a range.
+#[tactic(auto, using(crate::proofs::TakenLemmas::in_range))]
 fn mark_range(marks: &mut Marks, range: RangeSpec)
     ensures { Adds (has_address range) marks.old marks.new }
 {
-    'range: for at in usize::from(range.first)..usize::from(range.last) + 1 {
-        marks.set(at as u16);
-    }
+    marks.set_span(usize::from(range.first), usize::from(range.last) + 1);
 }
 
 /// Returns marks of exactly the addresses that are marked in `code` or that a range of the information file has. Fails only if the

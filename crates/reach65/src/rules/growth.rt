@@ -6,11 +6,13 @@ use crate::rules::entries::pointers_of;
 use crate::rules::halves::{is_first, pairs_at};
 use crate::rules::jumps::join_jumps;
 use crate::rules::obstacles::{Stops, worst_of};
+use crate::rules::readers::Table;
 use crate::rules::search::{Least, Search};
 use crate::rules::step::Steps;
 use crate::rules::words::Words;
 use map65::ADDRESSES;
 use std::alloc::{AllocError, Global};
+use std::mem;
 
 /// The least number of instructions of a sound beginning to which a table or a word of a row leads.
 pub const IN_TABLE: usize = 3;
@@ -94,12 +96,8 @@ fn chain_of(
     let mut pieces = Vec::new(alloc);
     let mut at = from;
     for _ in 0..PIECES {
-        if search.marks.get(at) {
-            return Ok(if 3 <= at.saturating_sub(from) {
-                pieces
-            } else {
-                Vec::new(alloc)
-            });
+        if search.marks.get(at) && 3 <= at.saturating_sub(from) {
+            return Ok(pieces);
         }
         if search.code.get(at) || !search.would_join(at, Least::Count(1))? {
             break;
@@ -117,42 +115,33 @@ fn chain_of(
     Ok(pieces)
 }
 
-/// Lets a candidate join, if it is a sound beginning, or one of short pieces. Adds what is reached from it to `fresh`.
+/// Lets a candidate join, if it is a sound beginning, or one of short pieces.
 fn join_candidate(
     alloc: Global,
     search: &mut Search<'_, '_, '_>,
-    fresh: &mut Vec<u16>,
     candidate: Candidate,
 ) -> Result<(), AllocError> {
-    if search.marks.get(candidate.address) || search.is_tired() {
+    let Candidate { address, behind } = candidate;
+    if search.marks.get(address) || search.is_tired() {
         return Ok(());
     }
-    let least = if candidate.behind {
-        Least::Behind(LEAST)
-    } else {
-        Least::Count(LEAST)
-    };
-    if search.join(candidate.address, least)? {
-        return fresh.extend_from_slice(search.added.as_slice());
-    }
-    if candidate.behind {
-        for &piece in &chain_of(alloc, search, candidate.address)? {
-            if !search.marks.get(piece) && search.join(piece, Least::Count(1))? {
-                fresh.extend_from_slice(search.added.as_slice())?;
-            }
+    if !behind {
+        search.join(address, Least::Count(LEAST))?;
+    } else if !search.join(address, Least::Behind(LEAST))? {
+        for &piece in &chain_of(alloc, search, address)? {
+            search.join(piece, Least::Count(1))?;
         }
     }
     Ok(())
 }
 
-/// Lets the sound beginnings join that these reached instructions give, and those right behind rows, in the order of their addresses. Returns
-/// what is reached from them.
+/// Lets the sound beginnings join that these reached instructions give, and those right behind rows, in the order of their addresses.
 fn join_candidates(
     alloc: Global,
     search: &mut Search<'_, '_, '_>,
     reasons: &[u16],
     behind: &[u16],
-) -> Result<Vec<u16>, AllocError> {
+) -> Result<(), AllocError> {
     let mut candidates = Vec::new(alloc);
     for &reason in reasons {
         put_candidates_of(&mut candidates, search, reason)?;
@@ -161,79 +150,71 @@ fn join_candidates(
         put_candidate(&mut candidates, search, address, true)?;
     }
     candidates.sort()?;
-    let mut fresh = Vec::new(alloc);
     for &candidate in &candidates {
-        join_candidate(alloc, search, &mut fresh, candidate)?;
-    }
-    Ok(fresh)
-}
-
-/// Lets sound beginnings join that what is newly reached gives, until there are no more. Each time but the last at least one address
-/// joins, so there are fewer times than addresses.
-fn grow(alloc: Global, search: &mut Search<'_, '_, '_>, fresh: Vec<u16>) -> Result<(), AllocError> {
-    let mut fresh = fresh;
-    for _round in 0..ADDRESSES {
-        if fresh.is_empty() {
-            return Ok(());
-        }
-        fresh = join_candidates(alloc, search, &fresh, &[])?;
+        join_candidate(alloc, search, candidate)?;
     }
     Ok(())
 }
 
-/// Lets the address of an entry of a table join, if it is a sound beginning, which may be an instruction in the operand of a reached `bit`. Adds what
-/// is reached from it to `fresh`. Returns whether code begins there.
-fn join_entry(
-    search: &mut Search<'_, '_, '_>,
-    fresh: &mut Vec<u16>,
-    to: u16,
-    least: usize,
-) -> Result<bool, AllocError> {
-    let least = if search.code.get(to) { 1 } else { least };
-    if search.marks.get(to) {
-        return Ok(true);
+/// Lets sound beginnings join that what is newly reached gives, until there are no more. Each time but the last at least one address
+/// joins, so there are fewer times than addresses.
+fn grow(alloc: Global, search: &mut Search<'_, '_, '_>) -> Result<(), AllocError> {
+    for _round in 0..ADDRESSES {
+        let reasons = mem::replace(&mut search.joined, Vec::new(alloc));
+        if reasons.is_empty() {
+            break;
+        }
+        join_candidates(alloc, search, &reasons, &[])?;
     }
-    let joins = search.join(to, Least::Count(least))?;
-    if joins {
-        fresh.extend_from_slice(search.added.as_slice())?;
-    }
-    Ok(joins)
+    Ok(())
 }
 
-/// Lets the sound beginnings join to which the entries of tables lead: of a table that reached code reads, up to one that leads to no code, unless
-/// it is whole, and of one that the information file has in halves. Returns what is reached from them.
-fn join_tables(alloc: Global, search: &mut Search<'_, '_, '_>) -> Result<Vec<u16>, AllocError> {
-    let mut fresh = Vec::new(alloc);
+/// Lets the address of an entry of a table join, if it is a sound beginning, which may be an instruction in the operand of a reached `bit`. Returns
+/// whether code begins there.
+fn join_entry(search: &mut Search<'_, '_, '_>, to: u16, least: usize) -> Result<bool, AllocError> {
+    let least = if search.code.get(to) { 1 } else { least };
+    Ok(search.marks.get(to) || search.join(to, Least::Count(least))?)
+}
+
+/// Lets the sound beginnings join to which the entries of a table lead that reached code reads, up to one that leads to no code, unless it is whole.
+fn join_table(search: &mut Search<'_, '_, '_>, table: Table) -> Result<(), AllocError> {
+    let steps = search.steps;
+    let mut is_whole = false;
+    for index in 0..table.most() {
+        let (low, high) = table.places(index);
+        let Some(to) = table.entry(steps.image(), index) else {
+            break;
+        };
+        if search.code.get_at(low) || search.code.get_at(high) {
+            break;
+        }
+        let joins = join_entry(search, to, IN_TABLE)?;
+        is_whole = is_whole || !joins && table.is_whole(steps);
+        if !joins && !is_whole {
+            break;
+        }
+    }
+    Ok(())
+}
+
+/// Lets the sound beginnings join to which the entries of tables lead, of those that reached code reads, and of those that the information file has in
+/// halves.
+fn join_tables(alloc: Global, search: &mut Search<'_, '_, '_>) -> Result<(), AllocError> {
     let steps = search.steps;
     let tables = search
         .readers
         .tables(alloc, steps, &search.marks, &search.code)?;
     for &table in &tables {
-        if !table.is_code {
-            continue;
-        }
-        let mut is_whole = false;
-        for index in 0..table.most() {
-            let (low, high) = table.places(index);
-            let Some(to) = table.entry(steps.image(), index) else {
-                break;
-            };
-            if search.code.get_at(low) || search.code.get_at(high) {
-                break;
-            }
-            let joins = join_entry(search, &mut fresh, to, IN_TABLE)?;
-            is_whole = is_whole || !joins && table.is_whole(steps);
-            if !joins && !is_whole {
-                break;
-            }
+        if table.is_code {
+            join_table(search, table)?;
         }
     }
     let mut declared = declared_of(alloc, steps, &tables)?;
     declared.retain(|split| split.table.is_code && 1 < split.count);
     for &to in &addresses_of(alloc, steps.image(), &declared)? {
-        join_entry(search, &mut fresh, to, 1)?;
+        join_entry(search, to, 1)?;
     }
-    Ok(fresh)
+    Ok(())
 }
 
 /// The entries with those that join, and what kept others from joining.
@@ -253,32 +234,25 @@ pub fn follow(
     entries: &[u16],
 ) -> Result<Followed, AllocError> {
     let mut search = Search::from(alloc, steps, entries)?;
-    let mut fresh = Vec::from_slice(alloc, search.added.as_slice())?;
     for &address in &pointers_of(alloc, steps.map())? {
-        if search.join(address, Least::Count(1))? {
-            fresh.extend_from_slice(search.added.as_slice())?;
-        }
+        search.join(address, Least::Count(1))?;
     }
     let info = steps.map().info();
     for k in 0..info.given_count() {
-        let address = info.given(k).address;
-        if search.join(address, Least::Count(LEAST))? {
-            fresh.extend_from_slice(search.added.as_slice())?;
-        }
+        search.join(info.given(k).address, Least::Count(LEAST))?;
     }
-    grow(alloc, &mut search, fresh)?;
+    grow(alloc, &mut search)?;
     let words = Words::of(alloc, &search)?;
     for _scan in 0..SCANS {
-        let mut fresh = join_tables(alloc, &mut search)?;
-        fresh.extend_from_slice(&words.join_rows(alloc, &mut search)?)?;
-        fresh.extend_from_slice(&join_jumps(alloc, &mut search)?)?;
+        join_tables(alloc, &mut search)?;
+        words.join_rows(alloc, &mut search)?;
+        join_jumps(&mut search)?;
         let behind = words.behind_rows(alloc, &search)?;
-        let more = join_candidates(alloc, &mut search, &[], &behind)?;
-        fresh.extend_from_slice(&more)?;
-        if fresh.is_empty() {
+        join_candidates(alloc, &mut search, &[], &behind)?;
+        if search.joined.is_empty() {
             break;
         }
-        grow(alloc, &mut search, fresh)?;
+        grow(alloc, &mut search)?;
     }
     let obstacles = worst_of(alloc, &search.obstacles)?;
     let Search { entries, calls, .. } = search;

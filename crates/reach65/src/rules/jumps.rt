@@ -5,7 +5,7 @@ use crate::rules::growth::IN_TABLE;
 use crate::rules::search::{Least, Search};
 use crate::rules::step::Steps;
 use isa65::{Mnemonic, Mode};
-use std::alloc::{AllocError, Global};
+use std::alloc::AllocError;
 
 /// How many jumps a row has at least.
 const ROW: usize = 3;
@@ -51,9 +51,9 @@ fn is_row(search: &mut Search<'_, '_, '_>, from: usize, count: usize) -> Result<
     Ok(is_new && count.saturating_mul(3) <= good.saturating_mul(4))
 }
 
-/// Lets the jumps of rows join, three at least one behind the other, of which three quarters lead to code. Returns what is reached from them.
-pub fn join_jumps(alloc: Global, search: &mut Search<'_, '_, '_>) -> Result<Vec<u16>, AllocError> {
-    let mut fresh = Vec::new(alloc);
+/// Lets the jumps of rows join, three at least one behind the other, of which three quarters lead to code. Fails only if an
+/// allocation failed.
+pub fn join_jumps(search: &mut Search<'_, '_, '_>) -> Result<(), AllocError> {
     let image = search.steps.image();
     let (start, end) = ends(image);
     let mut behind = start;
@@ -71,13 +71,10 @@ pub fn join_jumps(alloc: Global, search: &mut Search<'_, '_, '_>) -> Result<Vec<
             continue;
         }
         for at in (from..behind).step_by(JUMP) {
-            if let Some(jump) = address(at)
-                && !search.marks.get(jump)
-                && search.join(jump, Least::Count(1))?
-            {
-                fresh.extend_from_slice(search.added.as_slice())?;
+            if let Some(jump) = address(at) {
+                search.join(jump, Least::Count(1))?;
             }
         }
     }
-    Ok(fresh)
+    Ok(())
 }

@@ -38,8 +38,10 @@ pub struct Search<'a, 'f, 'm> {
     pub marks: Marks,
     /// What the instructions have that have joined.
     pub code: Marks,
+    /// Where the instructions begin that have joined and that no rule has looked at.
+    pub joined: Vec<u16>,
     todo: Vec<u16>,
-    pub added: Vec<u16>,
+    added: Vec<u16>,
     /// Those that were marked since the last trial began.
     fresh: Marks,
     /// Whether the last trial has led to what was marked before.
@@ -84,6 +86,7 @@ impl<'a, 'f, 'm> Search<'a, 'f, 'm> {
             entries: Vec::new(alloc),
             marks: Marks::none(alloc)?,
             code: Marks::none(alloc)?,
+            joined: Vec::new(alloc),
             todo: Vec::new(alloc),
             added: Vec::new(alloc),
             fresh: Marks::none(alloc)?,
@@ -255,7 +258,7 @@ impl<'a, 'f, 'm> Search<'a, 'f, 'm> {
                 self.readers.put(placed)?;
             }
         }
-        Ok(())
+        self.joined.extend_from_slice(self.added.as_slice())
     }
 
     /// Takes the last entry back, and what was added since.

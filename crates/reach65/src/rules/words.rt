@@ -177,12 +177,10 @@ impl<'i> Words<'i> {
         Ok(false)
     }
 
-    /// Lets the sound beginnings among the words of a row join, up to one that leads to no code. Adds what is reached from them to `fresh`, and
-    /// marks where the words begin.
+    /// Lets the sound beginnings among the words of a row join, up to one that leads to no code. Marks where the words begin.
     fn join_row(
         &self,
         search: &mut Search<'_, '_, '_>,
-        fresh: &mut Vec<u16>,
         rows: &mut Marks,
         less: u16,
         from: usize,
@@ -193,11 +191,8 @@ impl<'i> Words<'i> {
             let Some(to) = self.target(search, less, at) else {
                 break;
             };
-            if !search.marks.get(to) {
-                if !search.join(to, Least::Count(IN_TABLE))? {
-                    break;
-                }
-                fresh.extend_from_slice(search.added.as_slice())?;
+            if !search.marks.get(to) && !search.join(to, Least::Count(IN_TABLE))? {
+                break;
             }
             rows.set_span(at, at.saturating_add(1));
             at = at.saturating_add(2);
@@ -205,26 +200,22 @@ impl<'i> Words<'i> {
         Ok(())
     }
 
-    /// Lets the sound beginnings among the words of rows join. Returns what is reached from them.
+    /// Lets the sound beginnings among the words of rows join. Fails only if an allocation failed.
     pub fn join_rows(
         &self,
         alloc: Global,
         search: &mut Search<'_, '_, '_>,
-    ) -> Result<Vec<u16>, AllocError> {
-        let mut fresh = Vec::new(alloc);
-        if self.worth.is_empty() {
-            return Ok(fresh);
-        }
+    ) -> Result<(), AllocError> {
         for less in [0u16, 1] {
             let mut rows = Marks::none(alloc)?;
             for &at in &self.worth {
                 let from = usize::from(at);
                 if !rows.get(at) && self.begins_row(search, less, from)? {
-                    self.join_row(search, &mut fresh, &mut rows, less, from)?;
+                    self.join_row(search, &mut rows, less, from)?;
                 }
             }
         }
-        Ok(fresh)
+        Ok(())
     }
 
     /// Whether a word at the address leads to reached code, this much after it.
