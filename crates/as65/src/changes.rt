@@ -110,7 +110,7 @@ impl<'i, 'b, 's, 'a, 't, 'l, 'n> Scene<'i, 'b, 's, 'a, 't, 'l, 'n> {
         }
     }
 
-    /// The same of the address that something had, by a label.
+    /// The address that something had before, by a label, as an offset in the image.
     fn earlier_offset(&self, label: Label, at: u64) -> Option<usize> {
         self.offset(earlier(label, at)?)
     }
@@ -252,7 +252,7 @@ impl<'i, 'b, 's, 'a, 't, 'l, 'n> Scene<'i, 'b, 's, 'a, 't, 'l, 'n> {
         Ok(lines.len())
     }
 
-    /// The same of the last lines, down to an offset.
+    /// How many of the last lines have only moved with a label, down to an offset of the image.
     fn moved_last(
         &self,
         alloc: Global,

@@ -70,7 +70,7 @@ fn start_for(start: u16, at: u64, name: &[u8]) -> Option<Option<u16>>
     }
 }
 
-/// The same of the label of a line at `at`, if it has a name of that form.
+/// The start from which the label of a line at `at` would be at the address in its name, if it has a name of that form.
 #[tactic(auto, unfolding(crate::specs::NamedStart::start_in_line))]
 fn start_in_line(
     alloc: Global,

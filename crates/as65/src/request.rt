@@ -82,8 +82,8 @@ fn is_compare_word(word: &[u8]) -> bool
     word == b"--compare".as_slice() || word.starts_with(b"--compare=")
 }
 
-/// The same by the words of the process, of which only the first bytes are looked at, so that it takes no memory. No contract can say
-/// what these words are.
+/// Whether the words of the process ask for a comparison. Only their first bytes are looked at, so that it takes no memory. No
+/// contract can say what these words are.
 pub fn is_compared_by<E: Env>(process: &E) -> bool {
     let mut word = [0u8; LONGEST];
     for at in 1..usize::MAX {

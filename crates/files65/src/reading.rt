@@ -55,7 +55,7 @@ fn contents_or_fault(alloc: Global, read: Option<Vec<u8>>, name: &str) -> Result
     }
 }
 
-/// The same, where the file must be there: fails with `Reading` if it can't be opened or read.
+/// The contents of a file that must be there: fails with `Reading` if it can't be opened or read.
 pub fn needed_contents(rt: &HostRuntime, name: &str, limit: usize) -> Result<Vec<u8>, FileFault>
     ensures { IfErr result (IsUnread name.now) }
 {

@@ -64,7 +64,7 @@ impl<'w, 't, 'l> Operands<'w, 't, 'l> {
         }
     }
 
-    /// The same operands.
+    /// A copy of what is left of them.
     pub fn copied(&self) -> Operands<'w, 't, 'l> {
         Operands::new(
             self.wishes,

@@ -90,7 +90,7 @@ impl<'b> Group<'b> {
         }
     }
 
-    /// The same, if there is one.
+    /// The address this many bytes after one, if there is one.
     fn place(self, address: Option<u16>, count: u16) -> Result<Option<u16>, Refusal> {
         match address {
             Some(address) => Ok(Some(self.later(address, count)?)),

@@ -22,7 +22,7 @@ pub struct Step {
     pub next: Option<u16>,
     /// The address that it goes to by its operand.
     pub to: Option<u16>,
-    /// The same, if it lies in the image.
+    /// The address that it goes to by its operand, if it lies in the image.
     pub goal: Option<u16>,
     /// The word that is its operand.
     pub operand: Option<u16>,

@@ -190,7 +190,7 @@ fn each_option(rt: HostRuntime) {
     }
 }
 
-/// What it prints without memory for the words, without memory for the options, and with the options of the row. tests/growth.sh
+/// What it prints without memory for the words, without memory for the options, and with the options of the row. `tests/test_growth.py`
 /// refuses each of its allocations in turn.
 #[test]
 fn options_in_little_memory(rt: HostRuntime) {

@@ -12,7 +12,7 @@ const ONE: &str = "ASMINC { FILE \"k.inc\"; };";
 /// The image 4C 10 00 at $1000 where $0010 is named K.
 const NAMED: &str = "K               := $0010\n\n        jmp     K\n";
 
-/// The same where it has its default name.
+/// The listing of that image where $0010 has its default name.
 const UNNAMED: &str = "L0010           := $0010\n\n        jmp     L0010\n";
 
 const JUMP: &[u8] = &[0x4C, 0x10, 0x00];

@@ -27,7 +27,7 @@ pub const THREE_LISTING: &[u8] =
 /// A command line with the input's name.
 pub const NAMED: &[&str] = &["image.bin"];
 
-/// The same with a start.
+/// A command line with a start and the input's name.
 pub const AT_1000: &[&str] = &["-S", "$1000", "image.bin"];
 
 /// What a run under a command line gives, as text: its result, its messages and its listing. Writers that take one byte at each
@@ -59,7 +59,7 @@ pub fn shown(rt: &impl Abort, alloc: Global, ran: &Ran) -> String {
     format!(in alloc; "{result:?}\n{messages}{listing}").expect(rt, "format")
 }
 
-/// The same for an image from an address on, without files.
+/// What a run of an image from an address on gives, as text, without files.
 pub fn gives_from(rt: &impl Abort, alloc: Global, start: u16, info: &str, image: &[u8]) -> String {
     let start = format!(in alloc; "{start}").expect(rt, "format");
     let words = ["-S", start.as_str(), "image.bin"];
@@ -142,7 +142,7 @@ pub fn run_with<A: Allocator + Copy>(
     run_including(alloc, heap, options, info, &[], image)
 }
 
-/// The same with files that the information file may include.
+/// A run with these options, an information file, and files that it may include.
 pub fn run_including<A: Allocator + Copy>(
     alloc: Global,
     heap: A,
@@ -169,7 +169,7 @@ pub fn run_including<A: Allocator + Copy>(
     }
 }
 
-/// The same with ample memory, and writers that take one byte at each write.
+/// A run with ample memory, whose writers take one byte at each write.
 fn run_by_bytes(
     alloc: Global,
     options: &Options,
@@ -195,7 +195,7 @@ fn run_by_bytes(
     }
 }
 
-/// The same over these devices.
+/// A run with these options over these devices.
 pub fn run_on<A: Allocator + Copy, R: Read + Drop, W: Write + Drop, M: Write + Drop>(
     heap: A,
     options: &Options,

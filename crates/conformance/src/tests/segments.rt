@@ -236,7 +236,7 @@ fn thousand_segments(alloc: Global) -> Result<String, AllocError> {
     Ok(info)
 }
 
-/// The same, and one more that comes back to the first.
+/// A thousand segments of their own names are listed, and one more that comes back to the first.
 #[test]
 fn a_thousand_segments(rt: HostRuntime) {
     let image = vec![in rt.alloc(); 0xEAu8; 1_001].expect(&rt, "vec");

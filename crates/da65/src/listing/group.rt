@@ -17,7 +17,7 @@ pub struct Group<'a> {
 }
 
 impl<'a> Group<'a> {
-    /// The same group with this label.
+    /// This group, with this label.
     pub fn with_label(self, label: &'a [u8]) -> Group<'a>
         ensures { result ≡ labelled_group self.entry label.entry }
     {

@@ -79,7 +79,7 @@ fn put_group_statement<A: Allocator>(
     has_empty_line(style, statement)
 }
 
-/// The same of a line of a table. It has a stack frame of its own, so that lines of code are made in a small one.
+/// Puts the statement of a line of a table, as of `put_group_statement`, in a stack frame of its own: lines of code have a small one.
 #[inline(never)]
 #[tactic(auto, using(crate::proofs::Rules::put_table_line_rules, std::proofs::lemmas::Grind::common_steps))]
 fn put_table_line<A: Allocator>(
@@ -98,7 +98,7 @@ fn put_table_line<A: Allocator>(
     put_group_statement(out, listed, group, &statement)
 }
 
-/// The same of an item of code that is written as its bytes.
+/// Puts the statement of an item of code that is written as its bytes.
 #[inline(never)]
 fn put_bytes_line<A: Allocator>(
     out: &mut Line,
@@ -112,7 +112,7 @@ fn put_bytes_line<A: Allocator>(
     put_group_statement(out, listed, group, &Statement::Bytes(group.bytes))
 }
 
-/// The same of an item of code that is written as this instruction, with these operands.
+/// Puts the statement of an item of code that is written as this instruction, with these operands.
 #[inline(always)]
 fn put_instruction<A: Allocator>(
     out: &mut Line,
@@ -130,8 +130,8 @@ fn put_instruction<A: Allocator>(
     put_group_statement(out, listed, group, &statement)
 }
 
-/// The same of an item of code that is this instruction, with operands. If the target of one lies outside the address space, its bytes
-/// are written.
+/// Puts the statement of an item of code that is this instruction, with operands. If the target of one lies outside the
+/// address space, its bytes are written.
 #[inline(never)]
 #[tactic(auto, using(crate::proofs::Rules::put_with_operands_rules, std::proofs::lemmas::Grind::common_steps))]
 fn put_with_operands<A: Allocator>(
@@ -150,7 +150,7 @@ fn put_with_operands<A: Allocator>(
     }
 }
 
-/// The same. Most instructions with operands have one, and need no room for two names.
+/// Puts the statement of an item of code that is this instruction, with operands. Most have one, and need no room for two names.
 #[inline(never)]
 #[tactic(auto, using(crate::proofs::Rules::put_with_operand_rules, std::proofs::lemmas::Grind::common_steps), unfolding(crate::specs::Statements::operands_of))]
 fn put_with_operand<A: Allocator>(
@@ -173,7 +173,7 @@ fn put_with_operand<A: Allocator>(
     }
 }
 
-/// The same of an item of code.
+/// Puts the statement of an item of code.
 #[inline(always)]
 #[tactic(auto, using(crate::proofs::Rules::put_code_line_rules, std::proofs::lemmas::Grind::common_steps), unfolding(crate::specs::Statements::operands_of))]
 fn put_code_line<A: Allocator>(
@@ -258,7 +258,7 @@ fn put_label<A: Allocator>(
     ListingPlace::Statement { index: group.index }
 }
 
-/// The same. Most groups begin at an address without a name, and need no buffer for one.
+/// Puts the label and the statement, as of `put_label`. Most groups begin at an address without a name, and need no buffer for one.
 #[inline(always)]
 #[tactic(auto, using(crate::proofs::Rules::put_labelled_rules, std::proofs::lemmas::Grind::common_steps))]
 fn put_labelled<A: Allocator>(

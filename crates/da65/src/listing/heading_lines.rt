@@ -133,7 +133,7 @@ fn put_forward_named<A: Allocator>(
     true
 }
 
-/// The same. Most addresses have no name, and need no buffer for one.
+/// Puts the forward line, as of `put_forward_named`. Most addresses have no name, and need no buffer for one.
 #[inline(always)]
 #[tactic(auto, using(crate::proofs::Names::BaseLemmas::base_unnamed))]
 fn put_forward<A: Allocator>(

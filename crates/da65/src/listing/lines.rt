@@ -206,7 +206,7 @@ impl<'a, A: Allocator> Lines<'a, A> {
         self.next_other(out)
     }
 
-    /// The same wherever the place is. It has a stack frame of its own, so that that of most lines is small.
+    /// The next line, as of `next_line`, wherever the place is. It has a stack frame of its own, so that that of most lines is small.
     #[inline(never)]
     #[tactic(auto, using(crate::proofs::NextLine::NextLemmas::next_lines))]
     fn next_other(&mut self, out: &mut Line) -> bool

@@ -8,7 +8,7 @@ use map65::Image;
 pub enum Alphabet {
     /// ASCII, $20 to $7E.
     Ascii,
-    /// The same with the high bit set, as on the Apple II.
+    /// ASCII with the high bit set, as on the Apple II.
     High,
     /// PETSCII of the Commodore machines, with capitals from $C1 to $DA.
     Petscii,

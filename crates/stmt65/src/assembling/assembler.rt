@@ -88,7 +88,7 @@ fn pass_source<'a, L: Allocator + Clone, A: Allocator + Clone>(
     keep(&mut pass.work, late, pass.state.address)
 }
 
-/// The same, whatever is written there.
+/// Goes on below a line, whatever is written there.
 #[tactic(auto, unfolding(crate::specs::Code::MeaningViews::held_after))]
 fn pass_line<'a, 'b, L: Allocator + Clone, A: Allocator>(
     alloc: &'b A,

@@ -34,7 +34,7 @@ pub fn are_names_known<A: Allocator + Clone>(all: &Names<'_, '_, A>, placed: &Pl
     }
 }
 
-/// The same: so it has if the values have room, and then it is not looked up again.
+/// Whether each name in the coding has a definition. It has if the values have room, and then none is looked up again.
 #[tactic(auto, using(crate::proofs::CodingLemmas::known_where_fit))]
 fn is_known<A: Allocator + Clone>(all: &Names<'_, '_, A>, placed: &Placed, has_room: bool) -> bool
     requires { has_room ≡ have_room all.now placed.now }

@@ -113,7 +113,7 @@ impl<'a> Places<'a> {
         }
     }
 
-    /// The same places.
+    /// A copy of them.
     pub fn copied(&self) -> Self
         ensures { result ≡ self.now }
     {

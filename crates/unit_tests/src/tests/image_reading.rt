@@ -145,7 +145,7 @@ fn bytes_that_the_settings_ask_for(rt: HostRuntime) {
 
 const FAILED: Result<(u16, usize), ImageFault> = Err(ImageFault::Read);
 
-/// The same of a tape that fails after its last byte.
+/// What is read of a tape that fails after its last byte.
 const FAILURES: &[Reading] = &[
     (0, 0, None, None, FAILED, 0),
     (3, 0, None, None, FAILED, 3),

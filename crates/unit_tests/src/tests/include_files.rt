@@ -6,7 +6,7 @@ use std::alloc::{AllocError, Global};
 /// A label `go` at $0003, and an include file.
 const PLAIN: &str = "LABEL { ADDR 3; NAME \"go\"; }; ASMINC { FILE \"k.inc\"; };";
 
-/// The same with IGNOREUNKNOWN.
+/// A label `go` at $0003, and an include file with IGNOREUNKNOWN.
 const IGNORING: &str =
     "LABEL { ADDR 3; NAME \"go\"; }; ASMINC { FILE \"k.inc\"; IGNOREUNKNOWN on; };";
 
@@ -38,7 +38,7 @@ GO = 4|L0005 = 5|l0005 = 6 => 0003 go 0004 GO 0005 L0005 0006 l0005
 K = 1 ; J = 2 ; x => 0001 K 0003 go
 ";
 
-/// The same with IGNOREUNKNOWN.
+/// Include files that are accepted with IGNOREUNKNOWN, with all names after them.
 const IGNORED: &str = "-- lines of other forms, reserved names and names given twice
 CHROUT = $FFD2|BSOUT := $FFD2 ; same|.macro x| => 0003 go FFD2 CHROUT
 a = 1|go = 2|K = 65536|K = 5|K = 6 => 0003 go 0005 K

@@ -188,12 +188,12 @@ fn said_with(rt: &impl Abort, alloc: Global, options: &Options, file: &[u8]) -> 
     out
 }
 
-/// The same without options.
+/// What an information file says, or its fault, without options.
 pub fn said(rt: &impl Abort, alloc: Global, file: &[u8]) -> String {
     said_with(rt, alloc, &Options::none(), file)
 }
 
-/// The same beside a command line that sets everything.
+/// What an information file says, or its fault, beside a command line that sets everything.
 pub fn said_beside(rt: &impl Abort, alloc: Global, file: &[u8]) -> String {
     said_with(rt, alloc, &every_option(rt, alloc), file)
 }
