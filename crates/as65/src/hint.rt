@@ -131,8 +131,7 @@ fn hint_in(line: &[u8]) -> &'static [u8] {
 /// at.
 fn hint_for(line: &[u8]) -> &'static [u8] {
     match after_string(line) {
-        Some(b'|' | b'+' | b'^' | b'&') =>
-            b"what is no string is a number, as 'D'+$80",
+        Some(b'|' | b'+' | b'^' | b'&') => b"what is no string is a number, as 'D'+$80",
         Some(_) => b"a quote inside a string is written $22",
         None => hint_in(code_of(line)),
     }
