@@ -2,4 +2,3 @@ mod CommandLemmas
 mod LinkLemmas
 mod PieceLemmas
 mod Rows
-mod TextLemmas

@@ -1,29 +1,18 @@
--- What stands in a tag, step by step.
-use Rattle.std.proofs.Common.{◌≡◌, ◌+◌, ◌-◌, ◌<◌, ℕ, Bool, Bor, cond, List, [], ◌∷◌, None, Some, drop, length, take, true, false, refl, sym, arith, ◌&&◌, ◌∙◌, get_or, suc, zero, ◌≢◌, ◌++◌, append_assoc, Option}
+-- What stands in a tag and in a page, step by step, and the numbers of ids.
+use Rattle.std.proofs.Common.{◌≡◌, ◌+◌, ◌-◌, ◌<◌, ℕ, Bool, Bor, cond, List, [], ◌∷◌, None, Some, drop, length, take, true, false, refl, sym, ap, arith, ◌&&◌, ◌∙◌, get_or, suc, zero, ◌≢◌, ◌++◌, append_assoc, Option}
 use Rattle.std.specs.Prelude.{nat_eq, not, ◌==◌}
-use Rattle.std.specs.List.{list_all, prefix_len, starts_with}
-use Rattle.std.specs.Bool.{one_answer}
+use Rattle.std.specs.List.{filter_map, prefix_len, slice_get, starts_with}
 use Rattle.std.specs.Str.{bytes_eq}
 use Rattle.std.proofs.lemmas.Slice.Eq.{bytes_eq-Decides}
-use Rattle.std.proofs.lemmas.Bool.{eq-eqb, ne_eqb}
-use Rattle.std.proofs.lemmas.List.{append-nil, take_rest}
-use Rattle.html65.specs.Links.{HasCounts, HasCountsBefore, Takes, of_option, are_among, count_in, count_of, has, id_in, ids_in, is_quoted, quoted_after, target_in, targets_in, texts}
-use Rattle.html65.specs.Pieces.{Piece, pieces}
+use Rattle.std.proofs.lemmas.Bool.{eq-eqb, eqb-true, ne_eqb}
+use Rattle.std.proofs.lemmas.List.{append-nil, take-append-drop, take_rest}
+use Rattle.html65.specs.Links.{are_numbered, count_in, is_found, is_quoted, number_in, of_option, quoted_after, texts}
+use Rattle.html65.specs.PageText.{after_tag, kept, text_from}
+use Rattle.html65.specs.Pieces.{Piece, Tag, Text}
+use Rattle.html65.specs.declared.faults.Place.{Place}
 
 bool_conflict : true ≡ false → ⊥
 bool_conflict is = cc (is)
-
-same_bytes : (xs ys : List ℕ) → bytes_eq xs ys ≡ true → xs ≡ ys
-same_bytes xs ys is = (bytes_eq-Decides xs ys).0 is
-
-bytes_eq_sym : (xs ys : List ℕ) → bytes_eq xs ys ≡ bytes_eq ys xs
-bytes_eq_sym xs ys =
-    let other = bytes_eq-Decides ys xs in
-    one_answer _ _ (bytes_eq-Decides xs ys) ((λ is. sym (other.0 is)), (λ same. other.1 (sym same)))
-
-pub not_had : (added had : Bool) → added ≡ true → added ≡ not had → had ≡ false
-not_had added false is e = refl
-not_had added true is e = absurd (bool_conflict (sym is ∙ e))
 
 and_parts : (a b : Bool) → (a && b) ≡ true → (a ≡ true) × (b ≡ true)
 and_parts true b is = (refl, is)
@@ -58,74 +47,89 @@ quoted_later first more (b ∷ bs) some is starts =
 
 pub ruleset quoted_steps = (quoted_none, quoted_here, quoted_other, quoted_later)
 
--- ---- targets
+-- ---- what is taken down of the pieces
 
--- a piece, by its target, and what is left
-targets_by : (o : Option (List ℕ)) (taken new : List (List ℕ)) (left rest : List Piece) (p : Piece) (whole : List (List ℕ)) → target_in p ≡ o → left ≡ p ∷ rest → new ≡ taken ++ of_option o
-    → taken ++ targets_in left ≡ whole → new ++ targets_in rest ≡ whole
-unfolding targets_in
-targets_by None taken new left rest p whole same step is before = rw (is, append-nil) (rw (step, same) at before)
-targets_by (Some id) taken new left rest p whole same step is before = rw (is, append_assoc) (rw (step, same) at before)
+taken_by : (f : Piece → Option (List ℕ)) (o : Option (List ℕ)) (taken new : List (List ℕ)) (left rest : List Piece) (p : Piece) (whole : List (List ℕ)) → f p ≡ o → left ≡ p ∷ rest
+    → new ≡ taken ++ of_option o → taken ++ filter_map f left ≡ whole → new ++ filter_map f rest ≡ whole
+taken_by f None taken new left rest p whole same step is before = rw (is, append-nil) (rw (step, same) at before)
+taken_by f (Some id) taken new left rest p whole same step is before = rw (is, append_assoc) (rw (step, same) at before)
 
-pub targets_more : (taken new : List (List ℕ)) (left rest : List Piece) (p : Piece) (whole : List (List ℕ)) → left ≡ p ∷ rest → new ≡ taken ++ of_option (target_in p)
-    → taken ++ targets_in left ≡ whole → new ++ targets_in rest ≡ whole
-targets_more taken new left rest p whole step is before = targets_by (target_in p) taken new left rest p whole refl step is before
-
--- no piece is left
-pub targets_end : (taken : List (List ℕ)) (left : List Piece) (whole : List (List ℕ)) → left ≡ [] → taken ++ targets_in left ≡ whole → taken ≡ whole
-unfolding targets_in
-targets_end taken left whole none is = rw (none, append-nil) at is
-
--- ---- ids
-
--- before the first piece
-pub counts_init : (keys : List (Bor (List ℕ))) (page : List ℕ) → keys ≡ [] → HasCountsBefore keys (pieces page) page
-counts_init keys page empty = λ id. rw empty (omega arith)
-
--- of two ids that are the same, or differ
-moved : (same had : Bool) (count whole : ℕ) → (same ≡ true → had ≡ false) → (cond same 1 0 + count) + cond had 1 0 ≡ whole → count + cond (cond same true had) 1 0 ≡ whole
-moved true true count whole new is = absurd (bool_conflict (new refl))
-moved true false count whole new is = omega arith
-moved false true count whole new is = omega arith
-moved false false count whole new is = omega arith
-
--- a piece, by its id, and what is left
-counts_by : (o : Option (List ℕ)) (old new : List (Bor (List ℕ))) (left rest : List Piece) (p : Piece) (page : List ℕ) → id_in p ≡ o → left ≡ p ∷ rest → Takes old new o
-    → HasCountsBefore old left page → HasCountsBefore new rest page
-unfolding ids_in count_in
-counts_by None old new left rest p page same step puts counts = λ q. rw (puts q) (rw (step, same) at (counts q))
-counts_by (Some id) old new left rest p page same step puts counts = λ q.
-    let before = rw (step, same) at (counts q) in
-    rw (puts.1 q, bytes_eq_sym id q) (moved (bytes_eq q id) (has old q) _ _ (λ alike. rw (same_bytes q id alike) puts.0) before)
-
-pub counts_more : (old new : List (Bor (List ℕ))) (left rest : List Piece) (p : Piece) (page : List ℕ) → left ≡ p ∷ rest → Takes old new (id_in p)
-    → HasCountsBefore old left page → HasCountsBefore new rest page
-counts_more old new left rest p page step puts counts = counts_by (id_in p) old new left rest p page refl step puts counts
+-- a piece, and what is left
+pub taken_more : (f : Piece → Option (List ℕ)) (taken new : List (List ℕ)) (left rest : List Piece) (p : Piece) (whole : List (List ℕ)) → left ≡ p ∷ rest
+    → new ≡ taken ++ of_option (f p) → taken ++ filter_map f left ≡ whole → new ++ filter_map f rest ≡ whole
+taken_more f taken new left rest p whole step is before = taken_by f (f p) taken new left rest p whole refl step is before
 
 -- no piece is left
-pub counts_end : (keys : List (Bor (List ℕ))) (left : List Piece) (page : List ℕ) → left ≡ [] → HasCountsBefore keys left page → HasCounts keys page
-unfolding ids_in count_in
-counts_end keys left page none counts = λ id.
-    let is = rw none at (counts id) in
-    omega arith
+pub taken_whole : (f : Piece → Option (List ℕ)) (taken : List (List ℕ)) (left : List Piece) (whole : List (List ℕ)) → left ≡ [] → taken ++ filter_map f left ≡ whole → taken ≡ whole
+taken_whole f taken left whole none is = rw (none, append-nil) at is
 
-and_false : (b : Bool) → (b && false) ≡ false
-and_false true = refl
-and_false false = refl
+-- ---- the text of the pieces
 
--- one of the targets is not among the keys
-pub not_among : (keys targets : List (Bor (List ℕ))) (i : ℕ) (d : Bor (List ℕ)) → i < length targets → has keys (get_or targets i d).now ≡ false → are_among keys (texts targets) ≡ false
-not_among keys [] i d lt lacks = absurd (omega arith)
-not_among keys (t ∷ ts) zero d lt lacks = rw lacks refl
-not_among keys (t ∷ ts) (suc i) d lt lacks = rw (not_among keys ts i d (omega arith) lacks) (and_false (has keys t.now))
+pub tag_passed : (place behind : Place) (tag left : List ℕ) (rest : List Piece) → behind ≡ after_tag place tag → text_from behind rest ≡ left → text_from place (Tag tag ∷ rest) ≡ left
+unfolding text_from
+tag_passed place behind tag left rest is same = rw is at same
 
--- ---- both
+pub text_passed : (place : Place) (text left left' : List ℕ) (rest : List Piece) → left ≡ kept place text ++ left' → text_from place rest ≡ left' → text_from place (Text text ∷ rest) ≡ left
+unfolding text_from
+text_passed place text left left' rest is same = rw (is, same) refl
 
--- each target that the set has is the id of one element
-pub all_one : (keys : List (Bor (List ℕ))) (page : List ℕ) (targets : List (List ℕ)) → HasCounts keys page → are_among keys targets ≡ true
-    → list_all (λ target. count_of page target == 1) targets ≡ true
-all_one keys page [] counts among = refl
-all_one keys page (t ∷ ts) counts among =
-    let both = and_parts (has keys t) (are_among keys ts) among in
-    let one : count_of page t ≡ 1 = rw (counts t, both.0) refl in
-    rw one (all_one keys page ts counts both.1)
+-- a piece, and what is left
+pub passed_on : (place behind : Place) (left left' listing whole : List ℕ) (p : Piece) (ps rest : List Piece) → ps ≡ p ∷ rest
+    → ((more : List Piece) → text_from behind more ≡ left' → text_from place (p ∷ more) ≡ left) → (text_from place ps ≡ left → whole ≡ listing) → text_from behind rest ≡ left' → whole ≡ listing
+passed_on place behind left left' listing whole p ps rest step passes before same = before (rw step (passes rest same))
+
+-- a text that begins the listing, and what is left of that
+pub begun : (left text : List ℕ) → starts_with nat_eq left text ≡ true → left ≡ text ++ take (length left - length text) (drop (length text) left)
+begun left text is =
+    let same : text ≡ take (length text) left = (bytes_eq-Decides text (take (length text) left)).0 is in
+    rw take_rest (sym (rw (← same) at (take-append-drop (length text) left)))
+
+-- no piece is left
+pub passed_whole : (place : Place) (left listing whole : List ℕ) (ps : List Piece) → ps ≡ [] → length left ≡ 0 → (text_from place ps ≡ left → whole ≡ listing) → whole ≡ listing
+unfolding text_from
+passed_whole place [] listing whole ps none empty before = before (rw none refl)
+passed_whole place (b ∷ bs) listing whole ps none empty before = absurd (omega arith)
+
+pub ruleset read_back = (taken_more, taken_whole, passed_on, passed_whole)
+
+-- ---- the numbers of ids
+
+is_false : (b : Bool) → (b ≡ true → ⊥) → b ≡ false
+is_false true apart = absurd (apart refl)
+is_false false apart = refl
+
+-- ids of two numbers differ
+differs : (id other : List ℕ) → number_in id ≢ number_in other → bytes_eq id other ≡ false
+differs id other apart = is_false _ (λ is. apart (ap number_in ((bytes_eq-Decides id other).0 is)))
+
+-- an id of a lower number is not among them
+lower : (id : List ℕ) (n : ℕ) (ids : List (List ℕ)) → are_numbered n ids ≡ true → number_in id < n → count_in id ids ≡ 0
+unfolding are_numbered count_in
+lower id n [] are lt = refl
+lower id n (x ∷ xs) are lt =
+    let both = and_parts (number_in x == n) (are_numbered (suc n) xs) are in
+    let number : number_in x ≡ n = eqb-true (number_in x) n both.0 in
+    let apart : bytes_eq id x ≡ false = differs id x (λ same. absurd (omega arith)) in
+    rw (apart, lower id (suc n) xs both.1 (omega arith)) refl
+
+-- an id is among them once, and tells its place
+once : (id : List ℕ) (n i : ℕ) (ids : List (Bor (List ℕ))) (d : Bor (List ℕ)) → are_numbered n (texts ids) ≡ true → i < length ids → (get_or ids i d).now ≡ id
+    → (count_in id (texts ids) ≡ 1) × (number_in id ≡ n + i)
+unfolding are_numbered count_in
+once id n i [] d are lt is = absurd (omega arith)
+once id n zero (x ∷ xs) d are lt is =
+    let both = and_parts (number_in x.now == n) (are_numbered (suc n) (texts xs)) are in
+    let number : number_in id ≡ n = rw is at (eqb-true (number_in x.now) n both.0) in
+    let same : bytes_eq id x.now ≡ true = (bytes_eq-Decides id x.now).1 (sym is) in
+    (rw (same, lower id (suc n) (texts xs) both.1 (omega arith)) refl, omega arith)
+once id n (suc i) (x ∷ xs) d are lt is =
+    let both = and_parts (number_in x.now == n) (are_numbered (suc n) (texts xs)) are in
+    let number : number_in x.now ≡ n = eqb-true (number_in x.now) n both.0 in
+    let more = once id (suc n) i xs d both.1 (omega arith) is in
+    let place : number_in id ≡ suc n + i = more.1 in
+    let apart : bytes_eq id x.now ≡ false = differs id x.now (λ same. absurd (omega arith)) in
+    (rw (apart, more.0) refl, omega arith)
+
+pub one_is_found : (ids : List (Bor (List ℕ))) (id : List ℕ) (i : ℕ) (d : Bor (List ℕ)) → are_numbered 0 (texts ids) ≡ true → i < length ids
+    → bytes_eq (get_or ids i d).now id ≡ true → is_found (texts ids) id ≡ true
+one_is_found ids id i d are lt same = rw (once id 0 i ids d are lt ((bytes_eq-Decides (get_or ids i d).now id).0 same)).0 refl

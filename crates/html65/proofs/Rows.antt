@@ -1,6 +1,6 @@
 -- Worked rows of the definitions.
 use Rattle.std.proofs.Common.{◌≡◌, [], ◌∷◌, codes, refl}
-use Rattle.html65.specs.Links.{count_in, ids_in, quoted_after, targets_in}
+use Rattle.html65.specs.Links.{count_in, ids_in, number_in, quoted_after, targets_in}
 use Rattle.html65.specs.Pieces.{Tag, Text, entity_at, piece_at, pieces, pieces_after}
 use Rattle.html65.specs.PageText.{text_from, text_of}
 
@@ -25,13 +25,17 @@ lost = refl
 
 -- ids and targets stand between quotes
 ids : ids_in (pieces (codes "<a id=\"l1\" href=\"#l2\"><a href=\"x\">")) ≡ codes "l1" ∷ []
-unfolding pieces_after piece_at entity_at ids_in quoted_after
+unfolding pieces_after piece_at entity_at quoted_after
 ids = refl
 
 targets : targets_in (pieces (codes "<a id=\"l1\" href=\"#l2\"><a href=\"x\">")) ≡ codes "l2" ∷ []
-unfolding pieces_after piece_at entity_at targets_in quoted_after
+unfolding pieces_after piece_at entity_at quoted_after
 targets = refl
 
 twice : count_in (codes "l1") (codes "l1" ∷ codes "l2" ∷ codes "l1" ∷ []) ≡ 2
 unfolding count_in
 twice = refl
+
+number : number_in (codes "l120") ≡ 120
+unfolding number_in
+number = refl

@@ -4,8 +4,8 @@
 use Rattle.std.specs.Prelude.{ℕ, List, [], ◌∷◌, ◌++◌, codes, if◌then◌else◌}
 use Rattle.std.specs.Str.{bytes_eq}
 use Rattle.html65.specs.Pieces.{Piece, Tag, Text, pieces}
-use Rattle.html65.specs.declared.page_text.Place.{Place}
-use Rattle.html65.specs.declared.page_text.Place.TheVariants.{After, Before, Listing, Remark}
+use Rattle.html65.specs.declared.faults.Place.{Place}
+use Rattle.html65.specs.declared.faults.Place.TheVariants.{After, Before, Listing, Remark}
 
 -- where the text after a tag stands: before the listing, in it, in a remark of the page, or after it
 abbrev pub after_tag : Place → List ℕ → Place

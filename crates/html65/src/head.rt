@@ -1,19 +1,17 @@
 //! The head of a page: its styles, the name of the listing, and how many bytes of each kind there are.
 
-use crate::kind::{KINDS, Kind};
-use crate::markup::put_text;
+use crate::kind::KINDS;
+use crate::markup::{Address, Put, Result, put};
 use crate::survey::Survey;
-use files65::{put_address, put_decimal};
-use std::alloc::AllocError;
 
 /// What stands before the title. The page may load nothing, and no script runs in it.
-const BEGIN: &[u8] = b"<!DOCTYPE html>\n<html lang=\"en\">\n<head>\n<meta charset=\"utf-8\">\n\
+const BEGIN: &str = "<!DOCTYPE html>\n<html lang=\"en\">\n<head>\n<meta charset=\"utf-8\">\n\
     <meta name=\"viewport\" content=\"width=device-width\">\n\
     <meta http-equiv=\"Content-Security-Policy\" content=\"default-src 'none'; img-src data:; style-src 'unsafe-inline'\">\n\
     <title>";
 
 /// What stands after the title: the styles. What the page adds to the listing is not selected with it.
-const STYLES: &[u8] = b"</title>\n<style>\n\
+const STYLES: &str = "</title>\n<style>\n\
     :root{color-scheme:light dark;--ink:#222;--paper:#fff;--pale:#777;--line:#ddd;--link:#1a4f8b;--from:#a05a00;--mark:#fff3b0;\
     --code:#4878a8;--text:#7ba05b;--bytes:#c9a24b;--words:#b06a3b;--addresses:#9b4f96;--filler:#d8d8d8}\n\
     @media (prefers-color-scheme:dark){:root{--ink:#ddd;--paper:#1b1b1d;--pale:#8c8c8c;--line:#444;--link:#8ab4f0;--from:#e0a050;--mark:#5a4a10;\
@@ -41,38 +39,22 @@ const STYLES: &[u8] = b"</title>\n<style>\n\
     @media print{main{display:block}nav{position:static;max-height:none;border:0}pre{overflow:visible;white-space:pre-wrap}}\n\
     </style>\n</head>\n<body>\n<header><h1>";
 
-/// How many bytes of a kind there are.
-fn count_of(survey: &Survey<'_, '_>, kind: Kind) -> usize {
-    let mut count: usize = 0;
-    for run in &survey.runs {
-        if run.kind == kind {
-            count = count.saturating_add(run.end.saturating_sub(run.at));
-        }
-    }
-    count
-}
-
-/// Appends what stands before the map, for a listing of this name.
-pub fn put_head(out: &mut Vec<u8>, name: &[u8], survey: &Survey<'_, '_>) -> Result<(), AllocError> {
-    out.extend_from_slice(BEGIN)?;
-    put_text(out, name)?;
-    out.extend_from_slice(STYLES)?;
-    put_text(out, name)?;
-    let end = usize::from(survey.start).saturating_add(survey.bytes.len());
-    put_address(out, b"</h1> $", usize::from(survey.start))?;
-    put_address(out, b" to $", end.saturating_sub(1))?;
-    put_decimal(out, b", ", survey.bytes.len())?;
-    out.extend_from_slice(b" bytes")?;
+/// Appends what stands before the map, for a listing of this name: its addresses, and how many bytes of each kind there are.
+pub fn put_head(out: &mut Vec<u8>, name: &[u8], survey: &Survey<'_, '_>) -> Result<()> {
+    let start = usize::from(survey.start);
+    let count = survey.bytes.len();
+    let last = start.saturating_add(count).saturating_sub(1);
+    put!(out; BEGIN, name, STYLES, name, "</h1> $", Address(start), " to $", Address(last), ", ", count, " bytes");
     for kind in KINDS {
-        let count = count_of(survey, kind);
+        let runs = survey.runs.iter().filter(|run| run.kind == kind);
+        let count = runs.fold(
+            0,
+            |sum: usize, run| sum.saturating_add(run.end.saturating_sub(run.at)),
+        );
         if 0 < count {
-            out.extend_from_slice(b" <span class=\"")?;
-            out.extend_from_slice(kind.text())?;
-            out.extend_from_slice(b"\">")?;
-            out.extend_from_slice(kind.text())?;
-            put_decimal(out, b" ", count)?;
-            out.extend_from_slice(b"</span>")?;
+            put!(out; " <span class=\"", kind.text(), "\">", kind.text(), " ", count, "</span>");
         }
     }
-    out.extend_from_slice(b"</header>\n<main>\n<nav>\n")
+    put!(out; "</header>\n<main>\n<nav>\n");
+    Ok(())
 }

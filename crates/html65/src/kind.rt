@@ -1,6 +1,6 @@
 //! What the bytes of a line are.
 
-use crate::places::{Part, Places, is_name};
+use crate::way::Word;
 
 /// What the bytes of a line are.
 #[derive(Clone, Copy, PartialEq, Eq)]
@@ -30,54 +30,29 @@ const FILLER: usize = 8;
 
 impl Kind {
     /// What a page calls it.
-    pub fn text(self) -> &'static [u8] {
+    pub fn text(self) -> &'static str {
         match self {
-            Kind::Code => b"code",
-            Kind::Text => b"text",
-            Kind::Bytes => b"bytes",
-            Kind::Words => b"words",
-            Kind::Addresses => b"addresses",
-            Kind::Filler => b"filler",
+            Kind::Code => "code",
+            Kind::Text => "text",
+            Kind::Bytes => "bytes",
+            Kind::Words => "words",
+            Kind::Addresses => "addresses",
+            Kind::Filler => "filler",
         }
     }
 
-    /// That of a line which gives these bytes, by its operation and what stands behind that.
-    pub fn of(line: &[u8], operation: &[u8], operands: Places<'_>, bytes: &[u8]) -> Kind {
-        if operation.first() != Some(&b'.') {
-            return Kind::Code;
-        }
-        if operation.eq_ignore_ascii_case(b".res") || operation.eq_ignore_ascii_case(b".segment") {
-            return Kind::Filler;
-        }
-        match named_or_quoted(line, operands) {
-            Some(kind) => kind,
-            None if operation.eq_ignore_ascii_case(b".byte") => of_numbers(bytes),
-            None if operation.eq_ignore_ascii_case(b".addr") => Kind::Addresses,
-            None => Kind::Words,
-        }
-    }
-}
-
-/// Addresses if an operand has a name, text if one is a string.
-fn named_or_quoted(line: &[u8], operands: Places<'_>) -> Option<Kind> {
-    let mut places = operands;
-    for _ in 0..line.len() {
-        let place = places.next()?;
-        match place.part {
-            Part::Text => return Some(Kind::Text),
-            Part::Word if is_name(place.span.of(line)) => return Some(Kind::Addresses),
-            _ => {}
-        }
-    }
-    None
-}
-
-/// Bytes that are written as numbers.
-fn of_numbers(bytes: &[u8]) -> Kind {
-    let first = bytes.first().copied().unwrap_or(0);
-    if FILLER <= bytes.len() && bytes.iter().all(|byte| *byte == first) {
-        Kind::Filler
-    } else {
-        Kind::Bytes
+    /// That of a line which gives these bytes, by its mnemonic or directive and what its first operand that is no number shows: a
+    /// string that it is text, a name that they are addresses.
+    pub fn of(word: Word, shown: Option<Kind>, bytes: &[u8]) -> Kind {
+        let is_same = bytes.iter().all(|byte| Some(byte) == bytes.first());
+        let of_numbers = match &word {
+            b".res" | b".seg" => return Kind::Filler,
+            b".byt" if is_same && FILLER <= bytes.len() => Kind::Filler,
+            b".byt" => Kind::Bytes,
+            b".add" => Kind::Addresses,
+            [b'.', ..] => Kind::Words,
+            _ => return Kind::Code,
+        };
+        shown.unwrap_or(of_numbers)
     }
 }

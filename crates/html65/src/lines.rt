@@ -1,59 +1,58 @@
 //! The lines of a listing with their addresses.
 
+use crate::survey::Reference;
+use crate::way::Way;
 use stmt65::first_line;
 
-/// A line of a listing.
+/// A line of a listing that assembles.
 #[derive(Clone, Copy)]
 pub struct Line<'t> {
     /// From 1.
     pub number: usize,
     /// Without its line feed.
     pub text: &'t [u8],
-    /// Whether a line feed is after it.
-    pub is_ended: bool,
+    /// How many bytes of the listing stand before it, and what stands after it.
+    pub from: usize,
+    rest: &'t [u8],
     /// The address of its first byte, and the one after its last.
     pub at: usize,
     pub end: usize,
 }
 
-/// Goes over the lines of a listing that assembles.
-#[derive(Clone, Copy)]
-pub struct Lines<'t, 'e> {
-    rest: &'t [u8],
-    ends: &'e [u64],
-    at: usize,
-    passed: usize,
-}
-
-impl<'t, 'e> Lines<'t, 'e> {
-    /// Over a text that begins at an address, by the address after each of its lines.
-    pub fn new(text: &'t [u8], start: u16, ends: &'e [u64]) -> Lines<'t, 'e> {
-        Lines {
-            rest: text,
-            ends,
-            at: usize::from(start),
-            passed: 0,
+impl<'t> Line<'t> {
+    /// What stands before the first line of a listing that begins at an address.
+    pub fn before(listing: &'t [u8], start: u16) -> Line<'t> {
+        Line {
+            number: 0,
+            text: &[],
+            from: 0,
+            rest: listing,
+            at: 0,
+            end: usize::from(start),
         }
     }
 
-    /// The next line.
-    pub fn next(&mut self) -> Option<Line<'t>> {
-        let (text, after) = first_line(self.rest)?;
-        let at = self.at;
-        let end = match self.ends.get(self.passed) {
-            Some(end) => (*end).min(65_536) as usize,
-            None => at,
-        };
-        let is_ended = text.len() < self.rest.len();
-        self.rest = after;
-        self.at = end;
-        self.passed = self.passed.saturating_add(1);
+    /// The next line of this listing, by the address after each.
+    pub fn next(self, listing: &[u8], ends: &[u64]) -> Option<Line<'t>> {
+        let (text, rest) = first_line(self.rest)?;
+        let end = ends.get(self.number).copied().unwrap_or(0);
         Some(Line {
-            number: self.passed,
+            number: self.number.saturating_add(1),
             text,
-            is_ended,
-            at,
-            end,
+            from: listing.len().saturating_sub(self.rest.len()),
+            rest,
+            at: self.end,
+            end: end.min(65_536) as usize,
         })
+    }
+
+    /// It refers to something.
+    pub fn refers(self, to: usize, way: Way) -> Reference {
+        Reference {
+            to,
+            way,
+            line: self.number,
+            at: self.at,
+        }
     }
 }

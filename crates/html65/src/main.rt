@@ -4,33 +4,27 @@
 //! output, which is created only now. `page` has the promise: the text of the page is the listing, and each link leads to one line.
 //! The status is 0 if the page, the help text or the version was written, otherwise 1.
 //!
-//! `survey` finds what a page is made of: `lines`, the `names` they define, the `references` to them by `way`, and what `kind` their bytes
-//! are. `places` and `uses` say where the parts of a line stand. `head`, `map`, `tables`, `calls`, `listing` and `pictures` write the page,
-//! with `markup`. `pieces`, `page_text` and `links` read it back.
+//! `survey` reads each of the `lines` once and finds what a page is made of: the names, who refers to them and to numbers, by `way`, and
+//! what `kind` the bytes are. `head`, `map`, `tables`, `calls`, `listing` and `pictures` write the page, with `markup`. `pieces` and `faults`
+//! read it back.
 #![tactic(auto)]
 
 mod calls;
 mod command;
 mod failure;
+mod faults;
 mod head;
 mod kind;
 mod lines;
-mod links;
 mod listing;
 mod map;
 mod markup;
-mod names;
 mod page;
-mod page_text;
 mod pictures;
 mod pieces;
-mod places;
-mod references;
 mod request;
-mod segments;
 mod survey;
 mod tables;
-mod uses;
 mod way;
 
 use command::this_program;
@@ -42,32 +36,19 @@ use files65::{
 use info65::{Info, Options, read_info};
 use page::page_of;
 use request::{Request, Showing, request_of};
-use segments::layout_of;
 use std::process::ExitCode;
 use stmt65::{Language, Layout, Source, line_addresses};
-use usage65::{RequestFault, words_of};
+use usage65::{Names, RequestFault, words_of};
 
 /// The most that a listing may have: 16 MiB.
 const LIMIT: usize = 16_777_216;
 
-/// A text as people edit it, from a start on.
-fn repair<'t, 'l, 'n>(layout: &'l Layout<'n>, start: u16, text: &'t [u8]) -> Source<'t, 'l, 'n> {
-    Source {
-        language: Language::Repair,
-        layout,
-        start,
-        text,
+/// The start from which the last byte of a text is at $FFFF; the text is one from 0.
+fn start_at_end(rt: &HostRuntime, source: &Source<'_, '_, '_>) -> Result<u16, Failure> {
+    match line_addresses(rt.alloc(), source)?.last() {
+        Some(len) if 0 < *len && *len <= 65_536 => Ok((65_536 - *len) as u16),
+        _ => Ok(0),
     }
-}
-
-/// The start from which the last byte of a text is at $FFFF.
-fn start_at_end(rt: &HostRuntime, layout: &Layout<'_>, text: &[u8]) -> Result<u16, Failure> {
-    let ends = line_addresses(rt.alloc(), &repair(layout, 0, text))?;
-    let len = ends.last().copied().unwrap_or(0);
-    if 0 < len && len <= 65_536 {
-        return Ok((65_536 - len) as u16);
-    }
-    Ok(0)
 }
 
 /// What the information file says, or the start of the command line in the place of its own. Refuses a file that da65 refuses.
@@ -78,35 +59,46 @@ fn info_given(rt: &HostRuntime, showing: &Showing) -> Result<Info, Failure> {
     Ok(read_info(rt.alloc(), &options, &bytes)?)
 }
 
-/// The text of the listing of this name, if it is not too large for a page.
-fn listing_of(rt: &HostRuntime, name: &str) -> Result<Vec<u8>, Failure> {
-    let text = read_listing(rt, name)?;
-    if LIMIT < text.len() {
-        return Err(Failure::File(FileFault::TooLarge));
+/// Where segments begin: each at its START, with a byte that fills what is missing before it; or one after the other without a byte.
+fn layout_of<'n>(
+    rt: &HostRuntime,
+    info: &'n Info,
+    fill: Option<u8>,
+) -> Result<Layout<'n>, Failure> {
+    let mut layout = Layout::new(rt.alloc(), fill.unwrap_or(0))?;
+    if fill.is_some() {
+        for segment in info.segments() {
+            layout.add(segment.name.as_slice(), segment.first)?;
+        }
     }
-    Ok(text)
+    Ok(layout)
 }
 
 /// The page of these files. The output may not be the input of the information file either.
 fn page_for(rt: &HostRuntime, showing: &Showing) -> Result<Vec<u8>, Failure> {
-    let names = &showing.names;
+    let Names {
+        listing,
+        output,
+        ..
+    } = &showing.names;
     let info = info_given(rt, showing)?;
-    keep_inputs(
-        rt,
-        names.output.as_deref(),
-        &[info.settings().input.as_deref()],
-    )?;
-    let text = listing_of(rt, names.listing.as_str())?;
-    let layout = layout_of(rt.alloc(), info.segments(), showing.fill)?;
-    let start = match info.settings().start {
-        Some(start) => start,
-        None => start_at_end(rt, &layout, &text)?,
+    keep_inputs(rt, output.as_deref(), &[info.settings().input.as_deref()])?;
+    let text = read_listing(rt, listing.as_str())?;
+    if LIMIT < text.len() {
+        return Err(Failure::File(FileFault::TooLarge));
+    }
+    let layout = layout_of(rt, &info, showing.fill)?;
+    let mut source = Source {
+        language: Language::Repair,
+        layout: &layout,
+        start: 0,
+        text: &text,
     };
-    page_of(
-        rt.alloc(),
-        names.listing.as_str(),
-        &repair(&layout, start, &text),
-    )
+    source.start = match info.settings().start {
+        Some(start) => start,
+        None => start_at_end(rt, &source)?,
+    };
+    page_of(rt.alloc(), listing.as_str(), &source)
 }
 
 /// Reads the listing, and writes its page. The output is created once that is there.

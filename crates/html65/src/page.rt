@@ -8,11 +8,10 @@ ghost use Rattle.html65.specs.PageText.{text_of};
 
 use crate::calls::put_calls;
 use crate::failure::{Failure, Refused};
+use crate::faults::{Fault, fault_in};
 use crate::head::put_head;
-use crate::links::are_links_whole;
 use crate::listing::put_listing;
 use crate::map::put_map;
-use crate::page_text::text_of;
 use crate::survey::Survey;
 use crate::tables::{put_addresses, put_names};
 use files65::FileFault;
@@ -40,33 +39,13 @@ fn written(alloc: Global, name: &str, survey: &Survey<'_, '_>) -> Result<Vec<u8>
     let mut out = Vec::new(alloc);
     put_head(&mut out, name.as_bytes(), survey)?;
     put_map(&mut out, survey)?;
-    put_names(alloc, &mut out, survey)?;
-    put_addresses(&mut out, survey)?;
+    put_names(&mut out, survey)?;
+    put_addresses(alloc, &mut out, survey)?;
     put_calls(alloc, &mut out, survey)?;
     out.extend_from_slice(b"</nav>\n")?;
     put_listing(alloc, &mut out, survey)?;
     out.extend_from_slice(b"</main>\n</body>\n</html>\n")?;
     Ok(out)
-}
-
-/// Reads the page of the listing of this name back: refuses it if it has not its text, or if a link of it does not lead to one element.
-fn checked(
-    alloc: Global,
-    name: &str,
-    source: &Source<'_, '_, '_>,
-    page: Vec<u8>,
-) -> Result<Vec<u8>, Failure>
-    ensures text { IfOk result (λ found. text_of found.items ≡ source.now.text.now) }
-    ensures links { IfOk result (λ found. AreLinksWhole found.items) }
-    ensures fault { IfErr result (Reports name.now source.now) }
-{
-    if text_of(alloc, &page)?.as_slice() != source.text {
-        return Err(Failure::Own(Refused::Text(String::from_str(alloc, name)?)));
-    }
-    if !are_links_whole(alloc, &page)? {
-        return Err(Failure::Own(Refused::Links(String::from_str(alloc, name)?)));
-    }
-    Ok(page)
 }
 
 /// Returns the page of the listing of this name. Fails with the first fault of the listing, and if it has no byte.
@@ -84,5 +63,9 @@ pub fn page_of(alloc: Global, name: &str, source: &Source<'_, '_, '_>) -> Result
     }
     let survey = Survey::of(alloc, source, &assembly)?;
     let page = written(alloc, name, &survey)?;
-    checked(alloc, name, source, page)
+    match fault_in(alloc, &page, source.text)? {
+        None => Ok(page),
+        Some(Fault::Text) => Err(Failure::Own(Refused::Text(String::from_str(alloc, name)?))),
+        Some(Fault::Links) => Err(Failure::Own(Refused::Links(String::from_str(alloc, name)?))),
+    }
 }

@@ -1,9 +1,9 @@
 //! Bytes as pixels of one bit: pictures in the format BMP, each in a `data:` address.
 
-use crate::markup::{close_fold, open_fold};
+use crate::markup::{Put, Result, put};
+use crate::survey::part_of;
 use base64::engine::general_purpose::STANDARD;
-use files65::put_decimal;
-use std::alloc::{AllocError, Global};
+use std::alloc::Global;
 
 /// From how many bytes on they are shown as pictures.
 pub const LEAST: usize = 16;
@@ -17,160 +17,69 @@ struct Layout {
     /// How many bytes a row of a column has, and how many rows a column.
     wide: usize,
     high: usize,
-    /// How many columns a band has at most, and how many blank bytes are between two of them.
+    /// How many columns a band has at most, and how many bytes it is from one to the next: one is blank between them, or none.
     across: usize,
-    gap: usize,
-    /// What the picture shows.
-    text: &'static [u8],
+    step: usize,
 }
 
-/// Cells as character sets have them, and rows of 1, 2, 3 and 40 bytes.
-const LAYOUTS: [Layout; 5] = [
-    Layout {
-        wide: 1,
-        high: 8,
-        across: 32,
-        gap: 0,
-        text: b"cells of 8 by 8",
-    },
-    Layout {
-        wide: 1,
-        high: 64,
-        across: 20,
-        gap: 1,
-        text: b"rows of 1 byte",
-    },
-    Layout {
-        wide: 2,
-        high: 63,
-        across: 13,
-        gap: 1,
-        text: b"rows of 2 bytes",
-    },
-    Layout {
-        wide: 3,
-        high: 63,
-        across: 10,
-        gap: 1,
-        text: b"rows of 3 bytes",
-    },
-    Layout {
-        wide: 40,
-        high: 200,
-        across: 1,
-        gap: 0,
-        text: b"rows of 40 bytes",
-    },
+/// Cells as character sets have them, and rows of 1, 2, 3 and 40 bytes: in the order of the fields of a layout.
+const LAYOUTS: [(usize, usize, usize, usize, &str); 5] = [
+    (1, 8, 32, 1, "cells of 8 by 8"),
+    (1, 64, 20, 2, "rows of 1 byte"),
+    (2, 63, 13, 3, "rows of 2 bytes"),
+    (3, 63, 10, 4, "rows of 3 bytes"),
+    (40, 200, 1, 40, "rows of 40 bytes"),
 ];
 
-/// A picture of bytes.
-#[derive(Clone, Copy)]
-struct Picture<'b> {
-    bytes: &'b [u8],
-    layout: Layout,
-    /// How many bytes a row of the picture has, and how many rows there are.
-    wide: usize,
-    high: usize,
-}
-
-/// How many parts of a size something has, the last of which may be short.
-fn parts_of(count: usize, size: usize) -> usize {
-    if size == 0 {
-        return 0;
+impl Layout {
+    /// How many bytes a row of the picture of so many bytes has, and how many rows there are.
+    fn size(self, count: usize) -> (usize, usize) {
+        let rows = count.div_ceil(self.wide.max(1));
+        let columns = rows.div_ceil(self.high.max(1));
+        let bands = columns.div_ceil(self.across.max(1));
+        let gap = self.step.saturating_sub(self.wide);
+        let wide = columns
+            .min(self.across)
+            .saturating_mul(self.step)
+            .saturating_sub(gap);
+        (wide, rows.min(bands.saturating_mul(self.high)))
     }
-    let whole = count / size;
-    if count % size == 0 {
-        whole
-    } else {
-        whole.saturating_add(1)
-    }
-}
 
-/// The quotient and the remainder; of zero for a divisor of zero.
-fn divided(number: usize, by: usize) -> (usize, usize) {
-    if by == 0 {
-        return (0, 0);
-    }
-    (number / by, number % by)
-}
-
-impl<'b> Picture<'b> {
-    fn new(bytes: &'b [u8], layout: Layout) -> Picture<'b> {
-        let rows = parts_of(bytes.len(), layout.wide);
-        let columns = parts_of(rows, layout.high);
-        let across = columns.min(layout.across);
-        let bands = parts_of(columns, layout.across);
-        let high = if bands <= 1 {
-            rows.min(layout.high)
-        } else {
-            bands.saturating_mul(layout.high)
-        };
-        let wide = across
-            .saturating_mul(layout.wide.saturating_add(layout.gap))
-            .saturating_sub(layout.gap);
-        Picture {
-            bytes,
-            layout,
-            wide,
-            high,
+    /// The byte at a place of a row of the picture; none between columns and after the last byte.
+    fn byte_at(self, bytes: &[u8], row: usize, place: usize) -> u8 {
+        let (high, step) = (self.high.max(1), self.step.max(1));
+        let (band, y, column, x) = (row / high, row % high, place / step, place % step);
+        let column = band.saturating_mul(self.across).saturating_add(column);
+        let row = column.saturating_mul(high).saturating_add(y);
+        let index = row.saturating_mul(self.wide).saturating_add(x);
+        match bytes.get(index) {
+            Some(byte) if x < self.wide => *byte,
+            _ => 0,
         }
     }
 
-    /// The byte at a place of a row; none between columns and after the last byte.
-    fn byte_at(&self, row: usize, place: usize) -> Option<u8> {
-        let (band, y) = divided(row, self.layout.high);
-        let (column, x) = divided(place, self.layout.wide.saturating_add(self.layout.gap));
-        if self.layout.wide <= x {
-            return None;
-        }
-        let column = band
-            .saturating_mul(self.layout.across)
-            .saturating_add(column);
-        let row = column.saturating_mul(self.layout.high).saturating_add(y);
-        let index = row.saturating_mul(self.layout.wide).saturating_add(x);
-        self.bytes.get(index).copied()
-    }
-
-    /// Its bytes in the format BMP, which begins with the lowest row. Each row has a multiple of four bytes.
-    fn bitmap(&self, alloc: Global) -> Result<Vec<u8>, AllocError> {
-        let padded = parts_of(self.wide, 4).saturating_mul(4);
-        let size = padded.saturating_mul(self.high);
+    /// Bytes in the format BMP, which begins with the lowest row. Each row has a multiple of four bytes.
+    fn bitmap(self, alloc: Global, bytes: &[u8]) -> Result<Vec<u8>> {
+        let (wide, high) = self.size(bytes.len());
+        let padded = wide.div_ceil(4).saturating_mul(4);
+        let size = padded.saturating_mul(high);
         let mut out = Vec::new(alloc);
         out.extend_from_slice(b"BM")?;
         put_numbers(&mut out, &[HEAD.saturating_add(size), 0, HEAD, 40])?;
-        put_numbers(&mut out, &[self.wide.saturating_mul(8), self.high])?;
-        out.extend_from_slice(&[1, 0, 1, 0])?;
+        put_numbers(&mut out, &[wide.saturating_mul(8), high, 0x0001_0001])?;
         put_numbers(&mut out, &[0, size, 0, 0, 2, 2, 0x00FF_FFFF, 0x0020_2020])?;
-        for row in (0..self.high).rev() {
-            for place in 0..padded {
-                let byte = match self.byte_at(row, place) {
-                    Some(byte) if place < self.wide => byte,
-                    _ => 0,
-                };
-                out.push(byte)?;
+        for row in (0..high).rev() {
+            for place in 0..wide {
+                out.push(self.byte_at(bytes, row, place))?;
             }
+            out.extend_from_slice(part_of(&[0; 3], 0, padded.saturating_sub(wide)))?;
         }
         Ok(out)
-    }
-
-    /// Appends the picture.
-    fn put(&self, alloc: Global, out: &mut Vec<u8>) -> Result<(), AllocError> {
-        let bitmap = self.bitmap(alloc)?;
-        let text = STANDARD.encode(alloc, &bitmap)?;
-        out.extend_from_slice(b"<img src=\"data:image/bmp;base64,")?;
-        out.extend_from_slice(text.as_bytes())?;
-        put_decimal(out, b"\" width=\"", self.wide.saturating_mul(8))?;
-        put_decimal(out, b"\" height=\"", self.high)?;
-        out.extend_from_slice(b"\" alt=\"")?;
-        out.extend_from_slice(self.layout.text)?;
-        out.extend_from_slice(b"\" title=\"")?;
-        out.extend_from_slice(self.layout.text)?;
-        out.extend_from_slice(b"\"> ")
     }
 }
 
 /// Appends numbers of four bytes, the low byte first.
-fn put_numbers(out: &mut Vec<u8>, numbers: &[usize]) -> Result<(), AllocError> {
+fn put_numbers(out: &mut Vec<u8>, numbers: &[usize]) -> Result<()> {
     for number in numbers {
         let number = (*number).min(0xFFFF_FFFF) as u32;
         out.extend_from_slice(&number.to_le_bytes())?;
@@ -178,11 +87,19 @@ fn put_numbers(out: &mut Vec<u8>, numbers: &[usize]) -> Result<(), AllocError> {
     Ok(())
 }
 
-/// Appends bytes as pictures that fold open.
-pub fn put_pictures(alloc: Global, out: &mut Vec<u8>, bytes: &[u8]) -> Result<(), AllocError> {
-    open_fold(out, bytes.len(), b" bytes as pixels")?;
-    for layout in LAYOUTS {
-        Picture::new(bytes, layout).put(alloc, out)?;
+/// Appends bytes as pictures.
+pub fn put_pictures(alloc: Global, out: &mut Vec<u8>, bytes: &[u8]) -> Result<()> {
+    for (wide, high, across, step, title) in LAYOUTS {
+        let layout = Layout {
+            wide,
+            high,
+            across,
+            step,
+        };
+        let (wide, high) = layout.size(bytes.len());
+        let text = STANDARD.encode(alloc, &layout.bitmap(alloc, bytes)?)?;
+        put!(out; "<img src=\"data:image/bmp;base64,", text.as_str(), "\" width=\"", wide.saturating_mul(8));
+        put!(out; "\" height=\"", high, "\" alt=\"", title, "\" title=\"", title, "\"> ");
     }
-    close_fold(out)
+    Ok(())
 }

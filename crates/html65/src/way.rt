@@ -1,9 +1,7 @@
 //! How a line refers to a name or an address.
 
-use isa65::Mnemonic;
-
 /// How a line refers to a name or an address, in the order in which a page shows them.
-#[derive(Clone, Copy, PartialEq, Eq)]
+#[derive(Clone, Copy, PartialEq, Eq, PartialOrd, Ord)]
 pub enum Way {
     /// By `jsr`.
     Call,
@@ -25,135 +23,86 @@ pub enum Way {
     Value,
 }
 
-/// All ways, in their order.
-pub const WAYS: [Way; 10] = [
-    Way::Call,
-    Way::Jump,
-    Way::Branch,
-    Way::Read,
-    Way::Write,
-    Way::Change,
-    Way::Pointer,
-    Way::Table,
-    Way::Half,
-    Way::Value,
+/// What a page calls each way, in their order.
+const TEXTS: [&str; 10] = [
+    "call", "jump", "branch", "read", "write", "change", "pointer", "table", "half", "value",
 ];
 
-/// What an operand has before and around a name.
-#[derive(Clone, Copy)]
-pub struct Signs {
-    /// `#`.
-    pub is_immediate: bool,
-    /// `(`.
-    pub is_pointer: bool,
-    /// `<` or `>`.
-    pub is_half: bool,
-    /// How many commas.
-    pub commas: usize,
+/// The first four letters of a mnemonic or a directive, in small letters. A blank stands after three.
+pub type Word = [u8; 4];
+
+/// Those of a word.
+pub fn word_of(text: &[u8]) -> Word {
+    let mut word = *b"    ";
+    for (to, from) in word.iter_mut().zip(text) {
+        *to = from.to_ascii_lowercase();
+    }
+    word
 }
 
 impl Way {
     /// What a page calls it.
-    pub fn text(self) -> &'static [u8] {
-        match self {
-            Way::Call => b"call",
-            Way::Jump => b"jump",
-            Way::Branch => b"branch",
-            Way::Read => b"read",
-            Way::Write => b"write",
-            Way::Change => b"change",
-            Way::Pointer => b"pointer",
-            Way::Table => b"table",
-            Way::Half => b"half",
-            Way::Value => b"value",
-        }
+    pub fn text(self) -> &'static str {
+        TEXTS[self as usize]
     }
 
-    /// Its place in the order.
-    pub fn rank(self) -> u8 {
-        match self {
-            Way::Call => 0,
-            Way::Jump => 1,
-            Way::Branch => 2,
-            Way::Read => 3,
-            Way::Write => 4,
-            Way::Change => 5,
-            Way::Pointer => 6,
-            Way::Table => 7,
-            Way::Half => 8,
-            Way::Value => 9,
+    /// How a mnemonic or a directive refers to what its first operand has, if no sign stands before that.
+    pub fn of(word: Word) -> Way {
+        match &word {
+            b"jsr " => Way::Call,
+            b"jmp " | b"bra " => Way::Jump,
+            b"bcc " | b"bcs " | b"beq " | b"bmi " | b"bne " | b"bpl " | b"bvc " | b"bvs " =>
+                Way::Branch,
+            b"sta " | b"stx " | b"sty " | b"stz " => Way::Write,
+            b"inc " | b"dec " | b"asl " | b"lsr " | b"rol " | b"ror " | b"trb " | b"tsb " =>
+                Way::Change,
+            [b'r' | b's', b'm', b'b', _] => Way::Change,
+            b".byt" => Way::Value,
+            b".lob" | b".hib" => Way::Half,
+            [b'.', ..] => Way::Table,
+            _ => Way::Read,
         }
-    }
-
-    /// How the operand of a mnemonic or a directive refers to what it has.
-    pub fn of(operation: &[u8], signs: Signs) -> Way {
-        if signs.is_half {
-            return Way::Half;
-        }
-        if operation.first() == Some(&b'.') {
-            return in_table(operation);
-        }
-        if signs.is_immediate {
-            return Way::Value;
-        }
-        if signs.is_pointer {
-            return Way::Pointer;
-        }
-        by_instruction(operation, signs.commas)
     }
 }
 
-fn in_table(directive: &[u8]) -> Way {
-    if directive.eq_ignore_ascii_case(b".byte") {
-        Way::Value
-    } else if directive.eq_ignore_ascii_case(b".lobytes")
-        || directive.eq_ignore_ascii_case(b".hibytes")
-    {
-        Way::Half
-    } else {
-        Way::Table
-    }
+/// The signs that have been read in the operands of a line.
+#[derive(Clone, Copy)]
+pub struct Signs {
+    is_data: bool,
+    first: Way,
+    /// How a name or a number that comes next is referred to.
+    pub way: Way,
+    /// Whether it is added to a name, or subtracted from one.
+    is_added: bool,
 }
 
-/// By a mnemonic, in the operand after so many commas.
-fn by_instruction(word: &[u8], commas: usize) -> Way {
-    match Mnemonic::from_bytes(word) {
-        Some(Mnemonic::Jsr) => Way::Call,
-        Some(Mnemonic::Jmp | Mnemonic::Bra) => Way::Jump,
-        Some(
-            Mnemonic::Bcc
-            | Mnemonic::Bcs
-            | Mnemonic::Beq
-            | Mnemonic::Bmi
-            | Mnemonic::Bne
-            | Mnemonic::Bpl
-            | Mnemonic::Bvc
-            | Mnemonic::Bvs,
-        ) => Way::Branch,
-        Some(Mnemonic::Sta | Mnemonic::Stx | Mnemonic::Sty | Mnemonic::Stz) => Way::Write,
-        Some(
-            Mnemonic::Inc
-            | Mnemonic::Dec
-            | Mnemonic::Asl
-            | Mnemonic::Lsr
-            | Mnemonic::Rol
-            | Mnemonic::Ror
-            | Mnemonic::Trb
-            | Mnemonic::Tsb,
-        ) => Way::Change,
-        _ => by_bit_instruction(word, commas),
+impl Signs {
+    /// None yet, after a mnemonic or a directive.
+    pub fn after(word: Word) -> Signs {
+        let way = Way::of(word);
+        Signs {
+            is_data: word[0] == b'.',
+            first: way,
+            way,
+            is_added: false,
+        }
     }
-}
 
-/// By `rmb0`, `smb0`, `bbr0`, `bbs0` and their like, or by an instruction that reads.
-fn by_bit_instruction(word: &[u8], commas: usize) -> Way {
-    let name = word.get(..3).unwrap_or(&[]);
-    if name.eq_ignore_ascii_case(b"rmb") || name.eq_ignore_ascii_case(b"smb") {
-        return Way::Change;
+    /// Whether a number that comes next is an address of memory.
+    pub fn is_address(self) -> bool {
+        !(self.is_data || self.is_added || matches!(self.way, Way::Half | Way::Value))
     }
-    let is_branch = name.eq_ignore_ascii_case(b"bbr") || name.eq_ignore_ascii_case(b"bbs");
-    if is_branch && 0 < commas {
-        return Way::Branch;
+
+    /// Reads a sign. A second operand of an instruction is where it branches to.
+    pub fn take(&mut self, sign: u8) {
+        self.is_added = sign == b'+' || sign == b'-';
+        match sign {
+            b'#' => self.way = Way::Value,
+            b'<' | b'>' => self.way = Way::Half,
+            b'(' if self.way == self.first && !self.is_data => self.way = Way::Pointer,
+            b',' if self.is_data => self.way = self.first,
+            b',' => self.way = Way::Branch,
+            _ => {}
+        }
     }
-    Way::Read
 }
