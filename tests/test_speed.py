@@ -143,6 +143,11 @@ def files(what, kind, count):
             "jumps": lambda: {"info": groups(kind, count), "bin": jumps()},
             "definitions": lambda: {"s": groups("definitions", count) + " nop\n"},
             "lines": lambda: {"s": count * " .byte 0,1\n", "bin": bytes(2 * count)},
+            "used": lambda: {"s": "".join(f"n{n}: lda n{n * 7919 % count}\n" for n in range(count))},
+            "values": lambda: {"s": "".join(f"n{n} := 4\n" for n in range(count)) + "".join(
+                f" .byte n{n * 7919 % count}\n" for n in range(count))},
+            "references": lambda: {"s": "x := 4\n" + count * " .byte x\n"},
+            "texts": lambda: {"s": count * ' .byte "&<>"\n .byte 1,2\n'},
             "line": lambda: {"s": " .byte 0,1" + (count - 1) * ",0,1" + "\n", "bin": bytes(2 * count)}}[what]()
 
 
