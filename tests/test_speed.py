@@ -146,7 +146,7 @@ def files(what, kind, count):
             "used": lambda: {"s": "".join(f"n{n}: lda n{n * 7919 % count}\n" for n in range(count))},
             "values": lambda: {"s": "".join(f"n{n} := 4\n" for n in range(count)) + "".join(
                 f" .byte n{n * 7919 % count}\n" for n in range(count))},
-            "references": lambda: {"s": "x := 4\n" + count * " .byte x\n"},
+            "references": lambda: {"s": "v := 4\n" + count * " .byte v\n"},
             "texts": lambda: {"s": count * ' .byte "&<>"\n .byte 1,2\n'},
             "line": lambda: {"s": " .byte 0,1" + (count - 1) * ",0,1" + "\n", "bin": bytes(2 * count)}}[what]()
 
