@@ -67,9 +67,10 @@ class Sample:
         Path("config").write_text(
             f"MEMORY {{ ZP: start = $80, size = $70; MAIN: start = {self.start_at(distance)}, size = {size}, file = %O,"
             f" fill = {'yes' if self.is_rom else 'no'}, fillval = $FF; }}\nSEGMENTS {{"
-            " ZEROPAGE: load = ZP, type = zp, optional = yes; BSS: load = MAIN, type = bss, optional = yes;\n"
+            " ZEROPAGE: load = ZP, type = zp, optional = yes;\n"
             + "".join(f"{part}: load = MAIN;\n" for part in self.parts)
-            + f"VECTORS: load = MAIN, offset = {size - 6}, optional = yes; }}\n"
+            + f"VECTORS: load = MAIN, offset = {size - 6}, optional = yes;\n"
+            + "BSS: load = MAIN, type = bss, optional = yes; }\n"
         )
         self.run("ld65", "-C", "config", *(() if distance else ("-m", "map", "-Ln", "labels")), "-o", "image",
                  "program.o")
