@@ -21,7 +21,7 @@ WIDER = {
     "da65_cli": 2,
     "as65": 7,
     "trace65": 1,
-    "name65": 2,
+    "name65": 1,
 }
 
 TESTS = ("tests/*.py", "tests/stand_ins/*", "tests/run65.*")

@@ -1,39 +1,158 @@
--- The lines of a listing, written one after the other.
-use Rattle.std.proofs.Common.{◌≡◌, ◌++◌, ℕ, Bool, List, [], ◌∷◌, map, Option, ap, refl}
-use Rattle.std.specs.Prelude.{is_some}
+-- What lines become, written one after the other.
+use Rattle.std.proofs.Common.{◌≡◌, ◌∙◌, ◌++◌, ◌+◌, ◌<◌, ℕ, arith, true, false, List, [], ◌∷◌, ap, append_assoc, codes, drop, nat_lt, refl, subst, sym}
+use Rattle.std.specs.List.{IsSplitAt, list_all}
+use Rattle.std.proofs.lemmas.List.{append-nil, take-append-drop}
+use Rattle.std.proofs.lemmas.Bool.Decides.{nat_tests}
+use Rattle.std.proofs.lemmas.List.Folds.{list_all-append}
 use Rattle.text65.specs.Lines.{text_lines}
-use Rattle.stmt65.specs.Words.{parts, reading_of, readings}
-use Rattle.stmt65.specs.declared.language.Language.{Language}
-use Rattle.stmt65.specs.declared.assembling.assembler.Source.{Source}
-use Rattle.name65.specs.NamedText.{AreLines, is_touched, line_text, lines_text, touched_from}
+use Rattle.text65.specs.Names.{has_name_form, is_blank}
+use Rattle.stmt65.specs.Words.{same}
+use Rattle.stmt65.specs.declared.source_line.Half.{Half}
+use Rattle.name65.specs.Changes.{AreListed, Becomes, IsList, IsRest, IsRevalued, IsRewritten, IsValue, LineBecomes, LinesBecome, Scope, address, as_before, comment, count_of, directive_of, halves, immediate, is_between, is_touched, is_touched_constant, may_keep, more, names_one, next_line, no_comment, none, reference_text, says, table}
+use Rattle.name65.specs.Written.{AppendsItem, AppendsOne, AreBlanks}
+use Rattle.name65.specs.declared.operands.Item.{Item}
+use Rattle.name65.specs.declared.operands.Style.{Style}
+use Rattle.name65.specs.declared.operands.Style.TheVariants as style
+use Rattle.name65.specs.declared.reference.Reference.{Reference}
 
--- as `AreLines`, of the lines of a text whose first byte is at an address
-pub record AreFrom (language : Language) (named : ℕ → Bool) (used : Bool) (at : ℕ) (rest ends text : List ℕ) : Type 0 where
-  pub changes : List (Option (List ℕ))
-  pub touched : map is_some changes ≡ touched_from named used at (readings language rest) ends
-  pub whole : text ≡ lines_text (text_lines rest) changes
+-- the parts of what is cut at a place
+pub split_whole : {X : Type 0} (xs : List X) (mid : ℕ) (front back : List X) → IsSplitAt xs mid front back → xs ≡ front ++ back
+split_whole xs mid front back at = rw (at.1, at.2) (sym (take-append-drop mid xs))
 
--- those of all lines
-pub from_all : {L : Type 0} (s : Source L) (named : ℕ → Bool) (used : Bool) (ends text : List ℕ) → AreFrom s.language named used s.start s.text.now ends text → AreLines s named used ends text
-from_all s named used ends text from = record { changes = from.changes; touched = from.touched; whole = from.whole }
+-- the parts of what is cut at two
+pub cut_whole : (bytes before rest within after : List ℕ) (from to : ℕ) → IsSplitAt bytes from before rest → IsSplitAt rest to within after → bytes ≡ before ++ (within ++ after)
+cut_whole bytes before rest within after from to first second =
+    split_whole bytes from before rest first ∙ ap (λ r. before ++ r) (split_whole rest to within after second)
 
--- a line, and then those after it
-pub from_next : (language : Language) (named : ℕ → Bool) (used : Bool) (at : ℕ) (rest line after : List ℕ) (end : ℕ) (later : List ℕ) (change : Option (List ℕ)) (text : List ℕ)
-    → text_lines rest ≡ line ∷ text_lines after → is_some change ≡ is_touched named used at end (reading_of language (parts language line))
-    → AreFrom language named used end after later text → AreFrom language named used at rest (end ∷ later) (line_text line change ++ text)
-unfolding touched_from lines_text
-from_next language named used at rest line after end later change text e is from = record {
-  changes = change ∷ from.changes;
-  touched = rw (e, ← is, from.touched) refl;
-  whole = rw e (ap (λ t. line_text line change ++ t) from.whole);
+-- one blank more
+pub more_blank : (old out new : List ℕ) → AppendsOne AreBlanks old out → new ≡ out ++ 32 ∷ [] → AppendsOne AreBlanks old new
+more_blank old out new before e = record {
+  text = before.text ++ 32 ∷ [];
+  is_one = rw (list_all-append is_blank before.text (32 ∷ []), before.is_one) refl;
+  whole = rw (e, before.whole, append_assoc) refl;
 }
 
--- no line is left
-pub from_last : (language : Language) (named : ℕ → Bool) (used : Bool) (at : ℕ) (rest left : List ℕ) → text_lines rest ≡ [] → AreFrom language named used at rest left []
-unfolding touched_from lines_text
-from_last language named used at rest left e = record { changes = []; touched = rw e refl; whole = rw e refl }
+pub first_blank : (old new : List ℕ) → new ≡ old ++ 32 ∷ [] → AppendsOne AreBlanks old new
+first_blank old new e = record { text = 32 ∷ []; is_one = refl; whole = e }
 
--- no address is left
-pub from_end : (language : Language) (named : ℕ → Bool) (used : Bool) (at : ℕ) (rest line after left : List ℕ) → text_lines rest ≡ line ∷ text_lines after → left ≡ [] → AreFrom language named used at rest left []
-unfolding touched_from lines_text
-from_end language named used at rest line after left e none = record { changes = []; touched = rw (e, none) refl; whole = rw e refl }
+-- operands of a list that were appended, with what stands before each, and what is left
+pub record Done (scope : Scope) (s : Style) (start at : ℕ) (all rest old out : List ℕ) : Type 0 where
+  pub was : List ℕ
+  pub now : List ℕ
+  pub listed : AreListed scope s start at was now
+  pub all_is : all ≡ was ++ rest
+  pub out_is : out ≡ old ++ now
+
+pub nothing_done : (scope : Scope) (s : Style) (start : ℕ) (all old : List ℕ) → Done scope s start start all all old old
+nothing_done scope s start all old = record { was = []; now = []; listed = none; all_is = refl; out_is = sym (append-nil old) }
+
+pub one_done : (scope : Scope) (s : Style) (start at next : ℕ) (all rest old out new between was after : List ℕ) → Done scope s start at all rest old out
+    → rest ≡ between ++ (was ++ after) → list_all is_between between ≡ true → (now : List ℕ) → Becomes scope s at was now → new ≡ (out ++ between) ++ now → next ≡ at + count_of s was
+    → Done scope s start next all after old new
+one_done scope s start at next all rest old out new between was after d e all_between now becomes whole is = record {
+  was = d.was ++ (between ++ was);
+  now = d.now ++ (between ++ now);
+  listed = subst (λ n. AreListed scope s start n (d.was ++ (between ++ was)) (d.now ++ (between ++ now))) (sym is) (more between was now d.listed all_between becomes);
+  all_is = rw (d.all_is, e, append_assoc, append_assoc) refl;
+  out_is = rw (whole, d.out_is) (simp append_assoc refl);
+}
+
+-- all operands, and what stands after them
+pub all_done : (scope : Scope) (s : Style) (start at end : ℕ) (all rest old out new : List ℕ) → Done scope s start at all rest old out → at ≡ end
+    → AppendsOne (IsRest rest) out new → AppendsOne (IsList scope s start end all) old new
+all_done scope s start at end all rest old out new d is a = record {
+  text = d.now ++ a.text;
+  is_one = record {
+    before = d.was;
+    after = d.now;
+    listed = subst (λ n. AreListed scope s start n d.was d.now) is d.listed;
+    rest = rest;
+    others = a.text;
+    is_rest = a.is_one;
+    old_is = d.all_is;
+    new_is = refl;
+  };
+  whole = rw (a.whole, d.out_is, append_assoc) refl;
+}
+
+-- a line, and then those after it
+pub lines_from : (scope : Scope) (at end : ℕ) (rest line after : List ℕ) (later : List ℕ) (text moved texts tails : List ℕ) → text_lines rest ≡ line ∷ text_lines after
+    → LineBecomes scope at end line text moved → LinesBecome scope end (text_lines after) later texts tails → LinesBecome scope at (text_lines rest) (end ∷ later) (text ++ texts) (moved ++ tails)
+lines_from scope at end rest line after later text moved texts tails e is others = rw e (next_line is others)
+
+-- blanks before a comment that changed
+pub rest_comment : (rest kept blanks after old first second new : List ℕ) → rest ≡ kept ++ (blanks ++ after) → list_all is_blank blanks ≡ true → after ≡ 59 ∷ drop 1 after
+    → first ≡ old ++ kept → AppendsOne AreBlanks first second → new ≡ second ++ after → AppendsOne (IsRest rest) old new
+rest_comment rest kept blanks after old first second new e b s k gap n = record {
+  text = kept ++ (gap.text ++ after);
+  is_one = rw e (subst (λ a. IsRest (kept ++ (blanks ++ a)) (kept ++ (gap.text ++ a))) (sym s) (comment kept blanks gap.text (drop 1 after) b gap.is_one));
+  whole = rw (n, gap.whole, k) (simp append_assoc refl);
+}
+
+pub rest_as_before : (rest old new : List ℕ) → new ≡ old ++ rest → AppendsOne (IsRest rest) old new
+rest_as_before rest old new e = record { text = rest; is_one = as_before; whole = e }
+
+-- the list of a directive
+pub table_done : (scope : Scope) (s : Style) (at end : ℕ) (line before word after old first second new : List ℕ) → line ≡ before ++ (word ++ after) → may_keep s ≡ true
+    → same word (directive_of s) ≡ true → first ≡ old ++ before → second ≡ first ++ word → AppendsOne (IsList scope s at end after) second new
+    → AppendsOne (IsRewritten scope at end line) old new
+table_done scope s at end line before word after old first second new e k w f g a = record {
+  text = before ++ (word ++ a.text);
+  is_one = rw e (table s before word k w a.is_one);
+  whole = rw (a.whole, g, f) (simp append_assoc refl);
+}
+
+-- a list that becomes one of halves
+pub halves_done : (scope : Scope) (which : Half) (at end : ℕ) (line before word after blanks text old first second third new : List ℕ) → line ≡ before ++ (word ++ after)
+    → after ≡ blanks ++ text → list_all is_blank blanks ≡ true → same word (codes ".byte") ≡ true → first ≡ old ++ before
+    → second ≡ first ++ directive_of (style.Halves which) → AppendsOne AreBlanks second third → AppendsOne (IsList scope (style.Halves which) at end text) third new
+    → AppendsOne (IsRewritten scope at end line) old new
+halves_done scope which at end line before word after blanks text old first second third new e split b w f g gap a = record {
+  text = before ++ (directive_of (style.Halves which) ++ (gap.text ++ a.text));
+  is_one = rw (e, split) (halves which before word blanks gap.text w b gap.is_one a.is_one);
+  whole = rw (a.whole, gap.whole, g, f) (simp append_assoc refl);
+}
+
+-- an operand after `#`
+pub immediate_done : (scope : Scope) (at end : ℕ) (line before sign after old first second new : List ℕ) → line ≡ before ++ (sign ++ after) → sign ≡ 35 ∷ [] → scope.named at ≡ false
+    → first ≡ old ++ before → second ≡ first ++ 35 ∷ [] → AppendsOne (IsList scope style.Bytes (at + 1) end after) second new → AppendsOne (IsRewritten scope at end line) old new
+immediate_done scope at end line before sign after old first second new e s n f g a = record {
+  text = before ++ 35 ∷ a.text;
+  is_one = rw (e, s) (immediate before n a.is_one);
+  whole = rw (a.whole, g, f) (simp append_assoc refl);
+}
+
+-- the address of an instruction
+pub address_done : (scope : Scope) (at end : ℕ) (line before was after old first second new : List ℕ) (r : Reference) → line ≡ before ++ (was ++ after) → IsValue scope.language was
+    → has_name_form r.name.now ≡ true → scope.named at ≡ true → names_one scope.named (at + 1) end ≡ false → first ≡ old ++ before → second ≡ first ++ reference_text r
+    → AppendsOne (IsRest after) second new → AppendsOne (IsRewritten scope at end line) old new
+address_done scope at end line before was after old first second new r e v n m others f g a = record {
+  text = before ++ (reference_text r ++ a.text);
+  is_one = rw e (address before was r v n m others a.is_one);
+  whole = rw (a.whole, g, f) (simp append_assoc refl);
+}
+
+-- a line with another value
+pub revalued : (line before was after first second now new : List ℕ) → line ≡ before ++ (was ++ after) → list_all no_comment was ≡ true → first ≡ before → second ≡ first ++ now
+    → AppendsOne (IsRest after) second new → IsRevalued line new
+revalued line before was after first second now new e h f g a = record {
+  before = before;
+  was = was;
+  now = now;
+  rest = after;
+  others = a.text;
+  old_is = e;
+  whole = h;
+  is_rest = a.is_one;
+  new_is = rw (a.whole, g, f) (simp append_assoc refl);
+}
+
+-- a line that gives no bytes and no constant is not touched
+pub idle : (scope : Scope) (at end : ℕ) (line : List ℕ) → nat_lt at end ≡ false → is_touched_constant scope (says scope line) ≡ false → is_touched scope at end line ≡ false
+unfolding is_touched
+idle scope at end line e f = rw e f
+
+-- a line of whose bytes groups name none is not touched
+pub unnamed : (scope : Scope) (at end : ℕ) (line : List ℕ) → at < end → names_one scope.named at end ≡ false → is_touched scope at end line ≡ false
+unfolding is_touched
+unnamed scope at end line h e = let test : nat_lt at end ≡ true = grind (arith, nat_tests, h) in rw (test, e) refl

@@ -1,4 +1,6 @@
+pub mod Changes
 pub mod Command
 pub mod Marks
 pub mod NamedText
 pub mod Request
+pub mod Written

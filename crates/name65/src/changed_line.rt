@@ -1,23 +1,24 @@
-//! What stands in the place of a line that a group touches.
+//! What stands in the place of a line that gives a byte that groups name.
+
+ghost use Rattle.std.specs.Prelude.{◌≡◌, ◌∷◌, [], IsTrue, OnOk};
+ghost use Rattle.stmt65.specs.Words.{same};
+ghost use Rattle.name65.specs.Written.{Rewrites};
 
 use crate::address_operand::put_address;
 use crate::complaint::Refusal;
-use crate::constant_line::{moved, put_kept};
-use crate::constants::{Fate, fate_of};
-use crate::operands::{Operands, keep_free};
+use crate::operands::{Operands, Style, keep_free};
 use crate::plan::{PlacedLine, Plan};
-use crate::rewriting::{put_operands, put_table};
-use crate::wishes::Wish;
-use std::alloc::AllocError;
-use stmt65::{Language, Part, Place, Places, SourceLine, Span, read_line};
+use crate::rewriting::{Run, are_blank, blank_len, cut_at, put_gap, put_list};
+use crate::wishes::{Wish, Wishes};
+use stmt65::{Half, Language, Part, Place, Places, Span};
 
 /// What the operands of a line are, with their places.
 #[derive(Drop)]
 enum Form<'l> {
-    /// One after `#`.
-    Immediate(Places<'l>),
-    /// The list of a `.byte` or `.word`, which stands there; each gives so many bytes.
-    List(u64, Span, Places<'l>),
+    /// One after the `#` that stands there.
+    Immediate(Span, Places<'l>),
+    /// The list of a `.byte` or `.word`, which stands there.
+    List(Style, Span, Places<'l>),
     /// Others.
     Other,
 }
@@ -34,91 +35,188 @@ fn form_of(language: Language, line: &[u8]) -> Form<'_> {
         return Form::Other;
     };
     if word.eq_ignore_ascii_case(b".byte") {
-        return Form::List(1, span, places);
+        return Form::List(Style::Bytes, span, places);
     }
     if word.eq_ignore_ascii_case(b".word") {
-        return Form::List(2, span, places);
+        return Form::List(Style::Words, span, places);
     }
     match places.next() {
         Some(
             Place {
                 part: Part::Mark(b'#'),
-                ..
+                span,
             },
-        ) => Form::Immediate(places),
+        ) => Form::Immediate(span, places),
         _ => Form::Other,
     }
 }
 
-/// Appends what stands in the place of a line that gives bytes.
-fn put_operation(
+fn is_sign(text: &[u8]) -> bool
+    ensures { IsTrue result → text.now ≡ 35 ∷ [] }
+{
+    match text {
+        [b'#'] => true,
+        _ => false,
+    }
+}
+
+/// Whether a text is a word, in any letter case.
+fn is_word(text: &[u8], word: &[u8]) -> bool
+    ensures { result ≡ same text.now word.now }
+{
+    text.eq_ignore_ascii_case(word)
+}
+
+/// The half that each of the bytes from an address to before another becomes, if there is one.
+fn common_half(wishes: &Wishes<'_>, at: u64, end: u64) -> Option<Half> {
+    let mut found = None;
+    for address in at..end {
+        match (wishes.at(address)?.wish, found) {
+            (Wish::Half(half, _), None) => found = Some(half),
+            (Wish::Half(half, _), Some(first)) if half == first => {}
+            _ => return None,
+        }
+    }
+    found
+}
+
+/// Appends a line whose operand stands after the `#` that stands at a place.
+fn put_immediate(
     out: &mut Vec<u8>,
     plan: &Plan<'_, '_>,
     placed: &PlacedLine<'_>,
-) -> Result<(), Refusal> {
-    let PlacedLine { line, at, end, .. } = *placed;
-    if let Some(wished) = plan.wishes.at(at) {
-        if let Wish::Address(reference) = wished.wish {
-            keep_free(
-                plan.wishes,
-                at.saturating_add(1),
-                end.saturating_sub(at).saturating_sub(1),
-            )?;
-            return put_address(out, placed, wished, reference);
-        }
+    sign: Span,
+    places: Places<'_>,
+) -> Result<(), Refusal>
+    ensures { OnOk result (Rewrites plan.now placed.now out.old.items out.new.items) }
+{
+    let Some(found) = cut_at(placed.line, sign.from, sign.to) else {
+        return Err(Refusal::Changed);
+    };
+    let Some(at) = placed.at.checked_add(1) else {
+        return Err(Refusal::Changed);
+    };
+    if !is_sign(found.within) || plan.marks.get_at(placed.at as usize) {
+        return Err(Refusal::Changed);
     }
-    match form_of(placed.language, line) {
-        Form::Immediate(places) => {
+    out.extend_from_slice(found.before)?;
+    out.extend_from_slice(b"#")?;
+    let run = Run {
+        style: Style::Bytes,
+        at,
+        end: placed.end,
+        column: sign.to,
+        text: found.after,
+    };
+    put_list(out, plan, &run, Operands::new(plan.wishes, places, 1))?;
+    Ok(())
+}
+
+/// Appends the line of a `.byte`, which stands at a place, all of whose bytes become halves of a kind: `.lobytes` or `.hibytes`.
+fn put_halves(
+    out: &mut Vec<u8>,
+    plan: &Plan<'_, '_>,
+    placed: &PlacedLine<'_>,
+    half: Half,
+    word: Span,
+    places: Places<'_>,
+) -> Result<(), Refusal>
+    ensures { OnOk result (Rewrites plan.now placed.now out.old.items out.new.items) }
+{
+    let style = Style::Halves(half);
+    let Some(found) = cut_at(placed.line, word.from, word.to) else {
+        return Err(Refusal::Changed);
+    };
+    let Some((blanks, text)) = found.after.split_at_checked(blank_len(found.after)) else {
+        return Err(Refusal::Changed);
+    };
+    if !is_word(found.within, b".byte") || !are_blank(blanks) {
+        return Err(Refusal::Changed);
+    }
+    let column = word.to.saturating_add(blanks.len());
+    out.extend_from_slice(found.before)?;
+    out.extend_from_slice(style.directive())?;
+    put_gap(out, column)?;
+    let run = Run {
+        style,
+        at: placed.at,
+        end: placed.end,
+        column,
+        text,
+    };
+    put_list(out, plan, &run, Operands::new(plan.wishes, places, 1))?;
+    Ok(())
+}
+
+/// Appends the line of a directive, which stands at a place, with a list of a style.
+fn put_table(
+    out: &mut Vec<u8>,
+    plan: &Plan<'_, '_>,
+    placed: &PlacedLine<'_>,
+    style: Style,
+    word: Span,
+    places: Places<'_>,
+) -> Result<(), Refusal>
+    ensures { OnOk result (Rewrites plan.now placed.now out.old.items out.new.items) }
+{
+    let Some(found) = cut_at(placed.line, word.from, word.to) else {
+        return Err(Refusal::Changed);
+    };
+    if !style.may_keep() || !is_word(found.within, style.directive()) {
+        return Err(Refusal::Changed);
+    }
+    out.extend_from_slice(found.before)?;
+    out.extend_from_slice(found.within)?;
+    let run = Run {
+        style,
+        at: placed.at,
+        end: placed.end,
+        column: word.to,
+        text: found.after,
+    };
+    put_list(
+        out,
+        plan,
+        &run,
+        Operands::new(plan.wishes, places, style.size()),
+    )?;
+    Ok(())
+}
+
+/// Appends what stands in the place of a line by the form of its operands.
+fn put_form(out: &mut Vec<u8>, plan: &Plan<'_, '_>, placed: &PlacedLine<'_>) -> Result<(), Refusal>
+    ensures { OnOk result (Rewrites plan.now placed.now out.old.items out.new.items) }
+{
+    let PlacedLine { line, at, end } = *placed;
+    match form_of(plan.language, line) {
+        Form::Immediate(sign, places) => {
             keep_free(plan.wishes, at, 1)?;
-            put_operands(
-                out,
-                Operands::new(plan.wishes, line, places, at.saturating_add(1), 1),
-            )
+            put_immediate(out, plan, placed, sign, places)
         }
-        Form::List(size, word, places) => {
-            put_table(
-                out,
-                Operands::new(plan.wishes, line, places, at, size),
-                word,
-            )
-        }
+        Form::List(Style::Bytes, word, places) => match common_half(plan.wishes, at, end) {
+            Some(half) => put_halves(out, plan, placed, half, word, places),
+            None => put_table(out, plan, placed, Style::Bytes, word, places),
+        },
+        Form::List(style, word, places) => put_table(out, plan, placed, style, word, places),
         Form::Other => {
             keep_free(plan.wishes, at, end.saturating_sub(at))?;
-            Ok(put_kept(out, line)?)
+            Err(Refusal::Changed)
         }
     }
 }
 
-/// Appends what stands in the place of the constant line of a name with this value. A line that moves is appended to the tail.
-fn put_constant(
+/// Appends what stands in the place of a line that gives a byte that a group names, without a line feed.
+pub fn put_operation(
     out: &mut Vec<u8>,
-    tail: &mut Vec<u8>,
     plan: &Plan<'_, '_>,
     placed: &PlacedLine<'_>,
-    (name, value): (&[u8], u64),
-) -> Result<(), AllocError> {
-    match fate_of(plan, name, value) {
-        Fate::Kept => put_kept(out, placed.line),
-        Fate::LeftOut => Ok(()),
-        Fate::Moved(distance) => tail.extend_from_slice(&moved(plan.alloc, placed, distance)?),
-    }
-}
-
-/// Appends what stands in the place of a line. A constant line that moves is appended to the tail.
-pub fn put_changed(
-    out: &mut Vec<u8>,
-    tail: &mut Vec<u8>,
-    plan: &Plan<'_, '_>,
-    placed: &PlacedLine<'_>,
-) -> Result<(), Refusal> {
-    if placed.at < placed.end {
-        return put_operation(out, plan, placed);
-    }
-    let put = match read_line(plan.alloc, placed.language, placed.line)? {
-        Some(SourceLine::Assignment(name, n)) => {
-            put_constant(out, tail, plan, placed, (name, n.value()))
+) -> Result<(), Refusal>
+    ensures { OnOk result (Rewrites plan.now placed.now out.old.items out.new.items) }
+{
+    if let Some(wished) = plan.wishes.at(placed.at) {
+        if let Wish::Address(reference) = wished.wish {
+            return put_address(out, plan, placed, wished, reference);
         }
-        _ => put_kept(out, placed.line),
-    };
-    Ok(put?)
+    }
+    put_form(out, plan, placed)
 }

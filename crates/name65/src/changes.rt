@@ -1,100 +1,90 @@
-//! The lines of a listing, each as it was or changed.
+//! The lines of a listing, each as it becomes.
 
-ghost use Rattle.std.specs.Prelude.{◌≡◌, ◌++◌, ◌-◌, [], if◌then◌else◌, IfOk, None, Ok, OnOk, Some};
-ghost use Rattle.std.specs.List.{list_any, range_with_len};
+ghost use Rattle.std.specs.Prelude.{◌≡◌, ◌-◌, [], IfOk, OnOk, length, slice_get};
+ghost use Rattle.std.specs.Option.{unwrap_or};
+ghost use Rattle.text65.specs.Lines.{text_lines};
 ghost use Rattle.map65.specs.Words.{is_marked};
-ghost use Rattle.stmt65.specs.Words.{source_addresses, source_meaning};
-ghost use Rattle.name65.specs.NamedText.{AreLines, IsNamed, line_text, touches};
+ghost use Rattle.stmt65.specs.Words.{source_addresses};
+ghost use Rattle.name65.specs.Changes.{LinesBecome};
+ghost use Rattle.name65.specs.NamedText.{IsNamed};
+ghost use Rattle.name65.specs.Written.{AppendsLine, scope_seen};
 
-use crate::changed_line::put_changed;
+use crate::changed_line::put_operation;
 use crate::complaint::Refusal;
+use crate::constant_line::{put_idle, put_kept};
 use crate::constants::names_after;
-use crate::marks::mark_named;
+use crate::marks::{has_mark, mark_named};
 use crate::plan::{PlacedLine, Plan};
 use crate::wishes::Wishes;
 use info65::{Info, Tag};
-use map65::Marks;
-use std::alloc::{AllocError, Global};
-use stmt65::{Assembly, Source, SourceLine, Symbols, read_line};
+use std::alloc::Global;
+use stmt65::{Assembly, Source, Symbols};
 use text65::first_line;
 
-/// Whether one of the addresses from `at` to before `end` is marked.
-fn has_mark(marks: &Marks, at: u64, end: u64) -> bool
-    ensures { result ≡ list_any (is_marked marks.now) (range_with_len at (end - at)) }
-{
-    (at..end).any(|address| marks.get_at(address as usize))
-}
-
-/// Whether a group touches a line.
-#[tactic(auto, unfolding(crate::specs::NamedText::is_touched))]
-fn is_touched(plan: &Plan<'_, '_>, placed: &PlacedLine<'_>) -> Result<bool, AllocError>
-    ensures { IfOk result (λ touched. touched ≡ touches plan.now placed.now) }
-{
-    if placed.at < placed.end {
-        return Ok(has_mark(plan.marks, placed.at, placed.end));
-    }
-    match read_line(plan.alloc, placed.language, placed.line)? {
-        Some(SourceLine::Assignment(_, n)) => Ok(
-            plan.used || plan.marks.get_at(n.value() as usize),
-        ),
-        _ => Ok(false),
-    }
-}
-
-/// Appends a line, or what stands in its place if it is touched.
+/// Appends what stands in the place of a line. A line that moves is appended to the tail.
+#[tactic(auto, unfolding(crate::specs::Changes::is_touched))]
 fn put_line(
     out: &mut Vec<u8>,
-    line: &[u8],
-    is_touched: bool,
-    change: &[u8],
-) -> Result<(), AllocError>
-    ensures { OnOk result (out.new.items
-        ≡ out.old.items ++ line_text line.now (if is_touched then Some change.now else None)) }
+    tail: &mut Vec<u8>,
+    change: &mut Vec<u8>,
+    plan: &Plan<'_, '_>,
+    placed: &PlacedLine<'_>,
+) -> Result<(), Refusal>
+    ensures { OnOk result (AppendsLine (scope_seen plan.now) placed.now
+        out.old.items out.new.items tail.old.items tail.new.items) }
 {
-    if is_touched {
-        return out.extend_from_slice(change);
+    if placed.end <= placed.at {
+        return put_idle(out, tail, plan, placed);
     }
-    out.extend_from_slice(line)?;
-    out.push(b'\n')?;
-    Ok(())
+    if !has_mark(plan.marks, placed.at, placed.end) {
+        return Ok(put_kept(out, placed.line)?);
+    }
+    change.clear();
+    put_operation(change, plan, placed)?;
+    Ok(put_kept(out, change.as_slice())?)
 }
 
-/// Appends the lines of a text, by the address after each, or what stands in their places. Constant lines that move are appended to the tail.
+/// Appends the lines of a text that begins at an address, each as it becomes, by the address after each. Lines that move are appended to the
+/// tail.
 fn put_lines(
     out: &mut Vec<u8>,
     tail: &mut Vec<u8>,
     plan: &Plan<'_, '_>,
-    source: &Source<'_, '_, '_>,
+    start: u64,
+    text: &[u8],
     ends: &[u64],
 ) -> Result<(), Refusal>
-    requires { out.old.items ≡ [] }
-    ensures { OnOk result (AreLines source.now (is_marked plan.now.marks.now) plan.now.used ends.now out.new.items) }
+    requires out { out.old.items ≡ [] }
+    requires tail { tail.old.items ≡ [] }
+    ensures { OnOk result (LinesBecome (scope_seen plan.now) start
+        (text_lines text.now) ends.now out.new.items tail.new.items) }
 {
     let mut change = Vec::new(plan.alloc);
-    let mut at = u64::from(source.start);
-    let mut rest = source.text;
+    let mut at = start;
+    let mut rest = text;
     let mut left = ends;
     'lines: while let Some((line, after)) = first_line(rest) {
         let Some((end, later)) = left.split_first() else {
-            return Ok(());
+            return Err(Refusal::Changed);
         };
         let placed = PlacedLine {
-            language: source.language,
             line,
             at,
             end: *end,
         };
-        change.clear();
-        let is_touched = is_touched(plan, &placed)?;
-        if is_touched {
-            put_changed(&mut change, tail, plan, &placed)?;
-        }
-        put_line(out, line, is_touched, &change)?;
+        put_line(out, tail, &mut change, plan, &placed)?;
         at = *end;
         rest = after;
         left = later;
     }
     Ok(())
+}
+
+/// The last of some addresses, or the start if there are none.
+fn last_of(start: u16, ends: &[u64]) -> u64
+    ensures { result ≡ unwrap_or (slice_get ends.now (length ends.now - 1)) start }
+{
+    ends.last().copied().unwrap_or(u64::from(start))
 }
 
 /// A text by names, and the names that it defines, unless they are those of the text that it was.
@@ -120,13 +110,22 @@ pub fn changed_text<'t, 'b>(
     let wishes = Wishes::new(*alloc, source, assembly, info, tags, used)?;
     let plan = Plan {
         alloc: *alloc,
+        language: source.language,
         marks: &marks,
         used,
+        last: last_of(source.start, &assembly.ends),
         wishes: &wishes,
     };
     let mut text = Vec::new(*alloc);
     let mut tail = Vec::new(*alloc);
-    put_lines(&mut text, &mut tail, &plan, source, &assembly.ends)?;
+    put_lines(
+        &mut text,
+        &mut tail,
+        &plan,
+        u64::from(source.start),
+        source.text,
+        &assembly.ends,
+    )?;
     text.extend_from_slice(&tail)?;
     let names = names_after(alloc, &plan, assembly.names.definitions())?;
     Ok(Changed { text, names })

@@ -42,6 +42,8 @@ pub enum Refusal {
     Memory,
     /// The group that begins on this line of the information file can't be followed.
     Group(u32, Complaint),
+    /// A line would change otherwise than lines may.
+    Changed,
 }
 
 impl From<AllocError> for Refusal {

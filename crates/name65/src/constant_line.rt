@@ -1,30 +1,135 @@
-//! Constant lines: as they were, left out, or after the last line.
+//! Lines that give no bytes: as they were, left out, or after the last line.
 
-use crate::plan::PlacedLine;
-use crate::rewriting::{put_part, put_rest};
+ghost use Rattle.std.specs.Prelude.{◌≡◌, ◌++◌, ◌∷◌, [], false, IfOk, IsTrue, MatchOption, OnOk, nat_lt};
+ghost use Rattle.std.specs.List.{list_all};
+ghost use Rattle.stmt65.specs.Words.{Assignment, numeral_of};
+ghost use Rattle.name65.specs.Changes.{IsRevalued, is_touched_constant, no_comment, says};
+ghost use Rattle.name65.specs.Written.{AppendsLine, IsPlaced, scope_seen};
+
+use crate::complaint::Refusal;
+use crate::constants::{Fate, fate_of};
+use crate::plan::{PlacedLine, Plan};
+use crate::rewriting::{cut_at, put_rest};
 use files65::put_decimal;
-use std::alloc::{AllocError, Global};
-use stmt65::Places;
+use std::alloc::AllocError;
+use stmt65::{Language, Numeral, Places, SourceLine, Span, read_line};
 
 /// Appends a line as it was.
-pub fn put_kept(out: &mut Vec<u8>, line: &[u8]) -> Result<(), AllocError> {
+pub fn put_kept(out: &mut Vec<u8>, line: &[u8]) -> Result<(), AllocError>
+    ensures { OnOk result (out.new.items ≡ out.old.items ++ (line.now ++ 10 ∷ [])) }
+{
     out.extend_from_slice(line)?;
     out.push(b'\n')?;
     Ok(())
 }
 
+/// From where to where in a constant line its operator and its value stand.
+fn value_of(language: Language, line: &[u8]) -> Option<Span> {
+    let mut places = Places::new(language, line);
+    places.next()?;
+    let from = places.next()?.span.from;
+    let to = places.operand()?.span.to;
+    Some(Span { from, to })
+}
+
+fn has_no_comment(bytes: &[u8]) -> bool
+    ensures { result ≡ list_all no_comment bytes.now }
+{
+    bytes.iter().all(|byte| *byte != b';')
+}
+
 /// The constant line of a name whose value is this far from the end of the text: `NAME := * + n`.
-pub fn moved(alloc: Global, placed: &PlacedLine<'_>, distance: u64) -> Result<Vec<u8>, AllocError> {
-    let line = placed.line;
-    let mut out = Vec::new(alloc);
-    let mut places = Places::new(placed.language, line);
-    if let (Some(_), Some(operator)) = (places.next(), places.next()) {
-        put_part(&mut out, line, 0, operator.span.from)?;
-        put_decimal(&mut out, b":= * + ", distance as usize)?;
+fn moved(plan: &Plan<'_, '_>, line: &[u8], distance: u64) -> Result<Vec<u8>, Refusal>
+    ensures { IfOk result (λ text. IsRevalued line.now text.items) }
+{
+    let Some(span) = value_of(plan.language, line) else {
+        return Err(Refusal::Changed);
+    };
+    let Some(found) = cut_at(line, span.from, span.to) else {
+        return Err(Refusal::Changed);
+    };
+    if !has_no_comment(found.within) {
+        return Err(Refusal::Changed);
     }
-    if let Some(number) = places.operand() {
-        put_rest(&mut out, line, number.span.to)?;
-    }
-    out.push(b'\n')?;
+    let mut out = Vec::new(plan.alloc);
+    out.extend_from_slice(found.before)?;
+    put_decimal(&mut out, b":= * + ", distance as usize)?;
+    put_rest(&mut out, found.after, span.to, 0)?;
     Ok(out)
+}
+
+/// Whether a line defines a name so that it has this value after the last line.
+fn is_placed(plan: &Plan<'_, '_>, line: &[u8], name: &[u8], value: u64) -> Result<bool, Refusal>
+    ensures { IfOk result (λ placed. IsTrue placed
+        → IsPlaced (scope_seen plan.now) line.now name.now value) }
+{
+    match read_line(plan.alloc, plan.language, line)? {
+        Some(SourceLine::PlaceAssignment(found, n)) => Ok(
+            found == name && plan.last <= value && n.value() == value - plan.last,
+        ),
+        _ => Ok(false),
+    }
+}
+
+/// Appends what stands in the place of the constant line of a name. A line that moves is appended to the tail.
+fn put_constant(
+    out: &mut Vec<u8>,
+    tail: &mut Vec<u8>,
+    plan: &Plan<'_, '_>,
+    placed: &PlacedLine<'_>,
+    name: &[u8],
+    n: Numeral<'_>,
+) -> Result<(), Refusal>
+    requires { says (scope_seen plan.now) placed.now.line.now
+        ≡ Some (Assignment name.now (numeral_of n)) }
+    ensures { OnOk result (AppendsLine (scope_seen plan.now) placed.now
+        out.old.items out.new.items tail.old.items tail.new.items) }
+{
+    let value = n.value();
+    match fate_of(plan, name, value) {
+        Fate::Kept => Ok(put_kept(out, placed.line)?),
+        Fate::LeftOut => Ok(()),
+        Fate::Moved(distance) => {
+            let line = moved(plan, placed.line, distance)?;
+            if !is_placed(plan, &line, name, value)? {
+                return Err(Refusal::Changed);
+            }
+            Ok(put_kept(tail, &line)?)
+        }
+    }
+}
+
+/// The name and the value that a constant line gives it.
+fn constant_in<'l>(
+    plan: &Plan<'_, '_>,
+    line: &'l [u8],
+) -> Result<Option<(&'l [u8], Numeral<'l>)>, Refusal>
+    ensures { IfOk result (λ found. MatchOption found
+        (is_touched_constant (scope_seen plan.now) (says (scope_seen plan.now) line.now) ≡ false)
+        (λ c. says (scope_seen plan.now) line.now ≡ Some (Assignment c.0.now (numeral_of c.1)))) }
+{
+    match read_line(plan.alloc, plan.language, line)? {
+        Some(SourceLine::Assignment(name, n)) => Ok(Some((name, n))),
+        _ => Ok(None),
+    }
+}
+
+/// Appends what stands in the place of a line that gives no bytes. A constant line that moves is appended to the tail.
+pub fn put_idle(
+    out: &mut Vec<u8>,
+    tail: &mut Vec<u8>,
+    plan: &Plan<'_, '_>,
+    placed: &PlacedLine<'_>,
+) -> Result<(), Refusal>
+    requires { nat_lt placed.now.at placed.now.end ≡ false }
+    ensures { OnOk result (AppendsLine (scope_seen plan.now) placed.now
+        out.old.items out.new.items tail.old.items tail.new.items) }
+{
+    match constant_in(plan, placed.line)? {
+        Some((name, n)) => put_constant(out, tail, plan, placed, name, n),
+        None => {
+            put_kept(out, placed.line)?;
+            Ok(())
+        }
+    }
 }

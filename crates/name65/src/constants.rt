@@ -1,5 +1,7 @@
 //! What becomes of constant lines, and of the names that a text defines with them.
 
+ghost use Rattle.name65.specs.Written.{IsFate, scope_seen};
+
 use crate::plan::Plan;
 use std::alloc::{AllocError, Global};
 use stmt65::{Definition, Symbols};
@@ -10,22 +12,21 @@ pub enum Fate {
     Kept,
     /// No line uses the name.
     LeftOut,
-    /// It stands after the last line, where its value is this far from the end of the bytes.
+    /// It stands after the last line, and its value is this far from there.
     Moved(u64),
 }
 
 /// What becomes of the constant line of a name with this value.
-pub fn fate_of(plan: &Plan<'_, '_>, name: &[u8], value: u64) -> Fate {
-    if plan.wishes.is_left_out(name) {
+pub fn fate_of(plan: &Plan<'_, '_>, name: &[u8], value: u64) -> Fate
+    ensures { IsFate (scope_seen plan.now) value result }
+{
+    if plan.used && plan.wishes.is_left_out(name) {
         return Fate::LeftOut;
     }
-    if !plan.marks.get_at(value as usize) {
-        return Fate::Kept;
+    if plan.marks.get_at(value as usize) && plan.last <= value {
+        return Fate::Moved(value - plan.last);
     }
-    match value.checked_sub(plan.wishes.end()) {
-        Some(distance) => Fate::Moved(distance),
-        None => Fate::Kept,
-    }
+    Fate::Kept
 }
 
 /// What becomes of a definition: of all but constant lines nothing.

@@ -35,6 +35,7 @@ impl From<Refusal> for Failure {
         match refusal {
             Refusal::Memory => Failure::Memory,
             Refusal::Group(line, complaint) => Failure::Own(Refused::Group(line, complaint)),
+            Refusal::Changed => Failure::Own(Refused::Changed),
         }
     }
 }

@@ -2,6 +2,7 @@
 
 ghost use Rattle.std.specs.Prelude.{◌≡◌, ℕ, IfOk};
 ghost use Rattle.map65.specs.Words.{is_marked};
+ghost use Rattle.name65.specs.Changes.{names_one};
 ghost use Rattle.name65.specs.Marks.{MarksAlso, count_to, is_among, is_named, is_named_by};
 
 use info65::{Tag, TagKind};
@@ -55,4 +56,11 @@ pub fn mark_named(alloc: Global, tags: &[Tag]) -> Result<Marks, AllocError>
         mark_tag(&mut marks, tag);
     }
     Ok(marks)
+}
+
+/// Whether one of the addresses from `at` to before `end` is marked.
+pub fn has_mark(marks: &Marks, at: u64, end: u64) -> bool
+    ensures { result ≡ names_one (is_marked marks.now) at end }
+{
+    (at..end).any(|address| marks.get_at(address as usize))
 }

@@ -5,19 +5,21 @@ use map65::Marks;
 use std::alloc::Global;
 use stmt65::Language;
 
-/// Which addresses groups name, whether the constant lines of unused names are left out, and what groups wish.
+/// The language of the lines, which addresses groups name, whether the constant lines of unused names are left out, the address after the
+/// last line, and what groups wish.
 #[derive(Clone, Copy)]
 pub struct Plan<'w, 't> {
     pub alloc: Global,
+    pub language: Language,
     pub marks: &'w Marks,
     pub used: bool,
+    pub last: u64,
     pub wishes: &'w Wishes<'t>,
 }
 
-/// A line without its line feed, in its language. It gives the bytes from `at` to before `end`.
+/// A line without its line feed. It gives the bytes from `at` to before `end`.
 #[derive(Clone, Copy)]
 pub struct PlacedLine<'t> {
-    pub language: Language,
     pub line: &'t [u8],
     pub at: u64,
     pub end: u64,

@@ -1,5 +1,8 @@
 //! How an address is written by a name.
 
+ghost use Rattle.std.specs.Prelude.{◌≡◌, ◌++◌, OnOk};
+ghost use Rattle.name65.specs.Changes.{half_text, offset_text, reference_text, sign_of};
+
 use files65::put_decimal;
 use std::alloc::AllocError;
 use stmt65::Half;
@@ -19,17 +22,27 @@ pub struct Reference<'t> {
     pub offset: Offset,
 }
 
-/// Appends an address.
-pub fn put_reference(out: &mut Vec<u8>, reference: Reference<'_>) -> Result<(), AllocError> {
-    out.extend_from_slice(reference.name)?;
-    match reference.offset {
+fn put_offset(out: &mut Vec<u8>, offset: Offset) -> Result<(), AllocError>
+    ensures { OnOk result (out.new.items ≡ out.old.items ++ offset_text offset) }
+{
+    match offset {
         Offset::Zero => Ok(()),
         Offset::Plus(n) => put_decimal(out, b"+", usize::from(n)),
         Offset::Minus(n) => put_decimal(out, b"-", usize::from(n)),
     }
 }
 
-fn sign_of(half: Half) -> &'static [u8] {
+/// Appends an address.
+pub fn put_reference(out: &mut Vec<u8>, reference: Reference<'_>) -> Result<(), AllocError>
+    ensures { OnOk result (out.new.items ≡ out.old.items ++ reference_text reference.entry) }
+{
+    out.extend_from_slice(reference.name)?;
+    put_offset(out, reference.offset)
+}
+
+fn sign_of(half: Half) -> &'static [u8]
+    ensures { result.now ≡ sign_of half }
+{
     match half {
         Half::Low => b"<",
         Half::High => b">",
@@ -37,12 +50,16 @@ fn sign_of(half: Half) -> &'static [u8] {
 }
 
 /// Appends half of an address. Parentheses stand around a sum, since ca65 reads `<NAME+1` as one more than the half.
-pub fn put_half(out: &mut Vec<u8>, half: Half, reference: Reference<'_>) -> Result<(), AllocError> {
+pub fn put_half(out: &mut Vec<u8>, half: Half, reference: Reference<'_>) -> Result<(), AllocError>
+    ensures { OnOk result (out.new.items ≡ out.old.items ++ half_text half reference.entry) }
+{
     out.extend_from_slice(sign_of(half))?;
-    if let Offset::Zero = reference.offset {
-        return put_reference(out, reference);
+    match reference.offset {
+        Offset::Zero => put_reference(out, reference),
+        _ => {
+            out.extend_from_slice(b"(")?;
+            put_reference(out, reference)?;
+            out.extend_from_slice(b")")
+        }
     }
-    out.push(b'(')?;
-    put_reference(out, reference)?;
-    Ok(out.push(b')')?)
 }

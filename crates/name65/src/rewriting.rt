@@ -1,123 +1,155 @@
 //! Writes a line anew, with other operands. Its columns stay where the new operands fit.
+//!
+//! Nothing is trusted of where the operands are, and what is to stand in their places: what may not change so is refused.
+
+ghost use Rattle.std.specs.Prelude.{◌≡◌, ◌++◌, ◌∷◌, IfSome, OnOk, drop, true};
+ghost use Rattle.std.specs.List.{list_all};
+ghost use Rattle.text65.specs.Names.{is_blank};
+ghost use Rattle.name65.specs.Changes.{IsRest};
+ghost use Rattle.name65.specs.Written.{AppendsOne, AreBlanks, Lists};
 
 use crate::complaint::Refusal;
-use crate::operands::{Operand, Operands};
-use crate::reference::{put_half, put_reference};
+use crate::operands::{Item, Operands, Style, count_of, put_item};
+use crate::plan::Plan;
 use std::alloc::AllocError;
-use stmt65::{Half, Span};
 use text65::is_blank;
 
-/// Appends the bytes of a line between two places.
-pub fn put_part(out: &mut Vec<u8>, line: &[u8], from: usize, to: usize) -> Result<(), AllocError> {
-    out.extend_from_slice(line.get(from..to).unwrap_or(&[]))
+/// Bytes that are cut at two places.
+#[derive(Clone, Copy)]
+pub struct Cut<'l> {
+    pub before: &'l [u8],
+    pub within: &'l [u8],
+    pub after: &'l [u8],
+}
+
+/// Cuts bytes at two places, if they have them.
+#[tactic(auto, using(crate::proofs::ChangeLemmas::cut_whole))]
+pub fn cut_at(bytes: &[u8], from: usize, to: usize) -> Option<Cut<'_>>
+    ensures { IfSome result (λ c. bytes.now ≡ c.before.now ++ (c.within.now ++ c.after.now)) }
+{
+    let (before, rest) = bytes.split_at_checked(from)?;
+    let (within, after) = rest.split_at_checked(to.checked_sub(from)?)?;
+    Some(Cut {
+        before,
+        within,
+        after,
+    })
+}
+
+/// How many blanks are at the beginning of bytes.
+pub fn blank_len(bytes: &[u8]) -> usize {
+    bytes.iter().take_while(|byte| is_blank(**byte)).count()
+}
+
+/// Whether each byte is a blank.
+pub fn are_blank(bytes: &[u8]) -> bool
+    ensures { result ≡ list_all is_blank bytes.now }
+{
+    bytes.iter().all(|byte| is_blank(*byte))
 }
 
 /// Appends blanks up to a column, from 0, but at least one.
-fn put_gap(out: &mut Vec<u8>, column: usize) -> Result<(), AllocError> {
+pub fn put_gap(out: &mut Vec<u8>, column: usize) -> Result<(), AllocError>
+    ensures { OnOk result (AppendsOne AreBlanks out.old.items out.new.items) }
+{
     out.push(b' ')?;
-    for _ in out.len()..column {
+    'blanks: for _ in out.len()..column {
         out.push(b' ')?;
     }
     Ok(())
 }
 
-/// Appends what stands in a line from a place on: blanks and a comment, which stays at its column if there is room.
-pub fn put_rest(out: &mut Vec<u8>, line: &[u8], from: usize) -> Result<(), AllocError> {
-    let rest = line.get(from..).unwrap_or(&[]);
-    let blanks = rest.iter().take_while(|byte| is_blank(**byte)).count();
-    if 0 < blanks && blanks < rest.len() {
-        let column = from.saturating_add(blanks);
-        put_gap(out, column)?;
-        return put_part(out, line, column, line.len());
+/// Cuts what stands after so many bytes into blanks and a comment, if that is what stands there.
+fn comment_after(rest: &[u8], kept: usize) -> Option<Cut<'_>>
+    ensures whole { IfSome result (λ c. rest.now ≡ c.before.now ++ (c.within.now ++ c.after.now)) }
+    ensures blank { IfSome result (λ c. list_all is_blank c.within.now ≡ true) }
+    ensures sign { IfSome result (λ c. c.after.now ≡ 59 ∷ drop 1 c.after.now) }
+{
+    let blanks = blank_len(rest.get(kept..)?);
+    let found = cut_at(rest, kept, kept.checked_add(blanks)?)?;
+    match found.after {
+        [b';', ..] if 0 < blanks && are_blank(found.within) => Some(found),
+        _ => None,
     }
-    out.extend_from_slice(rest)
 }
 
-fn put_operand(
+/// Appends what stands in a line after its operands, from a column on: so many bytes, and then blanks and a comment, which stays at its
+/// column if there is room.
+pub fn put_rest(
     out: &mut Vec<u8>,
-    line: &[u8],
-    span: Span,
-    operand: Operand<'_>,
-) -> Result<(), AllocError> {
-    match operand {
-        Operand::Kept => put_part(out, line, span.from, span.to),
-        Operand::Half(half, reference) => put_half(out, half, reference),
-        Operand::Difference(name, other) => {
-            out.extend_from_slice(name)?;
-            out.extend_from_slice(b" - ")?;
-            out.extend_from_slice(other)
+    rest: &[u8],
+    column: usize,
+    kept: usize,
+) -> Result<(), AllocError>
+    ensures { OnOk result (AppendsOne (IsRest rest.now) out.old.items out.new.items) }
+{
+    match comment_after(rest, kept) {
+        Some(found) => {
+            let blanks = kept.saturating_add(found.within.len());
+            out.extend_from_slice(found.before)?;
+            put_gap(out, column.saturating_add(blanks))?;
+            out.extend_from_slice(found.after)?;
+            Ok(())
+        }
+        None => {
+            out.extend_from_slice(rest)?;
+            Ok(())
         }
     }
 }
 
-/// Appends a line, and what stands in the places of its operands.
-pub fn put_operands(out: &mut Vec<u8>, mut operands: Operands<'_, '_, '_>) -> Result<(), Refusal> {
-    let line = operands.line;
-    let mut copied = 0;
-    for _ in 0..=line.len() {
-        let Some((span, operand)) = operands.next()? else {
-            break;
-        };
-        put_part(out, line, copied, span.from)?;
-        put_operand(out, line, span, operand)?;
-        copied = span.to;
-    }
-    put_part(out, line, copied, operands.end())?;
-    put_rest(out, line, operands.end())?;
-    Ok(out.extend_from_slice(b"\n")?)
+/// A list of operands in a line, which gives the bytes from `at` to before `end`: its style, and what stands in the line from its column
+/// on.
+#[derive(Clone, Copy)]
+pub struct Run<'l> {
+    pub style: Style,
+    pub at: u64,
+    pub end: u64,
+    pub column: usize,
+    pub text: &'l [u8],
 }
 
-/// Which half stands in the places of all operands, if halves of one kind do.
-fn common_half(mut operands: Operands<'_, '_, '_>) -> Result<Option<Half>, Refusal> {
-    let mut found = None;
-    for _ in 0..=operands.line.len() {
-        match (operands.next()?, found) {
-            (None, _) => return Ok(found),
-            (Some((_, Operand::Half(half, _))), None) => found = Some(half),
-            (Some((_, Operand::Half(half, _))), Some(first)) if half == first => {}
-            _ => return Ok(None),
-        }
-    }
-    Ok(found)
-}
-
-/// Appends the line of a `.byte`, which stands at a place, with halves of one kind: `.lobytes` or `.hibytes`.
-fn put_halves(
+/// Appends a list with other operands, and what stands after it.
+pub fn put_list(
     out: &mut Vec<u8>,
+    plan: &Plan<'_, '_>,
+    run: &Run<'_>,
     mut operands: Operands<'_, '_, '_>,
-    word: Span,
-    half: Half,
-) -> Result<(), Refusal> {
-    let line = operands.line;
-    put_part(out, line, 0, word.from)?;
-    out.extend_from_slice(match half {
-        Half::Low => b".lobytes",
-        Half::High => b".hibytes",
-    })?;
-    let mut copied = None;
-    for _ in 0..=line.len() {
-        let Some((span, Operand::Half(_, reference))) = operands.next()? else {
-            break;
+) -> Result<(), Refusal>
+    ensures { OnOk result (Lists plan.now run.now out.old.items out.new.items) }
+{
+    let style = run.style;
+    let mut at = run.at;
+    let mut column = run.column;
+    let mut rest = run.text;
+    'items: for _ in 0..=run.text.len() {
+        let Some((span, operand)) = operands.next(at)? else {
+            if at != run.end {
+                return Err(Refusal::Changed);
+            }
+            let kept = operands.end().saturating_sub(column);
+            return Ok(put_rest(out, rest, column, kept)?);
         };
-        match copied {
-            None => put_gap(out, span.from)?,
-            Some(_) => out.extend_from_slice(b",")?,
-        }
-        put_reference(out, reference)?;
-        copied = Some(span.to);
+        let Some(found) = cut_at(
+            rest,
+            span.from.saturating_sub(column),
+            span.to.saturating_sub(column),
+        ) else {
+            return Err(Refusal::Changed);
+        };
+        let item = Item {
+            style,
+            at,
+            between: found.before,
+            was: found.within,
+        };
+        put_item(out, plan, &item, operand)?;
+        let Some(next) = at.checked_add(count_of(style, found.within)) else {
+            return Err(Refusal::Changed);
+        };
+        at = next;
+        column = span.to;
+        rest = found.after;
     }
-    put_rest(out, line, copied.unwrap_or(line.len()))?;
-    Ok(out.extend_from_slice(b"\n")?)
-}
-
-/// Appends the line of a directive, which stands at a place. A `.byte` that gets halves of one kind alone becomes `.lobytes` or `.hibytes`.
-pub fn put_table(
-    out: &mut Vec<u8>,
-    operands: Operands<'_, '_, '_>,
-    word: Span,
-) -> Result<(), Refusal> {
-    match common_half(operands.copied())? {
-        Some(half) => put_halves(out, operands, word, half),
-        None => put_operands(out, operands),
-    }
+    Err(Refusal::Changed)
 }

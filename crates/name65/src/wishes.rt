@@ -268,11 +268,6 @@ impl<'t> Wishes<'t> {
         self.by_address.get(address)
     }
 
-    /// The address after the last byte.
-    pub fn end(&self) -> u64 {
-        self.end
-    }
-
     /// Whether the constant line of this name is to be left out.
     pub fn is_left_out(&self, name: &[u8]) -> bool {
         self.names.is_left_out(name)

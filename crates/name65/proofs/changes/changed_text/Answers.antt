@@ -1,13 +1,17 @@
 use Rattle.std.proofs.Common.{ℕ, Bool, subst}
 use Rattle.std.proofs.Math.Path.{fun_ext}
+use Rattle.text65.specs.Lines.{text_lines}
 use Rattle.stmt65.specs.Words.{source_addresses}
-use Rattle.name65.specs.NamedText.{AreLines}
+use Rattle.name65.specs.Changes.{LinesBecome}
+use Rattle.name65.specs.NamedText.{scope_of}
 use Rattle.name65.proofs.changes.changed_text.Goals as goal
 
 pub returns : goal.returns
-returns c = record {
-  lines = c.put_lines.new.out.items;
-  written = subst (λ (test : ℕ → Bool). AreLines c.args.source.now test c.args.used (source_addresses c.args.source.now) c.put_lines.new.out.items) (fun_ext c.in_ok-marks.ensures) (rw (← c.requires, ← c.deref.ensures.value) c.in_ok-put_lines.ensures);
-  tail = c.deref-2.result.now;
-  whole = c.in_ok-extend_from_slice.ensures.items;
-}
+returns c =
+    let s = c.args.source.now in record {
+      lines = c.put_lines.new.out.items;
+      tail = c.put_lines.new.tail.items;
+      become = subst (λ (test : ℕ → Bool). LinesBecome (scope_of s test c.args.used (source_addresses s)) s.start (text_lines s.text.now) (source_addresses s) c.put_lines.new.out.items c.put_lines.new.tail.items)
+          (fun_ext c.in_ok-marks.ensures) (rw (c.marks.view_is, c.last_of.ensures, c.deref.ensures.value, c.deref-2.ensures.value, c.requires) at c.in_ok-put_lines.ensures);
+      whole = rw c.deref-3.ensures.value at c.in_ok-extend_from_slice.ensures.items;
+    }

@@ -1,14 +1,14 @@
 use Rattle.std.proofs.Common.{◌++◌, ℕ, List, length}
-use Rattle.map65.specs.Words.{is_marked}
-use Rattle.name65.specs.NamedText.{AreLines}
-use Rattle.name65.proofs.ChangeLemmas.{AreFrom}
+use Rattle.text65.specs.Lines.{text_lines}
+use Rattle.name65.specs.Changes.{LinesBecome}
+use Rattle.name65.specs.Written.{scope_seen}
 use Rattle.name65.proofs.changes.put_lines.Given as goal
 
--- with what is to stand in the places of the lines that are left it is the whole text
+-- with what the lines that are left become it is what all become
 abbrev pub invariant-lines : goal.invariant-lines
 invariant-lines l =
-    (text : List ℕ) → AreFrom l.fn.source.language (is_marked l.fn.plan.marks.now) l.fn.plan.used l.at l.rest l.left text
-    → AreLines l.fn.source (is_marked l.fn.plan.marks.now) l.fn.plan.used l.fn.ends (l.out.items ++ text)
+    (texts tails : List ℕ) → LinesBecome (scope_seen l.fn.plan) l.at (text_lines l.rest) l.left texts tails
+    → LinesBecome (scope_seen l.fn.plan) l.fn.start (text_lines l.fn.text) l.fn.ends (l.out.items ++ texts) (l.tail.items ++ tails)
 
 abbrev pub decreases-lines : goal.decreases-lines
 decreases-lines l = length l.rest
