@@ -196,7 +196,7 @@ fn is_named_number(plan: &Plan<'_, '_>, item: &Item<'_>) -> bool
     ensures { IsTrue result → IsNamedNumber (scope_seen plan.now) item.now }
 {
     match read_value(plan.language, item.was) {
-        Some(Value::Number(_)) => plan.marks.get_at(item.at as usize),
+        Some(Value::Number(_) | Value::Sum(_, _)) => plan.marks.get_at(item.at as usize),
         _ => false,
     }
 }
