@@ -1,16 +1,13 @@
 -- The program's command line.
 use Rattle.std.specs.Prelude.{[], ◌∷◌, ◌++◌, None, Some, codes}
 use Rattle.clap.specs.Words.{App}
-use Rattle.usage65.specs.Words.{ChoiceView, ProgramView, command_of, help_choice, info_choice, output_choice, start_choice, version_choice, with_line_feed}
+use Rattle.usage65.specs.Words.{ChoiceView, ProgramView, command_of, fill_choice, help_choice, info_choice, output_choice, start_choice, version_choice, with_line_feed}
 
 abbrev pub place_choice : ChoiceView
 place_choice = record info_choice { purpose = codes "information file of da65, for the start and the part" }
 
 abbrev pub compare_choice : ChoiceView
 compare_choice = record { id = codes "compare"; short = None; long = Some (codes "compare"); value = Some (codes "image"); purpose = codes "print where the bytes differ from an image" }
-
-abbrev pub fill_choice : ChoiceView
-fill_choice = record { id = codes "fill"; short = None; long = Some (codes "fill"); value = Some (codes "byte"); purpose = codes "begin segments at their START, with this byte between" }
 
 abbrev pub in_place_choice : ChoiceView
 in_place_choice = record { id = codes "in-place"; short = None; long = Some (codes "in-place"); value = None; purpose = codes "refuse a listing in which a label LXXXX is not at $XXXX" }

@@ -4,8 +4,8 @@ pub use Rattle.as65.specs.declared.failure.Refused.TheVariants.{EmptyImage, Larg
 pub use Rattle.as65.specs.declared.moves.Label.{Label}
 pub use Rattle.as65.specs.declared.named_start.NamedStart.{NamedStart}
 pub use Rattle.as65.specs.declared.request.Place.{Place}
-pub use Rattle.as65.specs.declared.request.Request.{Request}
-pub use Rattle.as65.specs.declared.request.Request.TheVariants.{Compare, Help, Version, Write}
+pub use Rattle.as65.specs.declared.request.Work.{Work}
+pub use Rattle.as65.specs.declared.request.Work.TheVariants.{Compare, Write}
 pub use Rattle.as65.specs.declared.status.Ended.{Ended}
 pub use Rattle.as65.specs.declared.status.Ended.TheVariants.{Differs, Done}
 pub use Rattle.as65.specs.declared.stretches.Stretch.{Stretch}

@@ -12,16 +12,15 @@ unfoldable pub use Rattle.as65.specs.Differences.{change_text, lengths_line, ori
 pub use Rattle.as65.specs.FaultyLine.{FailsWith, Reports, hint_text, line_at, said_after}
 unfoldable pub use Rattle.as65.specs.FaultyLine.{about}
 pub use Rattle.as65.specs.Image.{IsFailureOf, IsNoImage}
-pub use Rattle.as65.specs.Information.{IsRefused, options_at, placed_at}
+pub use Rattle.as65.specs.Information.{placed_at}
 pub use Rattle.as65.specs.Labels.{label_line, labels_of, source_labels}
 pub use Rattle.as65.specs.Moves.{IsMoved, bytes_text, is_alike, label_named, moves_in}
 unfoldable pub use Rattle.as65.specs.Moves.{distance_text, label_in_line, labels_in, move_line, move_text, moves_after, what_lies}
 pub use Rattle.as65.specs.NamedStart.{digit, first_of, is_start, moved, named_start, start_for}
 unfoldable pub use Rattle.as65.specs.NamedStart.{address_in_name, start_in_line, starts_in}
 pub use Rattle.as65.specs.Origins.{Moves, OriginsView}
-pub use Rattle.as65.specs.Request.{asked_of, is_compare_word, is_comparing}
-unfoldable pub use Rattle.as65.specs.Request.{asked, asked_in, to_compare, to_write}
-pub use Rattle.as65.specs.SegmentStarts.{layout_of, start_of}
+pub use Rattle.as65.specs.Request.{is_compare_word, is_comparing, work_of}
+unfoldable pub use Rattle.as65.specs.Request.{to_compare, to_write, work_in}
 pub use Rattle.as65.specs.Status.{status_of}
 pub use Rattle.as65.specs.Stretches.{differs}
 unfoldable pub use Rattle.as65.specs.Stretches.{AreRuns}

@@ -4,7 +4,7 @@ ghost use Rattle.std.specs.Prelude.{◌≡◌};
 ghost use Rattle.usage65.specs.Words.{program_of};
 ghost use Rattle.as65.specs.Words.{this_program};
 
-use usage65::{Choice, HELP, INFO, OUTPUT, Program, START, VERSION};
+use usage65::{Choice, FILL, HELP, INFO, OUTPUT, Program, START, VERSION};
 
 /// The options, in the order of the help text.
 static CHOICES: [Choice<'static>; 9] = [
@@ -13,13 +13,7 @@ static CHOICES: [Choice<'static>; 9] = [
         ..INFO
     },
     START,
-    Choice {
-        id: "fill",
-        short: None,
-        long: Some("fill"),
-        value: Some("byte"),
-        purpose: "begin segments at their START, with this byte between",
-    },
+    FILL,
     Choice {
         id: "in-place",
         short: None,

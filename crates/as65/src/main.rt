@@ -23,15 +23,15 @@ mod moves;
 mod named_start;
 mod origins;
 mod request;
-mod segment_starts;
 mod status;
 mod stretches;
 
 use assembled::Assembled;
-use command::this_program;
 use comparison::compare;
 use failure::{Failure, Refused};
-use files65::{Output, Placeholders, keep_apart, keep_inputs, read_listing, write_text};
+use files65::{
+    Output, Placeholders, keep_apart, keep_inputs, layout_of, read_listing, repair, write_text,
+};
 use image::image;
 use info65::Info;
 use information::{information, placed_at};
@@ -41,28 +41,11 @@ use map65::Image;
 use message::{say, say_starts};
 use moves::need_in_place;
 use named_start::named_start;
-use request::{Comparing, Request, Writing, is_compared_by, is_comparing, request_of};
-use segment_starts::layout_of;
+use request::{Comparing, Work, Writing, is_compared_by, is_comparing, request_of};
 use status::{Ended, status_of};
 use std::process::ExitCode;
-use stmt65::{Language, Layout, Source};
-use usage65::{Names, RequestFault, words_of};
-
-/// Writes a text about the program on standard output.
-fn tell(rt: &HostRuntime, text: &[u8]) -> Result<Ended, Failure> {
-    write_text(&mut Output::standard(rt), text)?;
-    Ok(Ended::Done)
-}
-
-/// A text as people edit it, with segments that begin where the layout says.
-fn repair<'t, 'l, 'n>(layout: &'l Layout<'n>, start: u16, text: &'t [u8]) -> Source<'t, 'l, 'n> {
-    Source {
-        language: Language::Repair,
-        layout,
-        start,
-        text,
-    }
-}
+use stmt65::Source;
+use usage65::{Names, Request, RequestFault, words_of};
 
 /// Where the information file of this name, under the start of the command line, places the bytes of a listing.
 fn start_in(rt: &HostRuntime, name: Option<&str>, info: &Info) -> Result<u16, Failure> {
@@ -187,10 +170,12 @@ fn program(rt: &HostRuntime, words: &[String]) -> Result<Ended, Failure> {
     // Messages to a closed standard error must not end up in the output file.
     let _placeholders = Placeholders::take(rt)?;
     match request_of(rt.alloc(), words)? {
-        Request::Help => tell(rt, &this_program().help_text(rt.alloc())?),
-        Request::Version => tell(rt, &this_program().version_text(rt.alloc())?),
-        Request::Write(mut writing) => write_image(rt, &mut writing),
-        Request::Compare(comparing) => compare_with(rt, &comparing),
+        Request::Text(text) => {
+            write_text(&mut Output::standard(rt), &text)?;
+            Ok(Ended::Done)
+        }
+        Request::Run(Work::Write(mut writing)) => write_image(rt, &mut writing),
+        Request::Run(Work::Compare(comparing)) => compare_with(rt, &comparing),
     }
 }
 
@@ -205,10 +190,6 @@ fn end(rt: &HostRuntime, is_comparing: bool, outcome: Result<Ended, Failure>) ->
 fn main(rt: HostRuntime) -> ExitCode {
     match words_of(&rt) {
         Ok(words) => end(&rt, is_comparing(&words), program(&rt, &words)),
-        Err(fault) => end(
-            &rt,
-            is_compared_by(&rt),
-            Err(Failure::Request(RequestFault::from(fault))),
-        ),
+        Err(fault) => end(&rt, is_compared_by(&rt), Err(Failure::from(fault))),
     }
 }

@@ -4,25 +4,24 @@ ghost use Rattle.std.specs.Prelude.{◌≡◌, map};
 ghost use Rattle.std.specs.String.{string_bytes};
 ghost use Rattle.clap.specs.Words.{found_of, rows_of};
 ghost use Rattle.usage65.specs.Requests.{Gives};
-ghost use Rattle.as65.specs.Words.{asked, asked_in, asked_of, given_of, is_compare_word, is_comparing, to_compare, to_write};
+ghost use Rattle.usage65.specs.Words.{asked, asked_of};
+ghost use Rattle.as65.specs.Words.{given_of, is_compare_word, is_comparing, this_program, to_compare, to_write, work_in, work_of};
 
 use crate::command::this_program;
 use clap::ArgMatches;
 use std::alloc::Global;
 use std::env::{Env, FillError};
 use usage65::{
-    Names, RequestFault, UsageFault, address_of, byte_of, info_named, input_named, is_set,
+    Names, Request, RequestFault, UsageFault, address_of, byte_of, info_named, input_named, is_set,
     is_taken, names_apart, output_named, text_of,
 };
 
 /// The length of `--compare=`, which is the longest that is looked for in a word.
 const LONGEST: usize = 10;
 
-/// What a command line asks for.
+/// What is to be done with a listing.
 #[derive(Drop)]
-pub enum Request {
-    Help,
-    Version,
+pub enum Work {
     Write(Writing),
     Compare(Comparing),
 }
@@ -108,25 +107,22 @@ pub fn is_compared_by<E: Env>(process: &E) -> bool {
 /// Each option and the name of the listing may be given once. Help comes first, then the version, both before any value
 /// is looked at. Then the start is read, no output, `--in-place` or `--labels` may stand beside an image, and without one there must be a start. The
 /// output may not have the name of the listing, nor may standard input be both the listing and the image.
-#[tactic(auto, unfolding(crate::specs::Request::asked), using(crate::proofs::CommandLemmas::app_is_plain))]
-pub fn request_of(alloc: Global, words: &[String]) -> Result<Request, RequestFault>
-    ensures { Gives asked_of result (asked (map string_bytes words.now)) }
+#[tactic(auto, unfolding(asked), using(crate::proofs::CommandLemmas::app_is_plain))]
+pub fn request_of(alloc: Global, words: &[String]) -> Result<Request<Work>, RequestFault>
+    ensures { Gives (asked_of work_of) result (asked this_program work_in (map string_bytes words.now)) }
 {
     let matches = this_program().matches(alloc, words)?;
-    request_in(alloc, &matches)
+    match this_program().text_asked(alloc, &matches)? {
+        Some(text) => Ok(Request::Text(text)),
+        None => Ok(Request::Run(work_in(alloc, &matches)?)),
+    }
 }
 
-/// What the matches ask for.
-#[tactic(auto, unfolding(crate::specs::Request::asked_in))]
-fn request_in(alloc: Global, matches: &ArgMatches) -> Result<Request, RequestFault>
-    ensures { Gives asked_of result (asked_in (rows_of (found_of matches.now))) }
+/// The work that the matches ask for.
+#[tactic(auto, unfolding(crate::specs::Request::work_in))]
+fn work_in(alloc: Global, matches: &ArgMatches) -> Result<Work, RequestFault>
+    ensures { Gives work_of result (work_in (rows_of (found_of matches.now))) }
 {
-    if is_set(matches, "help") {
-        return Ok(Request::Help);
-    }
-    if is_set(matches, "version") {
-        return Ok(Request::Version);
-    }
     let start = address_of(matches, "start")?;
     let fill = byte_of(matches, "fill")?;
     let in_place = is_set(matches, "in-place");
@@ -149,8 +145,8 @@ fn request_in(alloc: Global, matches: &ArgMatches) -> Result<Request, RequestFau
 
 /// The bytes of a listing are to be written: there is a start, or an information file that may have one.
 #[tactic(auto, unfolding(crate::specs::Request::to_write))]
-fn to_write(alloc: Global, given: Given<'_>) -> Result<Request, RequestFault>
-    ensures { Gives asked_of result (to_write (given_of given.entry)) }
+fn to_write(alloc: Global, given: Given<'_>) -> Result<Work, RequestFault>
+    ensures { Gives work_of result (to_write (given_of given.entry)) }
 {
     if given.place.in_place && given.labels {
         return Err(RequestFault::Usage(UsageFault::Words));
@@ -161,7 +157,7 @@ fn to_write(alloc: Global, given: Given<'_>) -> Result<Request, RequestFault>
     let names = names_apart(alloc, given.listing, given.info, given.output)?;
     let place = given.place;
     let labels = given.labels;
-    Ok(Request::Write(Writing {
+    Ok(Work::Write(Writing {
         names,
         place,
         labels,
@@ -171,8 +167,8 @@ fn to_write(alloc: Global, given: Given<'_>) -> Result<Request, RequestFault>
 /// A listing is to be compared with an image, without another output or names; labels may be anywhere. Standard input can be only one of the
 /// inputs.
 #[tactic(auto, unfolding(crate::specs::Request::to_compare))]
-fn to_compare(alloc: Global, given: Given<'_>, image: &str) -> Result<Request, RequestFault>
-    ensures { Gives asked_of result (to_compare (given_of given.entry) image.now) }
+fn to_compare(alloc: Global, given: Given<'_>, image: &str) -> Result<Work, RequestFault>
+    ensures { Gives work_of result (to_compare (given_of given.entry) image.now) }
 {
     if given.output.is_some() || given.place.in_place || given.labels {
         return Err(RequestFault::Usage(UsageFault::Words));
@@ -182,7 +178,7 @@ fn to_compare(alloc: Global, given: Given<'_>, image: &str) -> Result<Request, R
     }
     let names = names_apart(alloc, given.listing, given.info, None)?;
     let image = String::from_str(alloc, image)?;
-    Ok(Request::Compare(Comparing {
+    Ok(Work::Compare(Comparing {
         names,
         place: given.place,
         image,

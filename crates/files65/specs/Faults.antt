@@ -1,7 +1,8 @@
 -- What the faults of files are.
-use Rattle.std.specs.Prelude.{◌≡◌, ℕ, List, MatchOption, Option}
+use Rattle.std.specs.Prelude.{◌≡◌, ℕ, List, MatchOption, Option, Result, Err}
 use Rattle.std.specs.String.{string_bytes}
 use Rattle.map65.specs.Words.{one_more}
+use Rattle.info65.specs.Words.{InfoView, OptionsView, no_options}
 use Rattle.info65.specs.declared.fault.InfoFault.{InfoFault}
 use Rattle.info65.specs.declared.fault.InfoFaultKind.{InfoFaultKind}
 use Rattle.info65.specs.declared.fault.InfoFaultKind.TheVariants as kind
@@ -33,3 +34,14 @@ failure_for {R} fault = of_kind fault.kind
     of_kind : InfoFaultKind → Failure R
     of_kind kind.Memory = failure.Memory
     of_kind _ = failure.Info fault
+
+-- the failure is the fault of the file, unless memory ran out
+abbrev pub IsRefused : {R : Type 0} → Result InfoView InfoFault → Failure R → Type 0
+IsRefused information failure.Memory = Unit {0}
+IsRefused information (failure.Info fault) = information ≡ Err fault
+IsRefused information (failure.NamedTwice fault line name) = information ≡ Err fault
+IsRefused information _ = ⊥
+
+-- no option but the start
+abbrev pub options_at : Option ℕ → OptionsView
+options_at start = record no_options { start = start }

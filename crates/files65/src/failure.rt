@@ -2,6 +2,7 @@
 
 ghost use Rattle.std.specs.Prelude.{◌≡◌};
 ghost use Rattle.files65.specs.Faults.{failure_for};
+ghost use Rattle.usage65.specs.Words.{fault_for};
 ghost use Rattle.files65.specs.declared.failure.Failure.TheVariants.{File, Memory, Request};
 
 use crate::fault::FileFault;
@@ -9,7 +10,7 @@ use info65::{InfoFault, InfoFaultKind};
 use std::alloc::AllocError;
 use std::fmt::Display;
 use thiserror::Error;
-use usage65::RequestFault;
+use usage65::{RequestFault, UsageFault};
 
 /// What ends a program early. The texts are those of its messages, and `R` has what ends this program alone.
 #[derive(Debug, Drop, Error)]
@@ -21,6 +22,9 @@ pub enum Failure<R> {
     /// The information file is refused.
     #[error("info:{0}")]
     Info(InfoFault),
+    /// The information file names an address twice: first on this line, by this name.
+    #[error("info:{0}: line {1} names it {2}")]
+    NamedTwice(InfoFault, usize, String),
     /// Memory ran out.
     #[error("out of memory")]
     Memory,
@@ -45,6 +49,14 @@ impl<R> From<RequestFault> for Failure<R> {
 
     fn from(fault: RequestFault) -> Failure<R> {
         Failure::Request(fault)
+    }
+}
+
+impl<R> From<UsageFault> for Failure<R> {
+    ghost from_gives = { λ e f. f ≡ Request (fault_for e) };
+
+    fn from(fault: UsageFault) -> Failure<R> {
+        Failure::Request(RequestFault::from(fault))
     }
 }
 

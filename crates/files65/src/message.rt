@@ -3,11 +3,14 @@
 ghost use Rattle.std.specs.Prelude.{◌≡◌, ◌++◌, IfOk, OnOk};
 ghost use Rattle.files65.specs.Message.{in_line, is_control, message, shown};
 
+use crate::failure::Failure;
 use crate::fault::FileFault;
 use crate::output::write_text;
 use arrayvec::ArrayVec;
 use map65::{Sink, Told};
 use std::alloc::{AllocError, Global};
+use std::fmt::Display;
+use std::process::ExitCode;
 
 /// Whether a terminal may take a byte for a command: those from $80 to $9F do that after $C2, as controls of 8 bits in UTF-8.
 fn is_control(after_c2: bool, byte: u8) -> bool
@@ -89,6 +92,21 @@ pub fn say(
         Err(_) => {
             say_out_of_memory(&mut out, program)?;
             Err(FileFault::Memory)
+        }
+    }
+}
+
+/// Ends a program with status 0 if it did what it was asked for, and else with a message and status 1.
+pub fn end<R: Display + Drop>(
+    rt: &HostRuntime,
+    program: &str,
+    outcome: Result<(), Failure<R>>,
+) -> ExitCode {
+    match outcome {
+        Ok(()) => ExitCode::SUCCESS,
+        Err(failure) => {
+            let _ = say(rt, program, format!(in rt.alloc(); "{failure}"), &[]);
+            ExitCode::FAILURE
         }
     }
 }

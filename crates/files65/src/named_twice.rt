@@ -1,18 +1,11 @@
 //! Which earlier group of an information file names the address that a later one names too. It is advice.
 
-use info65::{Info, InfoFault, InfoFaultKind, Options, read_info};
+use info65::{Info, InfoFaultKind, Options, read_info};
 use std::alloc::{AllocError, Global};
 use text65::first_line;
 
 /// How many lines of a group are looked at, from its last one back.
 const GROUP_LINES: usize = 64;
-
-/// The name that an address has, and the line of the information file on which the name stands first.
-#[derive(Drop)]
-pub struct EarlierName {
-    pub line: usize,
-    pub name: String,
-}
 
 /// The length of so many lines, at most that of the text.
 fn length_of(bytes: &[u8], lines: usize) -> usize {
@@ -110,19 +103,14 @@ fn line_of(alloc: Global, bytes: &[u8], name: &[u8]) -> Result<Option<usize>, Al
     Ok(None)
 }
 
-/// Returns the name that an address has already, if the fault of an information file under these options is that a group names it again.
-///
-/// Fails if an allocation is refused.
-pub fn earlier_name(
+/// The line of an information file and the name on it that name the address already which the group that ends on this line names again.
+pub fn named_twice(
     alloc: Global,
     options: &Options,
     bytes: &[u8],
-    fault: InfoFault,
-) -> Result<Option<EarlierName>, AllocError> {
-    if fault.kind != InfoFaultKind::AddressTwice {
-        return Ok(None);
-    }
-    let Some((address, begin)) = group_to(alloc, bytes, fault.line as usize)? else {
+    line: usize,
+) -> Result<Option<(usize, String)>, AllocError> {
+    let Some((address, begin)) = group_to(alloc, bytes, line)? else {
         return Ok(None);
     };
     let before = bytes.get(..begin).unwrap_or(&[]);
@@ -130,7 +118,7 @@ pub fn earlier_name(
         return Ok(None);
     };
     match line_of(alloc, before, name.as_str().as_bytes())? {
-        Some(line) => Ok(Some(EarlierName { line, name })),
+        Some(line) => Ok(Some((line, name))),
         None => Ok(None),
     }
 }

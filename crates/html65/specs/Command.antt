@@ -1,13 +1,10 @@
 -- The program's command line.
 use Rattle.std.specs.Prelude.{[], ◌∷◌, None, Some, codes}
 use Rattle.clap.specs.Words.{App}
-use Rattle.usage65.specs.Words.{ChoiceView, ProgramView, command_of, help_choice, info_choice, output_choice, start_choice, version_choice}
+use Rattle.usage65.specs.Words.{ChoiceView, ProgramView, command_of, fill_choice, help_choice, info_choice, output_choice, start_choice, version_choice}
 
 abbrev pub place_choice : ChoiceView
 place_choice = record info_choice { purpose = codes "information file, for the start and the segments" }
-
-abbrev pub fill_choice : ChoiceView
-fill_choice = record { id = codes "fill"; short = None; long = Some (codes "fill"); value = Some (codes "byte"); purpose = codes "begin segments at their START, with this byte between" }
 
 -- the usage line, the options in the order of the help text, and an optional listing
 abbrev pub this_program : ProgramView

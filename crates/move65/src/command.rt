@@ -4,20 +4,14 @@ ghost use Rattle.std.specs.Prelude.{◌≡◌};
 ghost use Rattle.usage65.specs.Words.{program_of};
 ghost use Rattle.move65.specs.Command.{this_program};
 
-use usage65::{CPU, Choice, HELP, INFO, OUTPUT, Program, START, VERSION};
+use usage65::{CPU, Choice, ENTRY, HELP, INFO, NEW_OUTPUT, Program, START, VERSION};
 
 /// The options, in the order of the help text.
 static CHOICES: [Choice<'static>; 8] = [
     INFO,
     START,
     CPU,
-    Choice {
-        id: "entry",
-        short: None,
-        long: Some("entry"),
-        value: Some("addr[,addr..]"),
-        purpose: "further entries of code",
-    },
+    ENTRY,
     Choice {
         id: "by",
         short: None,
@@ -25,10 +19,7 @@ static CHOICES: [Choice<'static>; 8] = [
         value: Some("n"),
         purpose: "how much later the second image lies: 257 by default",
     },
-    Choice {
-        purpose: "output file, which must not be there yet",
-        ..OUTPUT
-    },
+    NEW_OUTPUT,
     HELP,
     VERSION,
 ];

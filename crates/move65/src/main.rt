@@ -23,27 +23,14 @@ mod sightings;
 mod variables;
 mod world;
 
-use command::this_program;
 use failure::Failure;
 use files65::{
     Output, Placeholders, keep_apart, keep_inputs, read_information, read_listing, say, write_text,
 };
 use moving::{Moved, text_of};
-use request::{Moving, Request, request_of};
+use request::{Moving, request_of};
 use std::process::ExitCode;
-use usage65::{Names, RequestFault, words_of};
-
-/// What the program's words ask for.
-fn requested(rt: &HostRuntime) -> Result<Request, RequestFault> {
-    let words = words_of(rt)?;
-    request_of(rt.alloc(), &words)
-}
-
-/// Writes a text about the program on standard output. Nothing parts.
-fn tell(rt: &HostRuntime, text: &[u8]) -> Result<bool, Failure> {
-    write_text(&mut Output::standard(rt), text)?;
-    Ok(false)
-}
+use usage65::{Names, Request, words_of};
 
 /// What is found of the listing.
 fn found(rt: &HostRuntime, moving: &Moving) -> Result<Moved, Failure> {
@@ -76,10 +63,13 @@ fn move_listing(rt: &HostRuntime, moving: &mut Moving) -> Result<bool, Failure> 
 fn program(rt: &HostRuntime) -> Result<bool, Failure> {
     // Messages to a closed standard error must not end up in the output file.
     let _placeholders = Placeholders::take(rt)?;
-    match requested(rt)? {
-        Request::Help => tell(rt, &this_program().help_text(rt.alloc())?),
-        Request::Version => tell(rt, &this_program().version_text(rt.alloc())?),
-        Request::Move(mut moving) => move_listing(rt, &mut moving),
+    let words = words_of(rt)?;
+    match request_of(rt.alloc(), &words)? {
+        Request::Text(text) => {
+            write_text(&mut Output::standard(rt), &text)?;
+            Ok(false)
+        }
+        Request::Run(mut moving) => move_listing(rt, &mut moving),
     }
 }
 

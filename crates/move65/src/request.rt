@@ -5,17 +5,9 @@ use clap::ArgMatches;
 use isa65::Cpu;
 use std::alloc::Global;
 use usage65::{
-    Names, RequestFault, UsageFault, address_in, address_of, cpu_of, info_named, input_named,
-    is_set, names_apart, output_named, text_of,
+    Names, Request, RequestFault, UsageFault, address_in, address_of, cpu_of, info_named,
+    input_named, names_apart, output_named, text_of,
 };
-
-/// What a command line asks for.
-#[derive(Drop)]
-pub enum Request {
-    Help,
-    Version,
-    Move(Moving),
-}
 
 /// A listing is to be run here and later.
 #[derive(Drop)]
@@ -33,11 +25,14 @@ pub struct Moving {
 /// How much later the second image lies, if nothing else is asked for: each half of an address is another one then.
 const BY: u16 = 257;
 
-/// What the words ask for. The first word is the program's name.
+/// What the words ask for. The first word is the program's name. Help comes first, then the version, both before any value is looked at.
 #[tactic(auto, using(crate::proofs::CommandLemmas::app_is_plain))]
-pub fn request_of(alloc: Global, words: &[String]) -> Result<Request, RequestFault> {
+pub fn request_of(alloc: Global, words: &[String]) -> Result<Request<Moving>, RequestFault> {
     let matches = this_program().matches(alloc, words)?;
-    request_in(alloc, &matches)
+    match this_program().text_asked(alloc, &matches)? {
+        Some(text) => Ok(Request::Text(text)),
+        None => Ok(Request::Run(moving_in(alloc, &matches)?)),
+    }
 }
 
 /// The addresses of a text, with commas between them.
@@ -52,14 +47,8 @@ fn addresses_of(alloc: Global, text: Option<&str>) -> Result<Vec<u16>, UsageFaul
     Ok(found)
 }
 
-/// What the matches ask for. Help comes first, then the version, both before any value is looked at.
-fn request_in(alloc: Global, matches: &ArgMatches) -> Result<Request, RequestFault> {
-    if is_set(matches, "help") {
-        return Ok(Request::Help);
-    }
-    if is_set(matches, "version") {
-        return Ok(Request::Version);
-    }
+/// The run that the matches ask for.
+fn moving_in(alloc: Global, matches: &ArgMatches) -> Result<Moving, RequestFault> {
     let start = address_of(matches, "start")?;
     let cpu = cpu_of(matches, "cpu")?;
     let entries = addresses_of(alloc, text_of(matches, "entry"))?;
@@ -71,11 +60,11 @@ fn request_in(alloc: Global, matches: &ArgMatches) -> Result<Request, RequestFau
     let info = info_named(text_of(matches, "info"));
     let output = output_named(text_of(matches, "output"));
     let names = names_apart(alloc, listing, info, output)?;
-    Ok(Request::Move(Moving {
+    Ok(Moving {
         names,
         start,
         cpu,
         entries,
         by,
-    }))
+    })
 }

@@ -1,16 +1,13 @@
 -- The program's command line.
 use Rattle.std.specs.Prelude.{[], ◌∷◌, None, Some, codes}
 use Rattle.clap.specs.Words.{App}
-use Rattle.usage65.specs.Words.{ChoiceView, ProgramView, command_of, help_choice, info_choice, output_choice, start_choice, version_choice}
+use Rattle.usage65.specs.Words.{ChoiceView, ProgramView, command_of, fill_choice, help_choice, info_choice, output_choice, start_choice, version_choice}
 
 abbrev pub groups_choice : ChoiceView
 groups_choice = record info_choice { purpose = codes "information file, for its lines `#: ..` and the start" }
 
 abbrev pub used_choice : ChoiceView
 used_choice = record { id = codes "used"; short = None; long = Some (codes "used"); value = None; purpose = codes "leave out constant lines of names that no other line uses" }
-
-abbrev pub fill_choice : ChoiceView
-fill_choice = record { id = codes "fill"; short = None; long = Some (codes "fill"); value = Some (codes "byte"); purpose = codes "begin segments at their START, with this byte between" }
 
 abbrev pub first_choice : ChoiceView
 first_choice = record { id = codes "labels-first"; short = None; long = Some (codes "labels-first"); value = None; purpose = codes "put a label before the names inside its instruction" }

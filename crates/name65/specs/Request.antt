@@ -1,34 +1,25 @@
 -- What a command line asks for.
-use Rattle.std.specs.Prelude.{ℕ, Bool, List, Option, Result, Ok, codes, if◌then◌else◌}
-use Rattle.clap.specs.Words.{Row, Text, first_of}
-use Rattle.usage65.specs.Words.{NamesView, Refusal, accepted, address_in, byte_in, given, info_named, input_named, is_set, names_apart, names_seen, or_refused, output_named, ◌>>=◌}
-use Rattle.name65.specs.Command.{app}
-use Rattle.name65.specs.declared.request.Request.{Request}
-use Rattle.name65.specs.declared.request.Request.TheVariants.{Help, Version, Name}
+use Rattle.std.specs.Prelude.{ℕ, Bool, List, Option, Result, Ok, codes}
+use Rattle.clap.specs.Words.{Row, first_of}
+use Rattle.usage65.specs.Words.{NamesView, Refusal, address_in, byte_in, given, info_named, input_named, is_set, names_apart, names_seen, or_refused, output_named, ◌>>=◌}
+use Rattle.name65.specs.declared.request.Naming.{Naming}
 
--- what is asked for: the names of files, the start, the byte between segments, whether unused names are left out, and whether labels come
+-- a listing by names: the names of files, the start, the byte between segments, whether unused names are left out, and whether labels come
 -- before the names inside their instructions
-pub data Asked : Type 0 where
-  AskHelp : Asked
-  AskVersion : Asked
-  AskName : NamesView → Option ℕ → Option ℕ → Bool → Bool → Asked
+pub record NamingView : Type 0 where
+  pub names : NamesView
+  pub start : Option ℕ
+  pub fill : Option ℕ
+  pub used : Bool
+  pub labels_first : Bool
 
--- a request as what it asks for
-abbrev pub asked_of : Request → Asked
-asked_of Help = AskHelp
-asked_of Version = AskVersion
-asked_of (Name n) = AskName (names_seen n.names) n.start n.fill n.used n.labels_first
+abbrev pub naming_of : Naming → NamingView
+naming_of n = record { names = names_seen n.names; start = n.start; fill = n.fill; used = n.used; labels_first = n.labels_first }
 
--- help comes first, then the version; both before the start and the byte are looked at
-unfoldable pub asked_in : List Row → Result Asked Refusal
-asked_in rows =
-    if is_set (codes "help") rows then Ok AskHelp
-    else (if is_set (codes "version") rows then Ok AskVersion
-    else (or_refused (given address_in (first_of (codes "start") rows)) >>= λ start.
+-- the start and the byte are looked at before the names
+unfoldable pub naming_in : List Row → Result NamingView Refusal
+naming_in rows =
+    or_refused (given address_in (first_of (codes "start") rows)) >>= λ start.
     or_refused (given byte_in (first_of (codes "fill") rows)) >>= λ fill.
     names_apart (input_named (first_of (codes "listing") rows)) (info_named (first_of (codes "info") rows)) (output_named (first_of (codes "output") rows)) >>= λ names.
-    Ok (AskName names start fill (is_set (codes "used") rows) (is_set (codes "labels-first") rows))))
-
--- what the words ask for, of which the first is the program's name
-unfoldable pub asked : List Text → Result Asked Refusal
-asked words = or_refused (accepted app words) >>= asked_in
+    Ok (record { names = names; start = start; fill = fill; used = is_set (codes "used") rows; labels_first = is_set (codes "labels-first") rows })

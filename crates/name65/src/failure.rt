@@ -4,7 +4,6 @@ ghost use Rattle.std.specs.Prelude.{◌≡◌};
 ghost use Rattle.name65.specs.NamedText.{failure_of};
 
 use crate::complaint::{Complaint, Refusal};
-use info65::InfoFault;
 use stmt65::AsmFault;
 use thiserror::Error;
 
@@ -14,9 +13,6 @@ pub type Failure = files65::Failure<Refused>;
 /// What only this program gives up for.
 #[derive(Debug, Drop, Error)]
 pub enum Refused {
-    /// The information file names an address twice: first on this line, by this name.
-    #[error("info:{0}: line {1} names it {2}")]
-    NamedTwice(InfoFault, usize, String),
     /// A group that begins on this line of the information file can't be followed.
     #[error("info:{0}: {1}")]
     Group(u32, Complaint),

@@ -4,23 +4,17 @@ ghost use Rattle.std.specs.Prelude.{map};
 ghost use Rattle.std.specs.String.{string_bytes};
 ghost use Rattle.clap.specs.Words.{found_of, rows_of};
 ghost use Rattle.usage65.specs.Requests.{Gives};
-ghost use Rattle.name65.specs.Request.{asked, asked_in, asked_of};
+ghost use Rattle.usage65.specs.Words.{asked, asked_of};
+ghost use Rattle.name65.specs.Command.{this_program};
+ghost use Rattle.name65.specs.Request.{naming_in, naming_of};
 
 use crate::command::this_program;
 use clap::ArgMatches;
 use std::alloc::Global;
 use usage65::{
-    Names, RequestFault, address_of, byte_of, info_named, input_named, is_set, names_apart,
-    output_named, text_of,
+    Names, Request, RequestFault, address_of, byte_of, info_named, input_named, is_set,
+    names_apart, output_named, text_of,
 };
-
-/// What a command line asks for.
-#[derive(Drop)]
-pub enum Request {
-    Help,
-    Version,
-    Name(Naming),
-}
 
 /// A listing is to be written by names.
 #[derive(Drop)]
@@ -40,36 +34,33 @@ pub struct Naming {
 ///
 /// Each option and the name of the listing may be given once. Help comes first, then the version, both before the start and
 /// the byte are read. The output may not have the name of an input, nor may standard input be both the listing and the information file.
-#[tactic(auto, unfolding(crate::specs::Request::asked), using(crate::proofs::CommandLemmas::app_is_plain))]
-pub fn request_of(alloc: Global, words: &[String]) -> Result<Request, RequestFault>
-    ensures { Gives asked_of result (asked (map string_bytes words.now)) }
+#[tactic(auto, unfolding(asked), using(crate::proofs::CommandLemmas::app_is_plain))]
+pub fn request_of(alloc: Global, words: &[String]) -> Result<Request<Naming>, RequestFault>
+    ensures { Gives (asked_of naming_of) result (asked this_program naming_in (map string_bytes words.now)) }
 {
     let matches = this_program().matches(alloc, words)?;
-    request_in(alloc, &matches)
+    match this_program().text_asked(alloc, &matches)? {
+        Some(text) => Ok(Request::Text(text)),
+        None => Ok(Request::Run(naming_in(alloc, &matches)?)),
+    }
 }
 
-/// What the matches ask for.
-#[tactic(auto, unfolding(crate::specs::Request::asked_in))]
-fn request_in(alloc: Global, matches: &ArgMatches) -> Result<Request, RequestFault>
-    ensures { Gives asked_of result (asked_in (rows_of (found_of matches.now))) }
+/// The listing by names that the matches ask for.
+#[tactic(auto, unfolding(crate::specs::Request::naming_in))]
+fn naming_in(alloc: Global, matches: &ArgMatches) -> Result<Naming, RequestFault>
+    ensures { Gives naming_of result (naming_in (rows_of (found_of matches.now))) }
 {
-    if is_set(matches, "help") {
-        return Ok(Request::Help);
-    }
-    if is_set(matches, "version") {
-        return Ok(Request::Version);
-    }
     let start = address_of(matches, "start")?;
     let fill = byte_of(matches, "fill")?;
     let listing = input_named(text_of(matches, "listing"));
     let info = info_named(text_of(matches, "info"));
     let output = output_named(text_of(matches, "output"));
     let names = names_apart(alloc, listing, info, output)?;
-    Ok(Request::Name(Naming {
+    Ok(Naming {
         names,
         start,
         fill,
         used: is_set(matches, "used"),
         labels_first: is_set(matches, "labels-first"),
-    }))
+    })
 }

@@ -1,13 +1,7 @@
 -- The program's command line.
 use Rattle.std.specs.Prelude.{[], ◌∷◌, None, Some, codes}
 use Rattle.clap.specs.Words.{App}
-use Rattle.usage65.specs.Words.{ChoiceView, ProgramView, command_of, cpu_choice, help_choice, info_choice, output_choice, start_choice, version_choice}
-
-abbrev pub new_file_choice : ChoiceView
-new_file_choice = record output_choice { purpose = codes "output file, which must not be there yet" }
-
-abbrev pub entry_choice : ChoiceView
-entry_choice = record { id = codes "entry"; short = None; long = Some (codes "entry"); value = Some (codes "addr[,addr..]"); purpose = codes "further entries of code" }
+use Rattle.usage65.specs.Words.{ChoiceView, ProgramView, command_of, cpu_choice, entry_choice, help_choice, info_choice, new_output_choice, start_choice, version_choice}
 
 abbrev pub plain_choice : ChoiceView
 plain_choice = record { id = codes "plain"; short = None; long = Some (codes "plain"); value = None; purpose = codes "follow no more than the entries" }
@@ -20,7 +14,7 @@ abbrev pub this_program : ProgramView
 this_program = record {
   name = codes "trace65";
   usage = codes "Usage: trace65 [options] [image]";
-  choices = info_choice ∷ new_file_choice ∷ start_choice ∷ cpu_choice ∷ entry_choice ∷ plain_choice ∷ whole_choice ∷ help_choice ∷ version_choice ∷ [];
+  choices = info_choice ∷ new_output_choice ∷ start_choice ∷ cpu_choice ∷ entry_choice ∷ plain_choice ∷ whole_choice ∷ help_choice ∷ version_choice ∷ [];
   input = codes "image";
 }
 

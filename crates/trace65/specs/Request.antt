@@ -5,24 +5,21 @@ use Rattle.std.specs.String.{string_bytes}
 use Rattle.clap.specs.Words.{Row, Text, first_of}
 use Rattle.info65.specs.Words.{OptionsView, no_options}
 use Rattle.isa65.specs.declared.cpu.Cpu.{Cpu}
-use Rattle.usage65.specs.Words.{Refusal, TwoOfStandardInput, accepted, address_in, cpu_in, given, info_named, is_set, is_taken, or_refused, output_named, ◌>>=◌}
+use Rattle.usage65.specs.Words.{Refusal, TwoOfStandardInput, address_in, cpu_in, given, info_named, is_set, is_taken, or_refused, output_named, ◌>>=◌}
 use Rattle.usage65.specs.declared.fault.UsageFault.{UsageFault}
-use Rattle.trace65.specs.Command.{app}
-use Rattle.trace65.specs.declared.request.Request.{Request}
-use Rattle.trace65.specs.declared.request.Request.TheVariants.{Help, Version, Trace}
+use Rattle.trace65.specs.declared.request.Tracing.{Tracing}
 
 -- what is asked for: the options of da65 that say what the image is, the entries, whether no more is followed, whether the information file
 -- is written first, and the output
-pub data Asked : Type 0 where
-  AskHelp : Asked
-  AskVersion : Asked
-  AskTrace : OptionsView → List ℕ → Bool → Bool → Option Text → Asked
+pub record TracingView : Type 0 where
+  pub options : OptionsView
+  pub entries : List ℕ
+  pub plain : Bool
+  pub whole : Bool
+  pub output : Option Text
 
--- a request as what it asks for
-abbrev pub asked_of : Request → Asked
-asked_of Help = AskHelp
-asked_of Version = AskVersion
-asked_of (Trace t) = AskTrace t.options t.entries.items t.plain t.whole (option_map string_bytes t.output)
+abbrev pub tracing_of : Tracing → TracingView
+tracing_of t = record { options = t.options; entries = t.entries.items; plain = t.plain; whole = t.whole; output = option_map string_bytes t.output }
 
 -- ---- the values
 
@@ -56,31 +53,24 @@ is_twice info None = false
 is_twice info (Some image) = is_taken info image
 
 -- standard input can be only one of the inputs
-abbrev pub files_apart : Option Text → Option Text → Asked → Result Asked Refusal
-files_apart info image asked = if is_twice info image then Err TwoOfStandardInput else Ok asked
+abbrev pub files_apart : Option Text → Option Text → TracingView → Result TracingView Refusal
+files_apart info image traced = if is_twice info image then Err TwoOfStandardInput else Ok traced
 
 -- what is to be traced, once the start, the CPU and the entries are known
-abbrev pub traced_with : List Row → Option ℕ → Option Cpu → List ℕ → Result Asked Refusal
+abbrev pub traced_with : List Row → Option ℕ → Option Cpu → List ℕ → Result TracingView Refusal
 traced_with rows start cpu entries =
-    files_apart (info_named (first_of (codes "info") rows)) (info_named (first_of (codes "image") rows))
-    (AskTrace (options_with (info_named (first_of (codes "info") rows)) (info_named (first_of (codes "image") rows)) start cpu)
-    entries (is_set (codes "plain") rows) (is_set (codes "whole") rows) (output_named (first_of (codes "output") rows)))
+    files_apart (info_named (first_of (codes "info") rows)) (info_named (first_of (codes "image") rows)) (record {
+      options = options_with (info_named (first_of (codes "info") rows)) (info_named (first_of (codes "image") rows)) start cpu;
+      entries = entries;
+      plain = is_set (codes "plain") rows;
+      whole = is_set (codes "whole") rows;
+      output = output_named (first_of (codes "output") rows);
+    })
 
 -- the image that is to be traced, or the first fault in the order of start, CPU and entries
-unfoldable pub traced_in : List Row → Result Asked Refusal
+unfoldable pub traced_in : List Row → Result TracingView Refusal
 traced_in rows =
     or_refused (given address_in (first_of (codes "start") rows)) >>= λ start.
     or_refused (given cpu_in (first_of (codes "cpu") rows)) >>= λ cpu.
     or_refused (entries_given (first_of (codes "entry") rows)) >>= λ entries.
     traced_with rows start cpu entries
-
--- help comes first, then the version; both before the value of any option
-unfoldable pub asked_in : List Row → Result Asked Refusal
-asked_in rows =
-    if is_set (codes "help") rows then Ok AskHelp
-    else (if is_set (codes "version") rows then Ok AskVersion
-    else traced_in rows)
-
--- what the words ask for, of which the first is the program's name
-unfoldable pub asked : List Text → Result Asked Refusal
-asked words = or_refused (accepted app words) >>= asked_in

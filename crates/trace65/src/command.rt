@@ -4,24 +4,15 @@ ghost use Rattle.std.specs.Prelude.{◌≡◌};
 ghost use Rattle.usage65.specs.Words.{program_of};
 ghost use Rattle.trace65.specs.Words.{this_program};
 
-use usage65::{CPU, Choice, HELP, INFO, OUTPUT, Program, START, VERSION};
+use usage65::{CPU, Choice, ENTRY, HELP, INFO, NEW_OUTPUT, Program, START, VERSION};
 
 /// The options, in the order of the help text.
 static CHOICES: [Choice<'static>; 9] = [
     INFO,
-    Choice {
-        purpose: "output file, which must not be there yet",
-        ..OUTPUT
-    },
+    NEW_OUTPUT,
     START,
     CPU,
-    Choice {
-        id: "entry",
-        short: None,
-        long: Some("entry"),
-        value: Some("addr[,addr..]"),
-        purpose: "further entries of code",
-    },
+    ENTRY,
     Choice {
         id: "plain",
         short: None,

@@ -10,9 +10,6 @@ pub type Failure = files65::Failure<Refused>;
 /// What only this program gives up for.
 #[derive(Debug, Drop, Error)]
 pub enum Refused {
-    /// The information file names an address twice: first on this line, by this name.
-    #[error("info:{0}: line {1} names it {2}")]
-    NamedTwice(InfoFault, usize, String),
     /// The include file of this name is refused.
     #[error("include {0}:{1}")]
     Include(String, InfoFault),

@@ -4,10 +4,9 @@ ghost use Rattle.std.specs.Prelude.{◌≡◌, ◌≢◌};
 ghost use Rattle.files65.specs.declared.failure.Failure.TheVariants.{Memory, Own};
 
 use crate::failure::{Failure, Refused};
-use files65::{EarlierName, INFORMATION_LIMIT, Input, earlier_name, needed_contents};
-use info65::{Info, InfoFault, InfoFaultKind, Options, Tag, read_include, read_info, read_tags};
+use files65::{INFORMATION_LIMIT, Input, information_of, needed_contents};
+use info65::{Info, InfoFault, InfoFaultKind, Options, read_include, read_info};
 use map65::{Image, ImageFault, read_image};
-use std::alloc::{AllocError, Global};
 
 /// The failure for a fault of the include file of this name.
 fn failure_of(fault: InfoFault, name: String) -> Failure
@@ -34,35 +33,9 @@ fn add_include(rt: &HostRuntime, info: &mut Info, index: usize) -> Result<(), Fa
     }
 }
 
-/// The groups of the lines `#: ..` of an information file that is not too large.
-pub fn tags(rt: &HostRuntime, bytes: &[u8]) -> Result<Vec<Tag>, Failure> {
-    if bytes.len() > 1_048_576 {
-        return Ok(Vec::new(rt.alloc()));
-    }
-    Ok(read_tags(rt.alloc(), bytes)?)
-}
-
-/// The failure for a fault of the information file of these bytes.
-fn refused(
-    alloc: Global,
-    options: &Options,
-    bytes: &[u8],
-    fault: InfoFault,
-) -> Result<Failure, AllocError> {
-    match earlier_name(alloc, options, bytes, fault)? {
-        Some(EarlierName { line, name }) => {
-            Ok(Failure::Own(Refused::NamedTwice(fault, line, name)))
-        }
-        None => Ok(Failure::from(fault)),
-    }
-}
-
 /// What the information file of these bytes says under the options, with the names of its include files.
 pub fn information(rt: &HostRuntime, options: &Options, bytes: &[u8]) -> Result<Info, Failure> {
-    let mut info = match read_info(rt.alloc(), options, bytes) {
-        Ok(info) => info,
-        Err(fault) => return Err(refused(rt.alloc(), options, bytes, fault)?),
-    };
+    let mut info = information_of(rt.alloc(), options, bytes)?;
     for index in 0..info.includes().len() {
         add_include(rt, &mut info, index)?;
     }

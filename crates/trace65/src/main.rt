@@ -18,27 +18,15 @@ mod request;
 mod text;
 mod unshown;
 
-use command::this_program;
 use failure::Failure;
-use files65::{Output, Placeholders, read_information, say, write_text};
+use files65::{Output, Placeholders, end, read_information, tags_of, write_text};
 use info65::Info;
-use information::{image, information, tags, without_includes};
+use information::{image, information, without_includes};
 use map65::Map;
 use report::{InfoFile, report_of};
-use request::{Request, Tracing, request_of};
+use request::{Tracing, request_of};
 use std::process::ExitCode;
-use usage65::{RequestFault, words_of};
-
-/// What the program's words ask for.
-fn requested(rt: &HostRuntime) -> Result<Request, RequestFault> {
-    let words = words_of(rt)?;
-    request_of(rt.alloc(), &words)
-}
-
-/// Writes a text about the program on standard output.
-fn tell(rt: &HostRuntime, text: &[u8]) -> Result<(), Failure> {
-    Ok(write_text(&mut Output::standard(rt), text)?)
-}
+use usage65::{Request, words_of};
 
 /// The text that is written of an image, which has this information with that of the include files.
 fn text_of(
@@ -58,7 +46,7 @@ fn traced_text(rt: &HostRuntime, tracing: &Tracing) -> Result<Vec<u8>, Failure> 
     let bytes = read_information(rt, options.info.as_deref())?;
     let info = information(rt, options, &bytes)?;
     let alone = without_includes(rt, options, &bytes, &info)?;
-    let tags = tags(rt, &bytes)?;
+    let tags = tags_of(rt.alloc(), &bytes)?;
     let file = InfoFile {
         bytes: &bytes,
         info: alone.as_ref().unwrap_or(&info),
@@ -77,19 +65,13 @@ fn trace(rt: &HostRuntime, tracing: &mut Tracing) -> Result<(), Failure> {
 fn program(rt: &HostRuntime) -> Result<(), Failure> {
     // Messages to a closed standard error must not end up in the output file.
     let _placeholders = Placeholders::take(rt)?;
-    match requested(rt)? {
-        Request::Help => tell(rt, &this_program().help_text(rt.alloc())?),
-        Request::Version => tell(rt, &this_program().version_text(rt.alloc())?),
-        Request::Trace(mut tracing) => trace(rt, &mut tracing),
+    let words = words_of(rt)?;
+    match request_of(rt.alloc(), &words)? {
+        Request::Text(text) => Ok(write_text(&mut Output::standard(rt), &text)?),
+        Request::Run(mut tracing) => trace(rt, &mut tracing),
     }
 }
 
 fn main(rt: HostRuntime) -> ExitCode {
-    match program(&rt) {
-        Ok(()) => ExitCode::SUCCESS,
-        Err(failure) => {
-            let _ = say(&rt, "trace65", format!(in rt.alloc(); "{failure}"), &[]);
-            ExitCode::FAILURE
-        }
-    }
+    end(&rt, "trace65", program(&rt))
 }

@@ -4,8 +4,8 @@ ghost use Rattle.std.specs.Prelude.{◌≡◌};
 ghost use Rattle.clap.specs.Words.{found_of, rows_of};
 ghost use Rattle.info65.specs.Words.{name_seen};
 ghost use Rattle.usage65.specs.Requests.{Gives};
-ghost use Rattle.usage65.specs.Words.{text_seen, texts_seen};
-ghost use Rattle.trace65.specs.Words.{asked, asked_in, asked_of, is_twice, options_with, traced_in};
+ghost use Rattle.usage65.specs.Words.{asked, asked_of, text_seen, texts_seen};
+ghost use Rattle.trace65.specs.Words.{is_twice, options_with, this_program, traced_in, tracing_of};
 
 use crate::command::this_program;
 use crate::entries::entries_given;
@@ -14,16 +14,9 @@ use info65::Options;
 use isa65::Cpu;
 use std::alloc::Global;
 use usage65::{
-    RequestFault, address_of, cpu_of, info_named, is_set, is_taken, output_named, owned, text_of,
+    Request, RequestFault, address_of, cpu_of, info_named, is_set, is_taken, output_named, owned,
+    text_of,
 };
-
-/// What a command line asks for.
-#[derive(Drop)]
-pub enum Request {
-    Help,
-    Version,
-    Trace(Tracing),
-}
 
 /// What is reached is to be written.
 #[derive(Drop)]
@@ -44,26 +37,15 @@ pub struct Tracing {
 ///
 /// Each option and the name of the image may be given once. Help comes first, then the version, both before any value is
 /// looked at. Then the start, the CPU and the entries are read, in this order. `Memory` is returned only if memory ran out.
-#[tactic(auto, unfolding(crate::specs::Request::asked), using(crate::proofs::CommandLemmas::app_is_plain))]
-pub fn request_of(alloc: Global, words: &[String]) -> Result<Request, RequestFault>
-    ensures { Gives asked_of result (asked (texts_seen words.now)) }
+#[tactic(auto, unfolding(asked), using(crate::proofs::CommandLemmas::app_is_plain))]
+pub fn request_of(alloc: Global, words: &[String]) -> Result<Request<Tracing>, RequestFault>
+    ensures { Gives (asked_of tracing_of) result (asked this_program traced_in (texts_seen words.now)) }
 {
     let matches = this_program().matches(alloc, words)?;
-    request_in(alloc, &matches)
-}
-
-/// What the matches ask for.
-#[tactic(auto, unfolding(crate::specs::Request::asked_in))]
-fn request_in(alloc: Global, matches: &ArgMatches) -> Result<Request, RequestFault>
-    ensures { Gives asked_of result (asked_in (rows_of (found_of matches.now))) }
-{
-    if is_set(matches, "help") {
-        return Ok(Request::Help);
+    match this_program().text_asked(alloc, &matches)? {
+        Some(text) => Ok(Request::Text(text)),
+        None => Ok(Request::Run(traced_in(alloc, &matches)?)),
     }
-    if is_set(matches, "version") {
-        return Ok(Request::Version);
-    }
-    traced_in(alloc, matches)
 }
 
 /// The options of da65 that have these values, and no others.
@@ -95,8 +77,8 @@ fn is_twice(info: Option<&str>, image: Option<&str>) -> bool
 
 /// The image that is to be traced.
 #[tactic(auto, unfolding(crate::specs::Request::traced_in))]
-fn traced_in(alloc: Global, matches: &ArgMatches) -> Result<Request, RequestFault>
-    ensures { Gives asked_of result (traced_in (rows_of (found_of matches.now))) }
+fn traced_in(alloc: Global, matches: &ArgMatches) -> Result<Tracing, RequestFault>
+    ensures { Gives tracing_of result (traced_in (rows_of (found_of matches.now))) }
 {
     let start = address_of(matches, "start")?;
     let cpu = cpu_of(matches, "cpu")?;
@@ -110,11 +92,11 @@ fn traced_in(alloc: Global, matches: &ArgMatches) -> Result<Request, RequestFaul
     let info = owned(alloc, info)?;
     let input = owned(alloc, image)?;
     let output = owned(alloc, output)?;
-    Ok(Request::Trace(Tracing {
+    Ok(Tracing {
         options: options_with(info, input, start, cpu),
         entries,
         plain: is_set(matches, "plain"),
         whole: is_set(matches, "whole"),
         output,
-    }))
+    })
 }

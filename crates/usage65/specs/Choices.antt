@@ -27,6 +27,15 @@ start_choice = record { id = codes "start"; short = letter (codes "S"); long = S
 abbrev pub cpu_choice : ChoiceView
 cpu_choice = record { id = codes "cpu"; short = None; long = Some (codes "cpu"); value = Some (codes "type"); purpose = codes "6502, 65SC02 or 65C02" }
 
+abbrev pub fill_choice : ChoiceView
+fill_choice = record { id = codes "fill"; short = None; long = Some (codes "fill"); value = Some (codes "byte"); purpose = codes "begin segments at their START, with this byte between" }
+
+abbrev pub entry_choice : ChoiceView
+entry_choice = record { id = codes "entry"; short = None; long = Some (codes "entry"); value = Some (codes "addr[,addr..]"); purpose = codes "further entries of code" }
+
+abbrev pub new_output_choice : ChoiceView
+new_output_choice = record output_choice { purpose = codes "output file, which must not be there yet" }
+
 abbrev pub help_choice : ChoiceView
 help_choice = record { id = codes "help"; short = letter (codes "h"); long = Some (codes "help"); value = None; purpose = codes "this text" }
 

@@ -2,9 +2,10 @@
 --
 -- The usage line, and a line for each option: two blanks, names and value in 25 columns, and the purpose. The version is the name, `
 -- profile 1` and a line feed.
-use Rattle.std.specs.Prelude.{ℕ, [], ◌∷◌, Option, Some, None, ◌++◌, ◌-◌, codes, flat_map, length, replicate}
-use Rattle.clap.specs.Words.{Text}
+use Rattle.std.specs.Prelude.{ℕ, List, [], ◌∷◌, Option, Some, None, ◌++◌, ◌-◌, codes, flat_map, if◌then◌else◌, length, replicate}
+use Rattle.clap.specs.Words.{Row, Text}
 use Rattle.usage65.specs.Choices.{ChoiceView, ProgramView}
+use Rattle.usage65.specs.Values.{is_set}
 
 -- the text as a line
 abbrev pub with_line_feed : Text → Text
@@ -39,3 +40,9 @@ help_of p = with_line_feed p.usage ++ flat_map help_line p.choices
 
 unfoldable pub version_of : ProgramView → Text
 version_of p = with_line_feed (p.name ++ codes " profile 1")
+
+-- the text that is asked for, if one is: help comes first, then the version
+unfoldable pub text_asked : ProgramView → List Row → Option Text
+text_asked p rows =
+    if is_set (codes "help") rows then Some (help_of p)
+    else (if is_set (codes "version") rows then Some (version_of p) else None)

@@ -1,9 +1,13 @@
 -- What a command line asks for that names files, and why it is refused.
-use Rattle.std.specs.Prelude.{◌≡◌, ◌||◌, Option, Some, None, Result, Ok, Err, if◌then◌else◌}
+use Rattle.std.specs.Prelude.{◌≡◌, ◌||◌, List, Option, Some, None, Result, Ok, Err, if◌then◌else◌}
 use Rattle.std.specs.Str.{bytes_eq}
 use Rattle.std.specs.String.{string_bytes}
-use Rattle.clap.specs.Words.{Text}
+use Rattle.clap.specs.Words.{Row, Text}
+use Rattle.usage65.specs.Choices.{ProgramView}
+use Rattle.usage65.specs.Command.{command_of}
 use Rattle.usage65.specs.FileNames.{is_name, is_taken}
+use Rattle.usage65.specs.Help.{text_asked}
+use Rattle.usage65.specs.Values.{accepted, ◌>>=◌}
 use Rattle.usage65.specs.declared.fault.UsageFault.{UsageFault}
 use Rattle.usage65.specs.declared.fault.UsageFault.TheVariants.{Memory}
 use Rattle.usage65.specs.declared.request_fault.RequestFault.{RequestFault}
@@ -55,3 +59,20 @@ names_into listing info (Some output) =
 -- standard input can be only one of the inputs
 unfoldable pub names_apart : Text → Option Text → Option Text → Result NamesView Refusal
 names_apart listing info output = if is_taken info listing then Err TwoOfStandardInput else names_into listing info output
+
+-- what is asked for: a text about the program, or a run of it
+pub data Asked (A : Type 0) : Type 0 where
+  AskText : Text → Asked A
+  AskRun : A → Asked A
+
+-- the text that is asked for, and else the run, for which alone the values of the options count
+abbrev pub asked_beside : {A : Type 0} → Option Text → Result A Refusal → Result (Asked A) Refusal
+asked_beside (Some text) run = Ok (AskText text)
+asked_beside None run = run >>= λ a. Ok (AskRun a)
+
+abbrev pub asked_in : {A : Type 0} → ProgramView → (List Row → Result A Refusal) → List Row → Result (Asked A) Refusal
+asked_in p run rows = asked_beside (text_asked p rows) (run rows)
+
+-- what the words ask for, of which the first is the program's name; `run` says which run the matches ask for
+unfoldable pub asked : {A : Type 0} → ProgramView → (List Row → Result A Refusal) → List Text → Result (Asked A) Refusal
+asked p run words = or_refused (accepted (command_of p) words) >>= asked_in p run

@@ -34,6 +34,28 @@ pub const CPU: Choice<'static> = Choice {
     purpose: "6502, 65SC02 or 65C02",
 };
 
+pub const FILL: Choice<'static> = Choice {
+    id: "fill",
+    short: None,
+    long: Some("fill"),
+    value: Some("byte"),
+    purpose: "begin segments at their START, with this byte between",
+};
+
+pub const ENTRY: Choice<'static> = Choice {
+    id: "entry",
+    short: None,
+    long: Some("entry"),
+    value: Some("addr[,addr..]"),
+    purpose: "further entries of code",
+};
+
+/// An output that is not written over.
+pub const NEW_OUTPUT: Choice<'static> = Choice {
+    purpose: "output file, which must not be there yet",
+    ..OUTPUT
+};
+
 pub const HELP: Choice<'static> = Choice {
     id: "help",
     short: Some(b'h'),

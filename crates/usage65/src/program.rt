@@ -1,13 +1,14 @@
 //! A program's command line, as it is read and as the program describes it.
 
-ghost use Rattle.std.specs.Prelude.{IfOk, OnOk, map, ◌≡◌, ◌++◌};
+ghost use Rattle.std.specs.Prelude.{IfOk, OnOk, map, option_map, ◌≡◌, ◌++◌};
 ghost use Rattle.std.specs.List.{flat_map};
 ghost use Rattle.clap.specs.Words.{FailsBy, app_of, fault_of, found_of, matches_of, rows_of};
-ghost use Rattle.usage65.specs.Words.{IsPlain, accepted, bare, choice_of, command_of, help_line, help_of, program_of, texts_seen, version_of, with_choices};
+ghost use Rattle.usage65.specs.Words.{IsPlain, accepted, bare, choice_of, command_of, help_line, help_of, program_of, text_asked, texts_seen, version_of, with_choices};
 ghost use Rattle.usage65.specs.Values.{Gives};
 
 use crate::choice::Choice;
 use crate::fault::UsageFault;
+use crate::value::is_set;
 use clap::error::ErrorKind;
 use clap::{Arg, ArgMatches, Command, Error};
 use std::alloc::{AllocError, Global};
@@ -65,6 +66,25 @@ impl<'a> Program<'a> {
         text.extend_from_slice(self.name.as_bytes())?;
         text.extend_from_slice(b" profile 1\n")?;
         Ok(text)
+    }
+
+    /// Returns the text about the program that these matches ask for, if they do: the help text before the version.
+    #[tactic(auto, unfolding(crate::specs::Help::text_asked))]
+    pub fn text_asked(
+        &self,
+        alloc: Global,
+        matches: &ArgMatches,
+    ) -> Result<Option<Vec<u8>>, AllocError>
+        ensures { IfOk result (λ text. option_map (λ t. t.items) text
+            ≡ text_asked (program_of self.now) (rows_of (found_of matches.now))) }
+    {
+        if is_set(matches, "help") {
+            return Ok(Some(self.help_text(alloc)?));
+        }
+        if is_set(matches, "version") {
+            return Ok(Some(self.version_text(alloc)?));
+        }
+        Ok(None)
     }
 }
 

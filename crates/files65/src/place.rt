@@ -1,12 +1,12 @@
-//! Where the segments of a listing begin.
+//! Where the bytes of a listing belong.
 
 ghost use Rattle.std.specs.Prelude.{◌≡◌, IfOk, Some, map};
 ghost use Rattle.info65.specs.Words.{segment_seen};
-ghost use Rattle.as65.specs.Words.{layout_of};
+ghost use Rattle.files65.specs.Place.{layout_of};
 
 use info65::SegmentSpec;
 use std::alloc::{AllocError, Global};
-use stmt65::Layout;
+use stmt65::{Language, Layout, Source, line_addresses};
 
 /// Each segment begins at its START, and this byte fills what is missing before it.
 fn filled_by<'n>(
@@ -34,5 +34,35 @@ pub fn layout_of<'n>(
     match fill {
         Some(fill) => filled_by(alloc, segments, fill),
         None => Layout::new(alloc, 0),
+    }
+}
+
+/// A text as people edit it, with segments that begin where the layout says.
+pub fn repair<'t, 'l, 'n>(
+    layout: &'l Layout<'n>,
+    start: u16,
+    text: &'t [u8],
+) -> Source<'t, 'l, 'n> {
+    Source {
+        language: Language::Repair,
+        layout,
+        start,
+        text,
+    }
+}
+
+/// This start, or else the one from which the last byte of a text is at $FFFF.
+pub fn start_or_end(
+    alloc: Global,
+    start: Option<u16>,
+    layout: &Layout<'_>,
+    text: &[u8],
+) -> Result<u16, AllocError> {
+    if let Some(start) = start {
+        return Ok(start);
+    }
+    match line_addresses(alloc, &repair(layout, 0, text))?.last() {
+        Some(len) if 0 < *len && *len <= 65_536 => Ok((65_536 - *len) as u16),
+        _ => Ok(0),
     }
 }

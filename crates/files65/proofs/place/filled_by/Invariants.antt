@@ -1,7 +1,7 @@
 use Rattle.std.proofs.Common.{◌≡◌, ◌++◌, drop, map}
 use Rattle.info65.specs.Words.{segment_seen}
-use Rattle.as65.specs.Words.{start_of}
-use Rattle.as65.proofs.segment_starts.filled_by.Given as goal
+use Rattle.files65.specs.Place.{start_of}
+use Rattle.files65.proofs.place.filled_by.Given as goal
 
 abbrev pub invariant-segments : goal.invariant-segments
 invariant-segments l = record {
