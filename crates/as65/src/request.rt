@@ -107,7 +107,7 @@ pub fn is_compared_by<E: Env>(process: &E) -> bool {
 /// Each option and the name of the listing may be given once. Help comes first, then the version, both before any value
 /// is looked at. Then the start is read, no output, `--in-place` or `--labels` may stand beside an image, and without one there must be a start. The
 /// output may not have the name of the listing, nor may standard input be both the listing and the image.
-#[tactic(auto, unfolding(asked), using(crate::proofs::CommandLemmas::app_is_plain))]
+#[tactic(auto, using(crate::proofs::CommandLemmas::app_is_plain))]
 pub fn request_of(alloc: Global, words: &[String]) -> Result<Request<Work>, RequestFault>
     ensures { Gives (asked_of work_of) result (asked this_program work_in (map string_bytes words.now)) }
 {

@@ -30,7 +30,7 @@ pub struct Showing {
 ///
 /// Each option and the name of the listing may be given once. Help comes first, then the version, both before any value
 /// is read. The output may not have the name of an input, nor may standard input be both the listing and the information file.
-#[tactic(auto, unfolding(asked), using(crate::proofs::CommandLemmas::app_is_plain))]
+#[tactic(auto, using(crate::proofs::CommandLemmas::app_is_plain))]
 pub fn request_of(alloc: Global, words: &[String]) -> Result<Request<Showing>, RequestFault>
     ensures { Gives (asked_of shown_of) result (asked this_program shown_in (map string_bytes words.now)) }
 {

@@ -34,7 +34,7 @@ pub struct Naming {
 ///
 /// Each option and the name of the listing may be given once. Help comes first, then the version, both before the start and
 /// the byte are read. The output may not have the name of an input, nor may standard input be both the listing and the information file.
-#[tactic(auto, unfolding(asked), using(crate::proofs::CommandLemmas::app_is_plain))]
+#[tactic(auto, using(crate::proofs::CommandLemmas::app_is_plain))]
 pub fn request_of(alloc: Global, words: &[String]) -> Result<Request<Naming>, RequestFault>
     ensures { Gives (asked_of naming_of) result (asked this_program naming_in (map string_bytes words.now)) }
 {

@@ -37,7 +37,7 @@ pub struct Tracing {
 ///
 /// Each option and the name of the image may be given once. Help comes first, then the version, both before any value is
 /// looked at. Then the start, the CPU and the entries are read, in this order. `Memory` is returned only if memory ran out.
-#[tactic(auto, unfolding(asked), using(crate::proofs::CommandLemmas::app_is_plain))]
+#[tactic(auto, using(crate::proofs::CommandLemmas::app_is_plain))]
 pub fn request_of(alloc: Global, words: &[String]) -> Result<Request<Tracing>, RequestFault>
     ensures { Gives (asked_of tracing_of) result (asked this_program traced_in (texts_seen words.now)) }
 {

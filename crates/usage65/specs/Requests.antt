@@ -74,5 +74,5 @@ abbrev pub asked_in : {A : Type 0} → ProgramView → (List Row → Result A Re
 asked_in p run rows = asked_beside (text_asked p rows) (run rows)
 
 -- what the words ask for, of which the first is the program's name; `run` says which run the matches ask for
-unfoldable pub asked : {A : Type 0} → ProgramView → (List Row → Result A Refusal) → List Text → Result (Asked A) Refusal
+abbrev pub asked : {A : Type 0} → ProgramView → (List Row → Result A Refusal) → List Text → Result (Asked A) Refusal
 asked p run words = or_refused (accepted (command_of p) words) >>= asked_in p run
