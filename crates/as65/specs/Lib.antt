@@ -11,7 +11,6 @@ pub mod Moves
 pub mod NamedStart
 pub mod Origins
 pub mod Request
-pub mod SegmentStarts
 pub mod Status
 pub mod Stretches
 pub mod Types

@@ -109,7 +109,8 @@ pub fn is_compared_by<E: Env>(process: &E) -> bool {
 /// output may not have the name of the listing, nor may standard input be both the listing and the image.
 #[tactic(auto, using(crate::proofs::CommandLemmas::app_is_plain))]
 pub fn request_of(alloc: Global, words: &[String]) -> Result<Request<Work>, RequestFault>
-    ensures { Gives (asked_of work_of) result (asked this_program work_in (map string_bytes words.now)) }
+    ensures { Gives (asked_of work_of) result
+        (asked this_program work_in (map string_bytes words.now)) }
 {
     let matches = this_program().matches(alloc, words)?;
     match this_program().text_asked(alloc, &matches)? {

@@ -32,7 +32,8 @@ pub struct Showing {
 /// is read. The output may not have the name of an input, nor may standard input be both the listing and the information file.
 #[tactic(auto, using(crate::proofs::CommandLemmas::app_is_plain))]
 pub fn request_of(alloc: Global, words: &[String]) -> Result<Request<Showing>, RequestFault>
-    ensures { Gives (asked_of shown_of) result (asked this_program shown_in (map string_bytes words.now)) }
+    ensures { Gives (asked_of shown_of) result
+        (asked this_program shown_in (map string_bytes words.now)) }
 {
     let matches = this_program().matches(alloc, words)?;
     match this_program().text_asked(alloc, &matches)? {

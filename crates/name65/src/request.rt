@@ -36,7 +36,8 @@ pub struct Naming {
 /// the byte are read. The output may not have the name of an input, nor may standard input be both the listing and the information file.
 #[tactic(auto, using(crate::proofs::CommandLemmas::app_is_plain))]
 pub fn request_of(alloc: Global, words: &[String]) -> Result<Request<Naming>, RequestFault>
-    ensures { Gives (asked_of naming_of) result (asked this_program naming_in (map string_bytes words.now)) }
+    ensures { Gives (asked_of naming_of) result
+        (asked this_program naming_in (map string_bytes words.now)) }
 {
     let matches = this_program().matches(alloc, words)?;
     match this_program().text_asked(alloc, &matches)? {

@@ -39,7 +39,8 @@ pub struct Tracing {
 /// looked at. Then the start, the CPU and the entries are read, in this order. `Memory` is returned only if memory ran out.
 #[tactic(auto, using(crate::proofs::CommandLemmas::app_is_plain))]
 pub fn request_of(alloc: Global, words: &[String]) -> Result<Request<Tracing>, RequestFault>
-    ensures { Gives (asked_of tracing_of) result (asked this_program traced_in (texts_seen words.now)) }
+    ensures { Gives (asked_of tracing_of) result
+        (asked this_program traced_in (texts_seen words.now)) }
 {
     let matches = this_program().matches(alloc, words)?;
     match this_program().text_asked(alloc, &matches)? {
