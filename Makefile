@@ -9,6 +9,7 @@
 # make contracts     writes docs/contracts anew, after an intended change of public contracts
 # make manual        writes docs/da65.info.5 anew, after a change of docs/INFORMATION_FILE.md
 # make definitions   writes docs/DEFINITIONS.md anew, after a change of the comments at the head of definitions
+# make proofs        writes the tables of docs/PROOFS.md anew, after a change of the comments of clauses
 # make speed         counts instructions beside those of cc65's programs; needs cc65, valgrind and GNU time
 # make install       installs the programs, the man pages, the completions for bash and zsh, and the names of machines under PREFIX, by
 #                    default /usr/local. PROGRAM_PREFIX is put before the names of the programs, as in
@@ -26,7 +27,7 @@ SHELL := bash
 # Debian's pytest, which has its xdist.
 pytest = $(or $(shell command -v pytest-3),pytest)
 .SHELLFLAGS := -eu -o pipefail -c
-.PHONY: all kit try test check contracts manual definitions speed install uninstall clean help
+.PHONY: all kit try test check contracts manual definitions proofs speed install uninstall clean help
 
 # Crates that do not depend on each other are proved side by side, each with up to four jobs of its own; `make -j1` proves one at a time.
 ifeq ($(shell [ "$$(nproc)" -gt 1 ] && awk '/^MemTotal/ { exit $$2 < 12000000 }' /proc/meminfo && echo wide),wide)
@@ -122,6 +123,9 @@ manual:
 
 definitions:
 	python3 tests/lint --write page
+
+proofs:
+	python3 tests/lint --write proofs
 
 speed: $(patsubst %,bin/%,da65 as65 trace65 name65 html65)
 	@$(pytest) -q -n auto tests/test_speed.py

@@ -1,19 +1,19 @@
 """Checks what can be seen of the tree without the prover, in a few seconds. CHECKS lists what has to hold.
 
 Usage: python3 tests/lint                    fails if one of these does not hold, and says what
-       python3 tests/lint --write contracts  writes docs/contracts anew, `manual` the man page, and `page` docs/DEFINITIONS.md
+       python3 tests/lint --write contracts  writes docs/contracts anew, `manual` the man page, `page` docs/DEFINITIONS.md,
+                                             and `proofs` the tables of docs/PROOFS.md
 """
 
 import sys
 
 sys.dont_write_bytecode = True
 
-import columns, contracts, edits, imports, manual, memory, names, page, pages, promises, readings, scripts, words  # noqa: E401
+import columns, contracts, edits, imports, manual, memory, names, page, pages, proofs, readings, scripts, words  # noqa: E401
 from source import LeftOut, Refused
 
 CHECKS = {
     contracts: "the public contracts are those of docs/contracts",
-    promises: "each promise of docs/PROOFS.md has its clause",
     edits: "each edit that must fail can be applied, and each wrong body has its edit or its test",
     memory: "every answer out of memory is made in a listed place",
     imports: "definitions are imported from the Words of their crate, and its types from Types",
@@ -21,12 +21,13 @@ CHECKS = {
     words: "an information file has the words of docs/INFORMATION_FILE.md and no others",
     manual: "docs/da65.info.5 is made from docs/INFORMATION_FILE.md",
     page: "docs/DEFINITIONS.md is made from the comments of the definitions",
+    proofs: "docs/PROOFS.md is made from the comments of the clauses",
     pages: "each link of a page leads somewhere, and each name of a page about the code stands in the tree",
     columns: "no more clauses than listed are wider than 100 columns; no test or page is wider than 120, no script than 140, no man page than 80",
     names: "the files of names have their form",
     scripts: "shellcheck finds nothing in the scripts",
 }
-WRITTEN = {module.__name__: module for module in (contracts, manual, page)}
+WRITTEN = {module.__name__: module for module in (contracts, manual, page, proofs)}
 
 
 def faults(check, write=False):

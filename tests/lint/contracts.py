@@ -6,6 +6,7 @@ import difflib
 import re
 
 from definitions import checksum, cited_in, definition, resolved, types_in
+from proofs import rows
 from source import ATTRIBUTE, CRATES, ROOT, TYPES, module_file, source, sources, split_list, through
 
 SNAPSHOT = ROOT / "docs" / "contracts"
@@ -81,7 +82,8 @@ def given_out(crate):
 def entries(crate):
     """The public items of a crate."""
     root = source(crate, module_file(crate, []))
-    promised, (own, others) = rows(crate), given_out(crate)
+    promised = {name.partition(": ")[0] for _, _, calls in rows(crate) for name in calls} or named_in_page(crate)
+    own, others = given_out(crate)
 
     def is_public(here, item):
         if item.name in promised:
@@ -118,12 +120,10 @@ def plain_entry(here, item):
     return entry(here, item.name, [item.text + ";"])
 
 
-def rows(crate):
-    """The functions and types that the table of the crate in docs/PROOFS.md names."""
-    page = (ROOT / "docs" / "PROOFS.md").read_text()
-    table = page.partition(f"### `{crate}`\n")[2].partition("\n##")[0]
-    lines = [line for line in table.splitlines() if line.startswith("| ") and not line.startswith("| in plain words")]
-    return {word for line in lines for word in re.findall(r"`([^`]*)`", line.split(" | ")[-1])}
+def named_in_page(crate):
+    """The functions and types that the table of a crate without comments of clauses names."""
+    table = (ROOT / "docs" / "PROOFS.md").read_text().partition(f"### `{crate}`\n")[2].partition("\n##")[0]
+    return {word for line in table.splitlines() if line[:1] == "|" for word in re.findall(r"`([^`]*)`", line.split(" | ")[-1])}
 
 
 def snapshot(crate):

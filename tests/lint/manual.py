@@ -1,11 +1,10 @@
 """The man page of information files, docs/da65.info.5, is made from docs/INFORMATION_FILE.md. What stands between `<!-- page -->` and
 `<!-- /page -->` there is left out: it refers to files that are not installed."""
 
-import difflib
 import re
 import textwrap
 
-from source import ROOT
+from source import ROOT, differs
 
 DOCS = ROOT / "docs"
 SOURCE, TARGET = DOCS / "INFORMATION_FILE.md", DOCS / "da65.info.5"
@@ -77,8 +76,4 @@ def manual():
 
 
 def check(write):
-    """What differs from the man page that is there, a line each; with `write` it is written anew."""
-    made = manual()
-    if write:
-        TARGET.write_text(made)
-    yield from difflib.unified_diff(TARGET.read_text().splitlines(), made.splitlines(), TARGET.name, SOURCE.name, lineterm="")
+    yield from differs(TARGET, manual(), write, SOURCE.name)

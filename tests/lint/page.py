@@ -2,12 +2,11 @@
 names them. A comment of one paragraph is a row of a table; a longer one has a section of its own. The folders `Code`, which tie code to
 rules, are left out."""
 
-import difflib
 import re
 import textwrap
 
 from columns import PAGE
-from source import CRATES, ROOT
+from source import CRATES, ROOT, differs
 
 TARGET = ROOT / "docs" / "DEFINITIONS.md"
 HEAD = """# Definitions
@@ -65,8 +64,4 @@ def part(crate):
 
 
 def check(write):
-    """What differs from the page that is there, a line each; with `write` it is written anew."""
-    made = HEAD + "".join(part(crate) for crate in CRATES)
-    if write:
-        TARGET.write_text(made)
-    yield from difflib.unified_diff(TARGET.read_text().splitlines(), made.splitlines(), TARGET.name, "specs", lineterm="")
+    yield from differs(TARGET, HEAD + "".join(part(crate) for crate in CRATES), write, "specs")

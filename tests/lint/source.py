@@ -1,6 +1,7 @@
 """The files of Rattle code, in the layout of `rt fmt`: their items, with clauses and bodies, and what their imports name. What the script
 does not understand is refused, with file and line."""
 
+import difflib
 import re
 from functools import cache
 from pathlib import Path
@@ -283,6 +284,13 @@ def imports(text):
         return [(other or name, f"{listed[1]}.{name}") for name, _, other in pairs]
     renamed = re.fullmatch(r"([\w.]+) as (\w+)", text)
     return renamed and [(renamed[2], renamed[1])]
+
+
+def differs(page, made, write, origin):
+    """What differs from a page that is made from others, a line each; with `write` it is written anew."""
+    if write:
+        page.write_text(made)
+    return difflib.unified_diff(page.read_text().splitlines(), made.splitlines(), page.name, origin, lineterm="")
 
 
 @cache

@@ -17,6 +17,7 @@ pub struct Buffered<W> {
 
 impl<W: Sink> Buffered<W> {
     pub fn new(out: W) -> Buffered<W>
+        /// Starts empty, in front of this sink.
         ensures out { buffered_out result ≡ out }
         ensures bytes { buffered_bytes result ≡ [] }
     {
@@ -29,6 +30,7 @@ impl<W: Sink> Buffered<W> {
     /// Passes on everything that was collected. A write that fails is not tried again, and what it left
     /// stays in the buffer.
     pub fn flush(&mut self) -> Result<(), DeviceFault>
+        /// Passes on everything in order, or fails at the first write that fails and keeps what is left.
         ensures taken { Keeps (buffered_taken W.taken self.old) (buffered_taken W.taken self.new) }
         ensures empty { OnOk result (buffered_bytes self.new ≡ []) }
         ensures count { Counts
@@ -51,8 +53,10 @@ impl<W: Sink> Buffered<W> {
 }
 
 impl<W: Sink> Sink for Buffered<W> {
+    /// A buffer has taken what its sink took and then what waits.
     ghost taken = { buffered_taken W.taken };
 
+    /// A buffer counts the failures of its sink.
     ghost faults = { λ b. W.faults (buffered_out b) };
 
     #[tactic(auto, using(crate::proofs::BufferLemmas::appends_after, crate::proofs::BufferLemmas::appends_more))]

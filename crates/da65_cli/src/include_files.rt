@@ -18,6 +18,7 @@ pub struct Content {
 
 /// A file of this name was read.
 fn is_read(files: &[Content], name: &str) -> bool
+    /// Returns whether a file of this name was read.
     ensures { result ≡ list_any (has_name name.now) files.now }
 {
     files.iter().any(|file| file.name.as_str() == name)
@@ -25,6 +26,7 @@ fn is_read(files: &[Content], name: &str) -> bool
 
 /// Adds a file after the others, if it was read.
 fn add(files: &mut Vec<Content>, name: String, read: Option<Vec<u8>>) -> Result<(), AllocError>
+    /// Appends a file that was read, or runs out of memory; one that was not read changes nothing.
     ensures some { IfSome read (λ bytes. OnOk result (files.new.items
         ≡ files.old.items ++ record { name = name; bytes = bytes } ∷ [])) }
     ensures none { IfNone read (files.new.items ≡ files.old.items) }
@@ -50,6 +52,7 @@ pub fn include_files(rt: &HostRuntime, names: Vec<String>) -> Result<Vec<Content
 
 /// The files as a run takes them.
 pub fn files_for_run(alloc: Global, files: &[Content]) -> Result<Vec<File<'_>>, AllocError>
+    /// Returns the include files that were read, by their names, for the run; or out of memory.
     ensures { IfOk result (λ lent. files_seen lent.items ≡ map content_seen files.now) }
 {
     let mut lent = Vec::new(alloc);

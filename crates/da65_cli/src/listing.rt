@@ -58,7 +58,15 @@ pub fn run_read_buffered<A: Allocator + Copy, R: Source, W: Sink, M: Sink>(
     output: W,
     errors: &mut M,
 ) -> Listed<W>
-    // What is on the output and on standard error, of an output that begins empty.
+    /// If the result is Ok, the output has exactly the listing and standard error exactly the messages. If memory
+    /// runs out, both are empty.
+    ///
+    /// If a write of the listing fails, or its flush, the output has a prefix of the listing and standard error is
+    /// empty. If a write of a message fails, the output has the whole listing and standard error a prefix of the
+    /// messages.
+    ///
+    /// The clause is about an output that starts empty, devices that report their bytes, and an input whose count of
+    /// failures is below 2^64 - 1.
     ensures answer { OfRead read (λ defined. W.taken output ≡ Some [] →
         OfBytes (R.faults input.old) (R.left input.old) (λ bytes.
         Delivers result.result
@@ -66,23 +74,27 @@ pub fn run_read_buffered<A: Allocator + Copy, R: Source, W: Sink, M: Sink>(
         (has_failed (R.faults input.old) (R.faults input.new)))
         (W.taken result.output) (M.taken errors.old) (M.taken errors.new))) }
 
-    // If the result is Done and no byte of the image is skipped, the output assembles to the image.
+    /// If the result is Done and no byte of the image is skipped, the text on the output assembles to the image.
+    /// The premises are those of `answer`.
     ensures reassembles { OfRead read (λ defined. W.taken output ≡ Some [] →
         OfBytes (R.faults input.old) (R.left input.old) (λ bytes.
         Reassembles result.result (prepared_by defined (files_seen files.now)) bytes
         (has_failed (R.faults input.old) (R.faults input.new))
         (Some []) (W.taken result.output))) }
 
-    // These hold for every reader and every output.
+    /// After Write or Memory nothing has been written to standard error. This holds for every device.
     ensures memory { IsErrOf result.result RunFault.Memory →
         Keeps (M.taken errors.old) (M.taken errors.new) }
     ensures write { IsErrOf result.result RunFault.Write → Keeps (M.taken errors.old) (M.taken errors.new) }
+    /// At most the bytes that `run` reads are read. The input is not used if the run is refused before it.
     ensures reads { OfRead read (λ defined.
         ReadsFor (prepared_by defined (files_seen files.now)) (R.left input.old) (R.left input.new)) }
     ensures unread { OfRead read (λ defined.
         IfErr (prepared_by defined (files_seen files.now)) (λ _. input.new ≡ input.old)) }
 
-    // A failed write is reported, and nothing else is reported as one.
+    /// The output, standard error and the input fail at most once each. The result is Write exactly when a write of
+    /// the output failed, and Messages exactly when a write of standard error failed. If it is Done or Memory, no
+    /// read failed.
     ensures out_count { OutCount result.result (W.faults output) (W.faults result.output) }
     ensures errors_count { MessagesCount result.result (M.faults errors.old) (M.faults errors.new) }
     ensures input_count { InputCount result.result (R.faults input.old) (R.faults input.new) }

@@ -28,6 +28,7 @@ impl Model for MessageBuffer {
 
 impl MessageBuffer {
     pub fn new() -> MessageBuffer
+        /// Starts empty, and without a failure.
         ensures bytes { result.bytes ≡ [] }
         ensures faults { result.faults ≡ 0 }
     {
@@ -39,6 +40,7 @@ impl MessageBuffer {
 
     /// The messages. A write failed only if there was no room left.
     pub fn as_slice(&self) -> &[u8]
+        /// Returns the messages. After a failed write there are 321 bytes, one more than a run writes at most.
         ensures bytes { result.now ≡ self.now.bytes }
         ensures full { 0 < self.now.faults → length self.now.bytes ≡ 321 }
     {
@@ -56,8 +58,10 @@ fn put(messages: &mut Messages, bytes: &[u8])
 
 /// A write fails if there is no room left.
 impl Sink for MessageBuffer {
+    /// The buffer of messages keeps messages whole and in order.
     ghost taken = { λ h. Some h.bytes };
 
+    /// The buffer of messages counts its failures.
     ghost faults = { λ h. h.faults };
 
     fn write_some(&mut self, bytes: &[u8]) -> Result<usize, DeviceFault> {

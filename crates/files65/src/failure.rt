@@ -37,6 +37,7 @@ pub enum Failure<R> {
 }
 
 impl<R> From<AllocError> for Failure<R> {
+    /// A refused allocation ends a program as out of memory.
     ghost from_gives = { λ _ f. f ≡ Memory };
 
     fn from(_: AllocError) -> Failure<R> {
@@ -45,6 +46,7 @@ impl<R> From<AllocError> for Failure<R> {
 }
 
 impl<R> From<RequestFault> for Failure<R> {
+    /// A fault of the command line ends a program as that fault.
     ghost from_gives = { λ e f. f ≡ Request e };
 
     fn from(fault: RequestFault) -> Failure<R> {
@@ -61,6 +63,7 @@ impl<R> From<UsageFault> for Failure<R> {
 }
 
 impl<R> From<FileFault> for Failure<R> {
+    /// A fault of a file ends a program as that fault.
     ghost from_gives = { λ e f. f ≡ File e };
 
     fn from(fault: FileFault) -> Failure<R> {
@@ -69,6 +72,7 @@ impl<R> From<FileFault> for Failure<R> {
 }
 
 impl<R> From<InfoFault> for Failure<R> {
+    /// A fault of the information file ends a program as that fault, or as out of memory if it is that.
     ghost from_gives = { λ e f. f ≡ failure_for e };
 
     fn from(fault: InfoFault) -> Failure<R> {

@@ -47,6 +47,7 @@ pub enum FileFault {
 impl FileFault {
     /// The fault of a file that can't be opened or created: this one, which has its name, unless memory ran out.
     pub fn of_error(error: &IoError, named: FileFault) -> FileFault
+        /// A file that can't be opened or created is reported by its name, unless the system is out of memory.
         ensures memory { error_kind error.now ≡ ErrorKind.OutOfMemory → result ≡ FileFault.Memory }
         ensures name { error_kind error.now ≢ ErrorKind.OutOfMemory → result ≡ named }
     {
@@ -58,6 +59,7 @@ impl FileFault {
 
     /// The fault of a file of this name that can't be opened for reading.
     pub fn of_opening(alloc: Global, error: &IoError, name: &str) -> FileFault
+        /// The fault of opening a file has its name, or is out of memory, as it is if the system is.
         ensures memory { error_kind error.now ≡ ErrorKind.OutOfMemory → result ≡ FileFault.Memory }
         ensures name { IsUnread name.now result }
     {
@@ -69,6 +71,7 @@ impl FileFault {
 
     /// The fault of an output of this name that could not be created as a new file.
     pub fn of_new(error: &IoError, name: String) -> FileFault
+        /// The fault of an output that must not exist yet says that it exists, is out of memory, or has its name.
         ensures exists { error_kind error.now ≡ ErrorKind.AlreadyExists → result ≡ FileFault.Exists name }
         ensures memory { error_kind error.now ≡ ErrorKind.OutOfMemory → result ≡ FileFault.Memory }
         ensures other { error_kind error.now ≢ ErrorKind.AlreadyExists → error_kind error.now ≢ ErrorKind.OutOfMemory →
@@ -82,6 +85,7 @@ impl FileFault {
 }
 
 impl From<AllocError> for FileFault {
+    /// A refused allocation is out of memory.
     ghost from_gives = { λ _ f. f ≡ Memory };
 
     fn from(_: AllocError) -> FileFault {

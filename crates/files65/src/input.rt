@@ -33,6 +33,7 @@ pub(crate) fn opened(rt: &HostRuntime, name: &str) -> Result<File, FileFault>
 impl Input {
     /// Opens the file of this name. `/dev/stdin` is standard input. Fails with `Reading`.
     pub fn open(rt: &HostRuntime, name: &str) -> Result<Input, FileFault>
+        /// The fault of opening an input has its name, or is out of memory.
         ensures { IfErr result (IsUnread name.now) }
     {
         // A pipe that another user made can be read, but not opened by its name.
@@ -44,10 +45,13 @@ impl Input {
 }
 
 impl Source for Input {
+    /// Nothing is said of the bytes of a file or of standard input, and `Nothing` has none.
     ghost left = { input_left };
 
+    /// An input counts each failure of the reader below it.
     ghost faults = { input_faults };
 
+    /// An input tells whether its last read failed.
     ghost failed = { input_failed };
 
     fn read_some(&mut self, buf: &mut [u8]) -> Result<usize, DeviceFault> {

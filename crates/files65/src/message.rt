@@ -55,6 +55,8 @@ pub fn message(
     text: &str,
     about: &[u8],
 ) -> Result<Vec<u8>, AllocError>
+    /// A message is one line: the program's name, a text and what follows it, with `\n` for each line feed in them,
+    /// and `?` for each other control byte, and for each byte from $80 to $9F after $C2; or out of memory.
     ensures { IfOk result (λ line. line.items ≡ message program.now text.now about.now) }
 {
     let mut line = Vec::new(alloc);

@@ -9,6 +9,7 @@ use text65::hex_digit;
 
 /// Appends a text, and an address in four hex digits.
 pub fn put_address(out: &mut Vec<u8>, before: &[u8], address: usize) -> Result<(), AllocError>
+    /// Appends a text and an address in four hex digits; or memory ran out.
     ensures { OnOk result (out.new.items ≡ out.old.items ++ (before.now ++ digits4 address)) }
 {
     out.extend_from_slice(before)?;
@@ -23,6 +24,7 @@ pub fn put_address(out: &mut Vec<u8>, before: &[u8], address: usize) -> Result<(
 
 /// Appends a text, and a number in decimal.
 pub fn put_decimal(out: &mut Vec<u8>, before: &[u8], number: usize) -> Result<(), AllocError>
+    /// Appends a text and a number in decimal; or memory ran out.
     ensures { OnOk result (out.new.items ≡ out.old.items ++ (before.now ++ decimal number)) }
 {
     out.extend_from_slice(before)?;

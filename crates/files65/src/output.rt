@@ -54,8 +54,10 @@ impl Output {
 }
 
 impl Sink for Output {
+    /// Nothing is said of the bytes that an output has taken.
     ghost taken = { output_taken };
 
+    /// An output counts each failure of the writer below it.
     ghost faults = { output_faults };
 
     fn write_some(&mut self, bytes: &[u8]) -> Result<usize, DeviceFault> {
@@ -68,6 +70,8 @@ impl Sink for Output {
 
 /// Writes a text. Fails with `Writing`.
 pub fn write_text<W: Sink>(out: &mut W, text: &[u8]) -> Result<(), FileFault>
+    /// Writes the whole text. If a write fails, a prefix of it has been written, and the count of failed writes
+    /// rises by one.
     ensures whole { OnOk result (Appends (W.taken out.old) (W.taken out.new) text.now) }
     ensures front { OnErr result (AppendsFront (W.taken out.old) (W.taken out.new) text.now) }
     ensures count { Counts (W.faults out.old) (W.faults out.new) result }

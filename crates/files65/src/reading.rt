@@ -22,6 +22,8 @@ pub fn read_from<R: Source>(
     input: &mut R,
     limit: usize,
 ) -> Result<Option<Vec<u8>>, AllocError>
+    /// Reads a device up to its end or a limit. Returns no contents exactly if a read failed, so a failed read
+    /// never counts as the end; or out of memory.
     ensures bytes { IfOk result (λ found. IfSome found (λ bytes.
         IfSome (R.left input.old) (λ xs. bytes.items ≡ take limit xs))) }
     ensures count { IfOk result (CountsMissing (R.faults input.old) (R.faults input.new)) }
@@ -45,6 +47,7 @@ pub fn contents(rt: &HostRuntime, name: &str, limit: usize) -> Result<Option<Vec
 
 /// The contents of the file of this name, or that it can't be read.
 fn contents_or_fault(alloc: Global, read: Option<Vec<u8>>, name: &str) -> Result<Vec<u8>, FileFault>
+    /// Reports a file by its name exactly if it has no contents; or out of memory.
     ensures some { IfSome read (λ bytes. result ≡ Ok bytes) }
     ensures none { IfNone read (IsErr result) }
     ensures name { IfNone read (IfErr result (IsUnread name.now)) }
@@ -57,6 +60,7 @@ fn contents_or_fault(alloc: Global, read: Option<Vec<u8>>, name: &str) -> Result
 
 /// The contents of a file that must be there: fails with `Reading` if it can't be opened or read.
 pub fn needed_contents(rt: &HostRuntime, name: &str, limit: usize) -> Result<Vec<u8>, FileFault>
+    /// Reading a file that is needed fails only because it can't be read, with its name, or out of memory.
     ensures { IfErr result (IsUnread name.now) }
 {
     let read = contents(rt, name, limit)?;
@@ -66,6 +70,8 @@ pub fn needed_contents(rt: &HostRuntime, name: &str, limit: usize) -> Result<Vec
 /// The bytes of the information file, of which at most 1,048,577 are read; without a name none. Fails with `Reading` if it can't be
 /// opened or read.
 pub fn read_information(rt: &HostRuntime, name: Option<&str>) -> Result<Vec<u8>, FileFault>
+    /// Without the name of an information file, returns no bytes. With one, reading fails only because it can't be
+    /// read, with its name, or out of memory.
     ensures { MatchOption (text_seen name.entry)
         (IsOkAnd result (λ bytes. bytes.items ≡ [])) (λ n. IfErr result (IsUnread n)) }
 {
@@ -77,6 +83,8 @@ pub fn read_information(rt: &HostRuntime, name: Option<&str>) -> Result<Vec<u8>,
 
 /// The text of the listing of this name, if it has neither too few bytes nor too many.
 fn listing_of(alloc: Global, name: &str, text: Vec<u8>) -> Result<Vec<u8>, FileFault>
+    /// A listing is accepted exactly if it has from 1 to 67,108,864 bytes; one without a byte is reported by its
+    /// name, or memory ran out.
     ensures some { 0 < length text.items → length text.items ≤ 67108864 → result ≡ Ok text }
     ensures none { length text.items ≡ 0 → IfErr result (IsEmpty name.now) }
     ensures large { 67108864 < length text.items → result ≡ Err FileFault.TooLarge }

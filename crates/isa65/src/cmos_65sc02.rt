@@ -13,6 +13,7 @@ use crate::opcode_set::{OpcodeSet, op};
 pub struct Cmos65Sc02;
 
 impl OpcodeSet for Cmos65Sc02 {
+    /// The table is the published one of the 65SC02.
     ghost table = { λ _. cmos_65sc02 };
 
     #[inline(always)]

@@ -31,6 +31,7 @@ impl Cpu {
     /// The CPU's name as ca65's `.setcpu` takes it in quotes: at most eight printable bytes, none of
     /// them a quote.
     pub fn text(self) -> &'static [u8]
+        /// Returns the name of the CPU.
         ensures { result.now ≡ cpu_text self }
     {
         match self {
@@ -43,12 +44,11 @@ impl Cpu {
     /// The CPU that the bytes name in any letter case, if there is one.
     #[tactic(auto, unfolding(crate::specs::Cpu::cpu_named))]
     pub fn from_bytes(bytes: &[u8]) -> Option<Cpu>
+        /// Returns a CPU exactly when the bytes are its name in any letter case.
         ensures value { result ≡ cpu_named bytes.now }
-
-        // The bytes name c exactly when they are its text, but for case.
         ensures named { (c : Cpu) → (result ≡ Some c) ↔ (str_to_ascii_lowercase bytes.now ≡ str_to_ascii_lowercase (cpu_text c)) }
 
-        // The text of each CPU fits in quotes, and names that CPU.
+        /// The name of each CPU has at most 8 printable bytes, no quote among them, and finds that CPU.
         ensures names { (c : Cpu) → IsNameOf c (cpu_text c) }
     {
         ALL.iter()
@@ -62,6 +62,7 @@ impl OpcodeSet for Cpu {
     ghost use Rattle.isa65.specs.CpuLaws.{table_of-sound};
     ghost use Rattle.isa65.specs.OpcodeLaws.{opcode-lt, encoded-decoded, written_alike};
 
+    /// The table is the published one of the CPU.
     ghost table = { table_of };
 
     #[inline(always)]

@@ -35,6 +35,7 @@ impl Model for DecodeTable {
 impl DecodeTable {
     /// Decodes each byte.
     pub fn new(cpu: Cpu) -> DecodeTable
+        /// The table is that of the given CPU.
         ensures { result ≡ cpu }
     {
         let mut ops = [None; 256];
@@ -53,6 +54,7 @@ impl OpcodeSet for DecodeTable {
     ghost use Rattle.isa65.specs.CpuLaws.{table_of-sound};
     ghost use Rattle.isa65.specs.OpcodeLaws.{opcode-lt, encoded-decoded, written_alike};
 
+    /// The table is the published one of its CPU.
     ghost table = { table_of };
 
     #[inline(always)]

@@ -43,6 +43,7 @@ impl EncodeTable {
 
     /// Decodes each byte, and puts it into its cell.
     pub fn new(cpu: Cpu) -> EncodeTable
+        /// The table is that of the given CPU.
         ensures { result ≡ cpu }
     {
         let mut codes = [None; CELLS];
@@ -54,6 +55,7 @@ impl EncodeTable {
 
     /// The CPU whose opcodes these are.
     pub fn cpu(&self) -> Cpu
+        /// Returns the CPU of the table.
         ensures { result ≡ self.now }
     {
         self.cpu
@@ -62,6 +64,7 @@ impl EncodeTable {
     /// The opcode of a mnemonic in a mode, or `None` if the CPU has no such form.
     #[inline(always)]
     pub fn encode(&self, mnemonic: Mnemonic, mode: Mode) -> Option<u8>
+        /// Returns the opcode of a mnemonic in a mode by the published table.
         ensures { result ≡ encoded (table_of self.now) mnemonic mode }
     {
         self.codes[place(Op { mnemonic, mode })]

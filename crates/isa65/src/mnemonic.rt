@@ -322,6 +322,7 @@ impl Mnemonic {
     /// The mnemonic as the data sheets write it, in lower case.
     #[inline(always)]
     pub fn text(self) -> &'static [u8]
+        /// Returns the text of the mnemonic.
         ensures { result.now ≡ text_of self }
     {
         match self {
@@ -426,9 +427,8 @@ impl Mnemonic {
 
     /// The mnemonic that the bytes spell in any letter case, if there is one.
     pub fn from_bytes(bytes: &[u8]) -> Option<Mnemonic>
+        /// Returns a mnemonic exactly when the bytes are its text in any letter case.
         ensures value { result ≡ mnemonic_named bytes.now }
-
-        // The bytes name m exactly when they are its text, but for case.
         ensures named { (m : Mnemonic) → (result ≡ Some m) ↔ (str_to_ascii_lowercase bytes.now ≡ text_of m) }
     {
         let mnemonic = candidate(bytes);

@@ -71,6 +71,7 @@ impl Mode {
     /// The length of an instruction of this mode, opcode included: 1 to 3 bytes.
     #[inline]
     pub fn len(self) -> u8
+        /// Returns the length of an instruction in this mode.
         ensures { result ≡ len_of self }
     {
         match self.row() {
@@ -83,6 +84,7 @@ impl Mode {
     /// The zero-page mode that is written like this absolute one: `Zp` for `Abs`, `Zpx` for `Absx`,
     /// `Zpy` for `Absy`, and `None` for every other mode.
     pub fn zero_page(self) -> Option<Mode>
+        /// Returns the zero-page mode that is written like this absolute one, if there is one.
         ensures { result ≡ zero_page_of self }
     {
         match self.row() {

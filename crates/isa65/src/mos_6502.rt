@@ -12,6 +12,7 @@ use crate::opcode_set::{OpcodeSet, op};
 pub struct Mos6502;
 
 impl OpcodeSet for Mos6502 {
+    /// The table is the published one of the 6502.
     ghost table = { λ _. mos_6502 };
 
     #[inline(always)]

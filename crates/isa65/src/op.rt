@@ -21,6 +21,8 @@ impl Op {
     /// in that mode too. An assembler then takes the shorter form for an operand below $100, unless
     /// `a:` stands before it.
     pub fn sibling<S: OpcodeSet>(self, set: &S) -> Option<Mode>
+        /// Returns the zero-page mode that is written like the mode of the operation, if the mnemonic has it in the
+        /// set.
         ensures { result ≡ sibling_in (S.table set.now) self }
     {
         set.sibling(self)

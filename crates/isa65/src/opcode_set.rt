@@ -18,11 +18,13 @@ pub trait OpcodeSet {
 
     /// What an opcode stands for, or `None` if it is undefined. Takes constant time.
     fn decode(&self, byte: u8) -> Option<Op>
+        /// Returns what the table has for the byte.
         ensures { result ≡ decoded (table self.now) byte };
 
     /// The zero-page mode that is written like the absolute mode of `op`, if the mnemonic has it. Searches
     /// all opcodes. Takes constant time where `encode` does.
     fn sibling(&self, op: Op) -> Option<Mode>
+        /// Returns the zero-page mode that is written like an absolute one, if the mnemonic has it by the table.
         ensures { result ≡ sibling_in (table self.now) op }
     {
         match op.mode.zero_page() {
@@ -33,6 +35,7 @@ pub trait OpcodeSet {
 
     /// The opcode of a mnemonic in a mode, or `None` if it has no such form. Searches all opcodes.
     fn encode(&self, mnemonic: Mnemonic, mode: Mode) -> Option<u8>
+        /// Returns the opcode of a mnemonic in a mode by the table, if it has one.
         ensures { result ≡ encoded (table self.now) mnemonic mode }
     {
         let op = Op { mnemonic, mode };

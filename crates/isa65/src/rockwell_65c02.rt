@@ -14,6 +14,7 @@ use crate::opcode_set::{OpcodeSet, op};
 pub struct Rockwell65C02;
 
 impl OpcodeSet for Rockwell65C02 {
+    /// The table is the published one of the 65C02.
     ghost table = { λ _. rockwell_65c02 };
 
     #[inline(always)]

@@ -25,12 +25,14 @@ impl<A: Allocator> Model for Image<A> {
 
     ghost view = { λ a. record { start = a.start; bytes = a.bytes.items } };
 
+    /// An image has 1 to 65,536 bytes, the last at or below $FFFF.
     ghost invariant = { λ a. IsPlaced (record { start = a.start; bytes = a.bytes.items }) };
 }
 
 impl<A: Allocator> Image<A> {
     /// Returns the address of the first byte.
     pub fn start(&self) -> u16
+        /// Returns the address of the first byte.
         ensures { result ≡ self.now.start }
     {
         self.start
@@ -38,6 +40,7 @@ impl<A: Allocator> Image<A> {
 
     /// Returns the bytes, the one at the start first.
     pub fn bytes(&self) -> &[u8]
+        /// Returns the bytes: at least one, the last at or below $FFFF.
         ensures bytes { result.now ≡ self.now.bytes }
         ensures placed { IsPlaced self.now }
     {
@@ -53,7 +56,10 @@ impl<A: Allocator> Image<A> {
         size: Option<u32>,
         bytes: Vec<u8, A>,
     ) -> Result<Image<A>, ImageFault>
+        /// Takes all bytes that it is given. Fails first if there are fewer than the size, then if there are none,
+        /// then if they are too many or end above $FFFF.
         ensures value { result ≡ image_by start size bytes.items }
+        /// The numbers of an image are bytes.
         ensures are_bytes { IfOk result (λ image. AreBytes image.bytes) }
     {
         let count = bytes.len();

@@ -3,62 +3,70 @@
 ghost use Rattle.info65.specs.Words.{AreNames};
 ghost use Rattle.map65.specs.Words.{BaseLaw, CellLaw, EntryStartLaw, ItemLaw, MapView, NameLaw, PieceLaw, PlaceLaw, ReferenceLaw, RunLaw, WorkedMaps};
 
-/// A run is a longest stretch of the image of one role without a segment border inside.
 #[tactic(auto, using(crate::proofs::PieceLaws::run_law))]
 pub fn run_law()
+    /// Two addresses lie in one run exactly when all addresses from the one to the other have one role and no
+    /// segment begins or ends between them. So a run lies in one segment or outside all.
     ensures { (m : MapView) → RunLaw m }
 {}
 
-/// In a table whose entries have more than one byte, given names cut a run into pieces; elsewhere a run is one
-/// piece.
 #[tactic(auto, using(crate::proofs::PieceLaws::piece_law))]
 pub fn piece_law()
+    /// In a table whose entries have more than one byte, every given name after a run's first address cuts the run.
+    /// Elsewhere a run is one piece.
     ensures { (m : MapView) → PieceLaw m }
 {}
 
-/// Items follow each other from the start of each piece, each as long as its opcode or its table asks if its piece
-/// has room.
 pub fn item_law()
+    /// An item begins at an address exactly when the address is not skipped and is the first of its piece, or an
+    /// item of the same piece ends just before it. The item has its full length if its piece has room, otherwise
+    /// one byte. No other lengths obey this rule.
     ensures { (m : MapView) → ItemLaw m }
 {}
 
-/// A role and a length that are packed into a cell are read from it.
 pub fn cell_law()
+    /// A role and a length that are packed into a cell are read back from it.
     ensures { CellLaw }
 {}
 
-/// An address inside an item of a table whose entries have more than one byte belongs to the item's first byte.
 #[tactic(auto, using(crate::proofs::NameLaws::entry_start_law))]
 pub fn entry_start_law()
+    /// An address inside an entry of more than one byte is called by the entry's first byte, any other by itself.
     ensures { (m : MapView) → EntryStartLaw m }
 {}
 
-/// An address is marked if it is a target, or the first byte of an item that a target lies inside.
 #[tactic(auto, using(crate::proofs::NameLaws::reference_law))]
 pub fn reference_law()
+    /// An address is referenced exactly when it is a target, or the first byte of an entry that a target lies
+    /// inside.
     ensures { (m : MapView) → ReferenceLaw m }
 {}
 
-/// The name of an address is that of the first case of the rule that applies.
 #[tactic(auto, using(crate::proofs::NameLaws::name_law))]
 pub fn name_law()
+    /// The name of an address is that of the first case of the rule that applies.
     ensures { (m : MapView) → AreNames m.info.names → NameLaw m }
 {}
 
-/// The base of an address's name lies outside the image, begins an item, or lies inside an item of code.
 #[tactic(auto, using(crate::proofs::BaseLaws::place_law))]
 pub fn place_law()
+    /// The place of a base name says where its address lies: outside the image or skipped, where an item begins, or
+    /// inside an item of code. So no base lies inside an entry of a table.
     ensures { (m : MapView) → PlaceLaw m }
 {}
 
-/// A base is not after the addresses that it names, is the name of its own address, and has a text of its own.
 #[tactic(auto, using(crate::proofs::BaseLaws::base_law))]
 pub fn base_law()
+    /// A base is not after the addresses that it names, and is the name of its own address. Two bases with one text
+    /// are one.
     ensures { (m : MapView) → AreNames m.info.names → BaseLaw m }
 {}
 
-/// The worked examples have these targets, names and images, and the types these codes; and no reading comes to what it may not.
 #[tactic(auto, using(crate::proofs::MapRows::worked_maps))]
 pub fn worked_maps()
+    /// Worked examples: the codes of the types; the targets of instructions, of branches to the ends of the address
+    /// space and of entries of tables; the names and offsets of addresses; the image or fault of a few bytes. And
+    /// what no reading may do: read after a failure, fail twice, make up a failure, end early, read a byte too
+    /// many.
     ensures { WorkedMaps }
 {}

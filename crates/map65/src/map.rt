@@ -39,6 +39,7 @@ impl<'a, A: Allocator> Model for Map<'a, A> {
 impl<'a, A: Allocator> Map<'a, A> {
     /// Builds the map of an image. Fails if the allocation of its 65,536 cells fails.
     pub fn build(alloc: A, info: &'a Info<A>, image: &'a Image<A>) -> Result<Map<'a, A>, AllocError>
+        /// Builds a map from the given information and image; or out of memory.
         ensures { IfOk result (λ m. m ≡ mapped info.entry.now image.entry.now) }
     {
         let mut cells = blank_cells(alloc, ADDRESSES)?;
@@ -48,6 +49,7 @@ impl<'a, A: Allocator> Map<'a, A> {
 
     /// Returns the information that the map was built from.
     pub fn info(&self) -> &'a Info<A>
+        /// Returns the information that the map was built from. Its names and its segments are sound.
         ensures info { result.now ≡ self.now.info }
         ensures sound { IsSoundMap self.now }
     {
@@ -56,6 +58,7 @@ impl<'a, A: Allocator> Map<'a, A> {
 
     /// Returns the image that the map was built from.
     pub fn image(&self) -> &'a Image<A>
+        /// Returns the image that the map was built from. It has at least one byte, the last at or below $FFFF.
         ensures image { result.now ≡ self.now.image }
         ensures placed { IsPlaced self.now.image }
     {
@@ -69,6 +72,10 @@ impl<'a, A: Allocator> Map<'a, A> {
     /// of the item that begins at the address, and 0 if none does. `c / 128 % 2` is 1 if the address has a name,
     /// else 0. The higher bits are private.
     pub fn cells(&self) -> &[u16]
+        /// The 65,536 cells: of the cell c of an address, `c mod 16` is the code of its role (0 none, 1 CODE, 2
+        /// BYTETABLE, 3 WORDTABLE, 4 DBYTETABLE, 5 ADDRTABLE, 6 RTSTABLE, 7 TEXTTABLE, 8 SKIP, 9 DWORDTABLE), `c /
+        /// 16 mod 8` the length of the item that begins there, and `c / 128 mod 2` is 1 exactly when `Map::name`
+        /// returns a name there. The rest is private.
         ensures { AreCellsOf self.now result.now }
     {
         self.cells.as_slice()
@@ -76,6 +83,8 @@ impl<'a, A: Allocator> Map<'a, A> {
 
     /// Returns the role of an address, and `None` outside the image.
     pub fn role(&self, address: u16) -> Option<RangeType>
+        /// Returns the role of an address by the definition, for all 65,536 addresses. The call is given no
+        /// allocator.
         ensures { result ≡ role_at self.now address }
     {
         role_in(self.cell(address))
@@ -92,7 +101,10 @@ impl<'a, A: Allocator> Map<'a, A> {
     /// Returns the length of the item that begins at the address, and 0 if none does.
     #[tactic(auto, using(crate::proofs::MarkingLemmas::item_fits))]
     pub fn item_len(&self, address: u16) -> u8
+        /// Returns the length of the item that begins at an address by the definition, or 0, for all 65,536
+        /// addresses.
         ensures value { result ≡ item_len self.now address }
+        /// An item ends in the image.
         ensures fits { 0 < result → address + result ≤ end_of self.now.image }
     {
         len_in(self.cell(address))
@@ -102,6 +114,7 @@ impl<'a, A: Allocator> Map<'a, A> {
     /// and no segment begins or ends between them. A run begins at an address of the image for which this is false.
     #[tactic(auto, using(crate::proofs::RunLemmas::first_run, crate::proofs::RunLemmas::run_cells))]
     pub fn is_in_run(&self, address: u16) -> bool
+        /// Returns whether an address lies in the run of the one before it, for all 65,536.
         ensures { result ≡ is_in_run self.now address }
     {
         if address == 0 {
@@ -113,6 +126,7 @@ impl<'a, A: Allocator> Map<'a, A> {
     /// Returns the name of the segment that the address belongs to, and `None` outside all segments.
     #[tactic(auto, unfolding(crate::specs::Segments::segment_at))]
     pub fn segment_at(&self, address: u16) -> Option<&'a [u8]>
+        /// The segment of an address is that of the group SEGMENT that it belongs to, for all 65,536 addresses.
         ensures { option_copied result ≡ segment_at self.now address }
     {
         self.info.segment_covering(address)
@@ -120,6 +134,7 @@ impl<'a, A: Allocator> Map<'a, A> {
 
     /// Returns whether the address has a name: whether [`Map::name`] returns one.
     pub fn has_name(&self, address: u16) -> bool
+        /// Returns whether an address has a name.
         ensures { result ≡ has_name self.now address }
     {
         is_named(self.cell(address))
@@ -128,6 +143,8 @@ impl<'a, A: Allocator> Map<'a, A> {
     /// Returns where the base name of an address's name is defined and how far the address lies after the address of
     /// that name, and puts the base name in the buffer. If the address has no name, the buffer is empty.
     pub fn name(&self, address: u16, name: &mut NameBuf) -> Option<NameKind>
+        /// Returns the name of an address by the definition, for all 65,536 addresses. The buffer is empty if the
+        /// address has none.
         ensures kind { result ≡ kind_at self.now address }
         ensures text { name.new.items ≡ text_at self.now address }
     {

@@ -29,6 +29,7 @@ impl<A: Allocator> Model for Marks<A> {
 impl<A: Allocator> Marks<A> {
     /// Returns marks that are all clear. Fails if the allocation fails.
     pub fn none(alloc: A) -> Result<Marks<A>, AllocError>
+        /// Returns marks of which none is set; or out of memory.
         ensures { IfOk result (λ marks. (a : ℕ) → is_marked marks a ≡ false) }
     {
         let words = vec![in alloc; 0u64; WORDS]?;
@@ -37,6 +38,7 @@ impl<A: Allocator> Marks<A> {
 
     /// Returns a copy. Fails if the allocation fails.
     pub fn copy<B: Allocator>(&self, alloc: B) -> Result<Marks<B>, AllocError>
+        /// Returns a copy with the same marks; or out of memory.
         ensures { IfOk result (λ marks. marks ≡ self.now) }
     {
         let words = Vec::from_slice(alloc, self.words.as_slice())?;
@@ -46,6 +48,7 @@ impl<A: Allocator> Marks<A> {
     /// Returns whether the address is marked.
     #[tactic(auto, using(crate::proofs::MarksLemmas::marked_test))]
     pub fn get(&self, address: u16) -> bool
+        /// Returns whether an address is marked.
         ensures { result ≡ is_marked self.now address }
     {
         (self.words[usize::from(address / 64)] >> (address % 64)) & 1 == 1
@@ -54,6 +57,7 @@ impl<A: Allocator> Marks<A> {
     /// Returns whether the address is marked. No address past $FFFF is.
     #[tactic(auto, using(crate::proofs::MarksLemmas::marked_past, crate::proofs::MarksLemmas::marked_test))]
     pub fn get_at(&self, address: usize) -> bool
+        /// Returns whether an address is marked. No address past $FFFF is.
         ensures { result ≡ is_marked self.now address }
     {
         match self.words.get(address / 64) {
@@ -65,6 +69,7 @@ impl<A: Allocator> Marks<A> {
     /// Marks the address.
     #[tactic(auto, using(crate::proofs::MarksLemmas::marked_more))]
     pub fn set(&mut self, address: u16)
+        /// Marks an address; all other marks stay.
         ensures { (a : ℕ) → is_marked self.new a ≡ (is_marked self.old a || address == a) }
     {
         self.words[usize::from(address / 64)] |= 1 << (address % 64);
@@ -73,6 +78,7 @@ impl<A: Allocator> Marks<A> {
     /// Clears the mark of the address.
     #[tactic(auto, using(crate::proofs::MarksLemmas::marked_less))]
     pub fn clear(&mut self, address: u16)
+        /// Clears the mark of an address; all other marks stay.
         ensures { (a : ℕ) → is_marked self.new a ≡ (is_marked self.old a && not (address == a)) }
     {
         self.words[usize::from(address / 64)] &= !(1 << (address % 64));
@@ -80,6 +86,7 @@ impl<A: Allocator> Marks<A> {
 
     /// Marks the addresses from `from` to before `to`, up to $FFFF.
     pub fn set_span(&mut self, from: usize, to: usize)
+        /// Marks a stretch up to $FFFF; all other marks stay.
         ensures { (a : ℕ) → is_marked self.new a ≡ (is_marked self.old a || is_between from to a) }
     {
         'span: for at in from..to.min(65_536) {

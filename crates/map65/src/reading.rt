@@ -53,11 +53,21 @@ pub fn read_image<A: Allocator, R: Source>(
     info: &Info<A>,
     input: &mut R,
 ) -> Result<Image<A>, ImageFault>
+    /// The image is the INPUTSIZE bytes after the first INPUTOFFS, or all of them without a size. It is returned
+    /// exactly if the reader did not fail, there are at least INPUTSIZE bytes, at least one and at most 65,536, and
+    /// they end at or below $FFFF. Otherwise the result is the first of the faults Read, Short, Empty, TooLarge; or
+    /// out of memory.
     ensures image { R.faults input.old < 2 ^ 64 - 1 → IfSome (R.left input.old) (λ xs.
         GivesImage result (image_of info.now.settings xs (has_failed (R.faults input.old) (R.faults input.new)))) }
+    /// The last byte of an image lies at or below $FFFF, and it has at least one.
     ensures placed { IfOk result (λ image. IsPlaced image) }
+    /// The numbers of an image are bytes.
     ensures are_bytes { IfOk result (λ image. AreBytes image.bytes) }
+    /// Unless memory runs out, reading stops at the end of the input or at its limit, and not before; or at the
+    /// first read that fails, after which nothing more is read.
     ensures rest { StopsAt result (read_limit info.now.settings) (R.left input.old) (R.left input.new) (R.failed input.new) }
+    /// In every outcome at most INPUTOFFS plus INPUTSIZE bytes have been read, or without a size INPUTOFFS plus 65,537.
+    /// At most one read fails, exactly if the result is Read. This holds for every device.
     ensures bound { TakesUpTo (read_limit info.now.settings) (R.left input.old) (R.left input.new) }
     ensures count { ReadCount result (R.faults input.old) (R.faults input.new) }
 {

@@ -7,6 +7,7 @@ use info65::{Entry, RangeType};
 
 /// Returns how many bytes an entry of a table of this role has, and 1 for what is no table.
 pub fn unit_of(role: RangeType) -> u8
+    /// Returns how many bytes an entry of a type has.
     ensures { result ≡ unit_of role }
 {
     role.layout().unit
@@ -21,6 +22,7 @@ pub fn is_wide(role: RangeType) -> bool
 
 /// Returns whether bytes of this role are skipped.
 pub fn is_skip(role: RangeType) -> bool
+    /// Returns whether bytes of a type are skipped.
     ensures { result ≡ is_skip role }
 {
     matches!(role.layout().entry, Entry::Skipped)

@@ -12,6 +12,7 @@ use std::alloc::Allocator;
 /// Returns the word after the opcode, low byte first.
 pub fn word_of(bytes: &[u8]) -> u16
     requires { 3 ≤ length bytes.now }
+    /// Returns the word after an opcode.
     ensures { result ≡ word_of bytes.now }
 {
     u16::from(bytes[1]) + 256 * u16::from(bytes[2])
@@ -22,6 +23,7 @@ pub fn word_of(bytes: &[u8]) -> u16
 #[tactic(auto, unfolding(crate::specs::Targets::target_of))]
 pub fn target_of(next: u32, byte: u8) -> Option<u16>
     requires { next ≤ 65536 }
+    /// Returns the address that a branch leads to, or None outside the address space.
     ensures { result ≡ target_of next byte }
 {
     let byte = u32::from(byte);

@@ -7,6 +7,7 @@ ghost use Rattle.text65.specs.Digits.{hex_digit};
 #[inline]
 pub fn hex_digit(digit: u8) -> u8
     requires { digit < 16 }
+    /// Returns the hex digit of a number below 16, in upper case.
     ensures { result ≡ hex_digit digit }
 {
     if digit < 10 {

@@ -9,6 +9,8 @@ use memchr::memchr;
 /// The first line without its line feed, and the text after it. A last line may lack the line feed.
 #[tactic(auto, using(crate::proofs::LineLaws::first_lines))]
 pub fn first_line(text: &[u8]) -> Option<(&[u8], &[u8])>
+    /// Returns the first line of a text without its line feed, and the text after it; None exactly if the text is
+    /// empty.
     ensures { MatchOption result (text_lines text.now ≡ [])
         (λ found. (text_lines text.now ≡ found.0.now ∷ text_lines found.1.now) × (length found.1.now < length text.now)) }
 {

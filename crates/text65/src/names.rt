@@ -13,6 +13,7 @@ const LONGEST_WORD: usize = 4;
 /// Whether the byte is a space or a TAB.
 #[inline]
 pub fn is_blank(byte: u8) -> bool
+    /// Returns whether a byte is a space or a TAB.
     ensures { result ≡ is_blank byte }
 {
     byte == b' ' || byte == b'\t'
@@ -21,6 +22,7 @@ pub fn is_blank(byte: u8) -> bool
 /// Whether the byte is a letter, a digit or `_`.
 #[inline(always)]
 pub fn is_word_byte(byte: u8) -> bool
+    /// Returns whether a byte is a letter, a digit or `_`.
     ensures { result ≡ is_word_byte byte }
 {
     byte.is_ascii_alphanumeric() || byte == b'_'
@@ -29,6 +31,7 @@ pub fn is_word_byte(byte: u8) -> bool
 /// Whether each byte is a letter, a digit or `_`.
 #[inline]
 pub fn are_word_bytes(bytes: &[u8]) -> bool
+    /// Returns whether each byte of a text is a letter, a digit or `_`.
     ensures { result ≡ list_all is_word_byte bytes.now }
 {
     bytes.iter().all(|b| is_word_byte(*b))
@@ -38,6 +41,7 @@ pub fn are_word_bytes(bytes: &[u8]) -> bool
 #[tactic(auto, unfolding(crate::specs::Names::has_name_form))]
 #[inline]
 pub fn has_name_form(text: &[u8]) -> bool
+    /// Returns whether a text is a letter or `_`, then letters, digits and `_`, 1 to 80 bytes.
     ensures { result ≡ has_name_form text.now }
 {
     match text {
@@ -67,6 +71,7 @@ fn is_register(text: &[u8]) -> bool
 #[tactic(auto, unfolding(crate::specs::Names::is_reserved_word))]
 #[inline]
 pub fn is_reserved_word(text: &[u8]) -> bool
+    /// Returns whether a text is one of the registers A, F, S, X, Y and Z or a mnemonic, in any letter case.
     ensures { result ≡ is_reserved_word text.now }
 {
     if text.len() > LONGEST_WORD {

@@ -27,6 +27,8 @@ pub struct Choice<'a> {
 impl<'a> Choice<'a> {
     /// The option as `clap` takes it.
     pub fn arg(&self, alloc: Global) -> Arg<'a>
+        /// Returns the option as an argument of clap, with its letter, its long name, and a value unless it is a
+        /// flag.
         ensures { HasRule result (rule_for (choice_of self.now)) }
     {
         let arg = named(alloc, self.id, self.short, self.long);
@@ -38,6 +40,7 @@ impl<'a> Choice<'a> {
 
     /// Appends the option's line in the help text: its names and its value, and what it is for.
     pub fn put_help_line(&self, alloc: Global, out: &mut Vec<u8>) -> Result<(), AllocError>
+        /// Appends the line of the option; or memory ran out.
         ensures { OnOk result (out.new.items ≡ out.old.items ++ help_line (choice_of self.now)) }
     {
         let mut names = self.names_and_value(alloc)?;

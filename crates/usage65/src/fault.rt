@@ -28,6 +28,7 @@ pub enum UsageFault {
 impl UsageFault {
     /// The fault of words that can't be had: they are not valid UTF-8, or there is no memory for them.
     pub fn of_words(error: &IoError) -> UsageFault
+        /// Words that can't be read are reported as Words, unless the system is out of memory.
         ensures memory { error_kind error.now ≡ ErrorKind.OutOfMemory → result ≡ UsageFault.Memory }
         ensures words { error_kind error.now ≢ ErrorKind.OutOfMemory → result ≡ UsageFault.Words }
     {
@@ -39,6 +40,7 @@ impl UsageFault {
 }
 
 impl From<AllocError> for UsageFault {
+    /// A refused allocation becomes out of memory.
     ghost from_gives = { λ _ e. e ≡ Memory };
 
     fn from(_: AllocError) -> Self {
@@ -47,6 +49,7 @@ impl From<AllocError> for UsageFault {
 }
 
 impl<T: Drop> From<AllocFailed<T>> for UsageFault {
+    /// A refused allocation becomes out of memory.
     ghost from_gives = { λ _ e. e ≡ Memory };
 
     fn from(failed: AllocFailed<T>) -> Self {

@@ -26,6 +26,8 @@ pub fn names_apart(
     info: Option<&str>,
     output: Option<&str>,
 ) -> Result<Names, RequestFault>
+    /// Returns the names of a listing, an information file and the output as given. At most one of them is standard
+    /// input, and the output is none of the others; otherwise the first refusal in this order, or out of memory.
     ensures { Gives names_seen result (names_apart listing.now
         (text_seen info.entry) (text_seen output.entry)) }
 {

@@ -41,6 +41,8 @@ fn numeral_in(text: &[u8], most: u32) -> Result<u32, UsageFault>
 /// Returns the address that a text writes, as after `-S`: hexadecimal after `$`, `0x` or `0X`, octal after `0`, else
 /// decimal. Fails with `BadNumber` if the text is not a number, and with `OutOfRange` if it is above $FFFF.
 pub fn address_in(text: &[u8]) -> Result<u16, UsageFault>
+    /// Returns the address that a text writes in hexadecimal, octal or decimal. Fails if it is not a number, or is
+    /// above $FFFF.
     ensures { result ≡ address_in text.now }
 {
     Ok(numeral_in(text, 0xFFFF)? as u16)
@@ -49,6 +51,8 @@ pub fn address_in(text: &[u8]) -> Result<u16, UsageFault>
 /// Returns the byte that a text writes in the same way. Fails with `BadNumber` if the text is not a number, and with `OutOfRange` if
 /// it is above $FF.
 pub fn byte_in(text: &[u8]) -> Result<u8, UsageFault>
+    /// Returns the byte that a text writes in hexadecimal, octal or decimal. Fails if it is not a number, or is
+    /// above $FF.
     ensures { result ≡ byte_in text.now }
 {
     Ok(numeral_in(text, 0xFF)? as u8)
@@ -58,6 +62,8 @@ pub fn byte_in(text: &[u8]) -> Result<u8, UsageFault>
 /// `OutOfRange` if the number is not in these limits.
 #[tactic(auto, unfolding(crate::specs::Number::decimal_in))]
 pub fn decimal_in(text: &[u8], least: u8, most: u8) -> Result<u8, UsageFault>
+    /// Returns the number that decimal digits write. Fails if the text is not a number, or the number is outside
+    /// the limits.
     ensures value { result ≡ decimal_in least most text.now }
     ensures low { IfOk result (λ n. least ≤ n) }
     ensures high { IfOk result (λ n. n ≤ most) }

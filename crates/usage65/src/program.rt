@@ -30,6 +30,8 @@ impl<'a> Program<'a> {
     /// twice, or a value is missing. `Memory` is returned only if memory ran out.
     pub fn matches(&self, alloc: Global, words: &'a [String]) -> Result<ArgMatches<'a>, UsageFault>
         requires { IsPlain (command_of (program_of self.now)) }
+        /// Returns clap's matches of the words, by the command of the table: its options in their order, and an
+        /// optional name. Fails with Words if clap rejects the words; or out of memory.
         ensures { Gives (λ m. rows_of (found_of m)) result
             (accepted (command_of (program_of self.now)) (texts_seen words.entry.now)) }
     {
@@ -48,6 +50,7 @@ impl<'a> Program<'a> {
     /// Returns what `--help` prints: what stands before the options, and a line for each of them.
     #[tactic(auto, unfolding(crate::specs::Help::help_of))]
     pub fn help_text(&self, alloc: Global) -> Result<Vec<u8>, AllocError>
+        /// The help text has a line for each option of the table, and no other; or out of memory.
         ensures { IfOk result (λ text. text.items ≡ help_of (program_of self.now)) }
     {
         let mut text = Vec::new(alloc);
@@ -60,6 +63,7 @@ impl<'a> Program<'a> {
     /// Returns what `--version` prints.
     #[tactic(auto, unfolding(crate::specs::Help::version_of))]
     pub fn version_text(&self, alloc: Global) -> Result<Vec<u8>, AllocError>
+        /// The version is the name, ` profile 1` and a line feed; or out of memory.
         ensures { IfOk result (λ text. text.items ≡ version_of (program_of self.now)) }
     {
         let mut text = Vec::new(alloc);

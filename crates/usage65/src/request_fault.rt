@@ -29,6 +29,7 @@ pub enum RequestFault {
 }
 
 impl From<AllocError> for RequestFault {
+    /// A refused allocation becomes out of memory.
     ghost from_gives = { λ _ f. f ≡ Memory };
 
     fn from(_: AllocError) -> RequestFault {
@@ -37,6 +38,7 @@ impl From<AllocError> for RequestFault {
 }
 
 impl From<UsageFault> for RequestFault {
+    /// A fault of the words or their values stays that fault.
     ghost from_gives = { λ e f. f ≡ fault_for e };
 
     fn from(fault: UsageFault) -> RequestFault {

@@ -14,6 +14,7 @@ use std::alloc::{AllocError, Global};
 /// Returns the text that a match has under this id.
 #[tactic(auto, using(crate::proofs::MatchLemmas::read_rows))]
 pub fn text_of<'a>(matches: &ArgMatches<'a>, id: &str) -> Option<&'a str>
+    /// Returns the text that the matches have under an id.
     ensures { text_seen result ≡ first_of id.now (rows_of (found_of matches.now)) }
 {
     matches.get_str(id)
@@ -21,6 +22,7 @@ pub fn text_of<'a>(matches: &ArgMatches<'a>, id: &str) -> Option<&'a str>
 
 /// Whether the flag of this id is given.
 pub fn is_set(matches: &ArgMatches, id: &str) -> bool
+    /// Returns whether a flag is given.
     ensures { result ≡ is_set id.now (rows_of (found_of matches.now)) }
 {
     match text_of(matches, id) {
@@ -31,6 +33,7 @@ pub fn is_set(matches: &ArgMatches, id: &str) -> bool
 
 /// Returns a copy of a text, if there is one.
 pub fn owned(alloc: Global, text: Option<&str>) -> Result<Option<String>, AllocError>
+    /// Returns a copy of a text; or out of memory.
     ensures { IfOk result (λ copy. name_seen copy ≡ text_seen text.entry) }
 {
     match text {
@@ -41,6 +44,7 @@ pub fn owned(alloc: Global, text: Option<&str>) -> Result<Option<String>, AllocE
 
 /// Returns the address that an option has, if it is given. Fails as `address_in` does.
 pub fn address_of(matches: &ArgMatches, id: &str) -> Result<Option<u16>, UsageFault>
+    /// Returns the address of an option, if it is given. Fails if the value is not a number, or is above $FFFF.
     ensures { result ≡ given address_in (first_of id.now (rows_of (found_of matches.now))) }
 {
     match text_of(matches, id) {
@@ -51,6 +55,7 @@ pub fn address_of(matches: &ArgMatches, id: &str) -> Result<Option<u16>, UsageFa
 
 /// Returns the byte that an option has, if it is given. Fails as `byte_in` does.
 pub fn byte_of(matches: &ArgMatches, id: &str) -> Result<Option<u8>, UsageFault>
+    /// Returns the byte of an option, if it is given. Fails if the value is not a number, or is above $FF.
     ensures { result ≡ given byte_in (first_of id.now (rows_of (found_of matches.now))) }
 {
     match text_of(matches, id) {
@@ -61,6 +66,7 @@ pub fn byte_of(matches: &ArgMatches, id: &str) -> Result<Option<u8>, UsageFault>
 
 /// Returns the CPU that an option names, if it is given. Fails with `OutOfRange` if there is none of this name.
 pub fn cpu_of(matches: &ArgMatches, id: &str) -> Result<Option<Cpu>, UsageFault>
+    /// Returns the CPU of an option, if it is given. Fails if the value is not a CPU.
     ensures { result ≡ given cpu_in (first_of id.now (rows_of (found_of matches.now))) }
 {
     match text_of(matches, id) {

@@ -22,6 +22,9 @@ use usage65::{UsageFault, address_of, cpu_of, decimal_in, is_set, owned, text_of
 /// returned only if memory ran out.
 #[tactic(auto, unfolding(crate::specs::Usage::usage_of), using(crate::proofs::CommandLemmas::app_is_plain))]
 pub fn options_of(alloc: Global, words: &[String]) -> Result<Options, UsageFault>
+    /// Returns the options of clap's matches. Fails with Words if clap rejects the command line, otherwise with the
+    /// first fault of the start address, the CPU, the comment level, the columns and the label break; or out of
+    /// memory.
     ensures { Gives (λ o. o) result (usage_of (map string_bytes words.now)) }
 {
     let matches = this_program().matches(alloc, words)?;

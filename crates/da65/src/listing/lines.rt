@@ -177,6 +177,7 @@ impl<'a, A: Allocator> Lines<'a, A> {
     #[tactic(auto, using(crate::proofs::Rules::lines_new_rules, std::proofs::lemmas::Grind::common_steps), unfolding(crate::specs::Listing::lines_of))]
     pub fn new(info: &'a Info<A>, image: &'a Image<A>, map: &'a Map<'a, A>) -> Lines<'a, A>
         requires { map.now ≡ record { info = info.now; image = image.now } }
+        /// The lines are those of the definition for the map.
         ensures { result ≡ lines_of map.entry.now }
     {
         Lines {
@@ -189,6 +190,7 @@ impl<'a, A: Allocator> Lines<'a, A> {
     /// left. If none is left it returns false, and the buffer is empty. Allocates nothing.
     #[tactic(auto, using(crate::proofs::NextLine::NextLemmas::next_lines))]
     pub fn next_line(&mut self, out: &mut Line) -> bool
+        /// Returns exactly the lines that are left, in order, each once. The call is given no allocator.
         ensures next { OnTrue result (self.old ≡ out.new.items ∷ self.new) }
         ensures end { OnFalse result (self.old ≡ []) }
         ensures still { OnFalse result (self.new ≡ []) }
@@ -234,6 +236,7 @@ pub fn write_lines<A: Allocator, W: Sink>(
     mut lines: Lines<'_, A>,
     out: &mut W,
 ) -> Result<(), DeviceFault>
+    /// Writes the remaining lines in order. If a write fails, a prefix of their text has been written.
     ensures whole { OnOk result (Appends (W.taken out.old) (W.taken out.new) (text_of lines.entry)) }
     ensures front { OnErr result (AppendsFront (W.taken out.old) (W.taken out.new) (text_of lines.entry)) }
     ensures count { Counts (W.faults out.old) (W.faults out.new) result }

@@ -16,6 +16,9 @@ pub fn needs<A: Allocator + Copy, B: Allocator>(
     options: &Options<B>,
     info: &[u8],
 ) -> Result<Needs<A>, AllocError>
+    /// Returns the names of the input, the output and the include files from options and information file, the
+    /// include files in the order of their groups. Returns none if the information file is refused. Or out of
+    /// memory.
     ensures { IfOk result (λ n. n ≡ needs_in (information options.now info.now)) }
 {
     needs_read(alloc, &read_info(alloc, options, info))
@@ -26,6 +29,7 @@ pub fn needs_read<A: Allocator + Copy>(
     alloc: A,
     read: &Result<Info<A>, InfoFault>,
 ) -> Result<Needs<A>, AllocError>
+    /// Returns the same as `needs`, for an information file that was read or refused beforehand.
     ensures { OfRead read.now (λ defined. IfOk result (λ n. n ≡ needs_in defined)) }
 {
     match read {

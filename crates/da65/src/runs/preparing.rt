@@ -21,6 +21,7 @@ pub(crate) enum Stop {
 
 /// The end of a run for a fault of a file, which has this message.
 fn stop_of(fault: InfoFault, message: Message) -> Stop
+    /// A file that ran out of memory ends the run with Memory; any other fault refuses it with the file's message.
     ensures stops { StopsFor fault message.items result }
     ensures memory { result ≡ Stop.Memory → fault.kind ≡ InfoFaultKind.Memory }
     ensures refused { fault.kind ≢ InfoFaultKind.Memory → result ≡ Stop.Refused message }

@@ -32,8 +32,10 @@ fn tell<M: Sink>(msgs: &mut M, messages: &[u8], status: Status) -> Result<Status
 fn refuse_image<M: Sink>(msgs: &mut M, fault: ImageFault) -> Result<Status, RunFault>
     ensures text { RefusesOrGivesUp result (image_message fault) (M.taken msgs.old) (M.taken msgs.new) }
     ensures few { WritesFew (M.taken msgs.old) (M.taken msgs.new) }
+    /// If reading the input fails, the run ends with Memory exactly if memory ran out.
     ensures memory { fault ≡ ImageFault.Memory → IsErrOf result RunFault.Memory }
     ensures only_memory { IsErrOf result RunFault.Memory → fault ≡ ImageFault.Memory }
+
     ensures count { MessagesCount result (M.faults msgs.old) (M.faults msgs.new) }
 {
     match fault {
@@ -136,27 +138,42 @@ pub fn run<A: Allocator + Copy, N: Allocator, R: Source, W: Sink, M: Sink>(
     out: &mut W,
     msgs: &mut M,
 ) -> Result<Status, RunFault>
-    // The listing, the messages and the status are those of the options, the information file, the files and the input.
+    /// After Done or Refused, the listing, the messages and the status are those of the definition for the options,
+    /// the bytes of the information file, the include files and the input, and whether the reader failed. The
+    /// listing has its segments, comments and columns. The messages are a refusal, or the warnings of skipped bytes
+    /// and of a segment that is entered again.
+    ///
+    /// After a failed write of the listing, a prefix of it has been written and no message. After a failed write of
+    /// a message, the whole listing and a prefix of the messages have been written, and there was something to
+    /// write.
     ensures answer { OfInput (R.faults input.old) (R.faults input.new) (R.left input.old)
         (λ bytes failed. Writes result
         (outcome_of options.now info.now (files_seen files.now) bytes failed)
         (W.taken out.old) (W.taken out.new) (M.taken msgs.old) (M.taken msgs.new)) }
 
-    // If the result is Done and no byte of the image is skipped, what was written on `out` assembles to the image.
+    /// If the result is Done, the settings and the input give an image. If no range skips a byte of it, the text
+    /// that was written assembles, from the image's start, to the image's bytes, both as a listing and as a repair,
+    /// which is what `as65` and `name65` read.
     ensures reassembles { OfInput (R.faults input.old) (R.faults input.new) (R.left input.old)
         (λ bytes failed. Reassembles result (prepared options.now info.now (files_seen files.now))
         bytes failed (W.taken out.old) (W.taken out.new)) }
 
-    // These hold for every reader.
+    /// After Memory neither writer has taken anything. After a failed write of the listing no message has been
+    /// written. After a refusal no listing has been written. This holds for every reader.
     ensures memory { KeepsAt RunFault.Memory result (W.taken out.old) (W.taken out.new) }
     ensures memory_messages { KeepsAt RunFault.Memory result (M.taken msgs.old) (M.taken msgs.new) }
     ensures write { KeepsAt RunFault.Write result (M.taken msgs.old) (M.taken msgs.new) }
     ensures refused { KeepsIfRefused result (W.taken out.old) (W.taken out.new) }
+    /// At most 320 bytes of messages are written.
     ensures few { WritesFew (M.taken msgs.old) (M.taken msgs.new) }
+    /// At most INPUTOFFS plus INPUTSIZE bytes are read, or without a size INPUTOFFS plus 65,537. The input is not
+    /// used if the information file or an include file is refused, or no input is named.
     ensures reads { ReadsFor (prepared options.now info.now (files_seen files.now)) (R.left input.old) (R.left input.new) }
     ensures unread { IfErr (prepared options.now info.now (files_seen files.now)) (λ _. input.new ≡ input.old) }
 
-    // A failed write is reported, and nothing else is reported as one.
+    /// The count of failed writes of the listing rises by one exactly when the result is Write, that of the
+    /// messages exactly when it is Messages. At most one read fails, and none if the result is Done, Write or
+    /// Memory.
     ensures out_count { OutCount result (W.faults out.old) (W.faults out.new) }
     ensures messages_count { MessagesCount result (M.faults msgs.old) (M.faults msgs.new) }
     ensures input_count { InputCount result (R.faults input.old) (R.faults input.new) }
@@ -174,7 +191,7 @@ pub fn run_read<A: Allocator + Copy, R: Source, W: Sink, M: Sink>(
     out: &mut W,
     msgs: &mut M,
 ) -> Result<Status, RunFault>
-    // As those of `run`, for whatever file it is that was read or refused.
+    /// As in `run`.
     ensures answer { OfRead read (λ defined. OfInput (R.faults input.old) (R.faults input.new)
         (R.left input.old) (λ bytes failed. Writes result
         (outcome_by (prepared_by defined (files_seen files.now)) bytes failed)

@@ -40,7 +40,11 @@ impl From<DeviceFault> for TakeFault {
 
 /// Passes over this many bytes without storing them. Returns false if the input ends before.
 pub fn pass_over<R: Source>(input: &mut R, count: usize) -> Result<bool, DeviceFault>
+    /// Returns whether the input had that many bytes. Then exactly these have been read, otherwise all that there
+    /// were.
     ensures passed { Passes result count (R.left input.old) (R.left input.new) }
+    /// At most that many bytes have been read. After a failed read nothing more is read. This holds for every
+    /// device.
     ensures bound { TakesUpTo count (R.left input.old) (R.left input.new) }
     ensures count { Counts (R.faults input.old) (R.faults input.new) result }
     ensures last { OnErr result (R.failed input.new ≡ true) }
@@ -64,8 +68,11 @@ pub fn take_up_to<A: Allocator, R: Source>(
     input: &mut R,
     limit: usize,
 ) -> Result<Vec<u8, A>, TakeFault>
+    /// Returns the bytes of an input up to its end or a limit, and reads no more; or out of memory.
     ensures bytes { IfOk result (λ v. IfSome (R.left input.old) (λ xs. v.items ≡ take limit xs)) }
     ensures rest { OnOk result (IsReadTo limit (R.left input.old) (R.left input.new)) }
+    /// At most that many bytes have been read. Fails with Read exactly if a read failed, and after that nothing
+    /// more is read. This holds for every device.
     ensures bound { TakesUpTo limit (R.left input.old) (R.left input.new) }
     ensures count { TakeCount result (R.faults input.old) (R.faults input.new) }
     ensures last { TakesNoMore result (R.failed input.new) }

@@ -18,6 +18,7 @@ pub struct Told<T> {
 impl<T> Told<T> {
     /// Wraps a reader or a writer. The count begins at 0.
     pub fn new(inner: T) -> Told<T>
+        /// Starts with the given reader or writer, and no failure.
         ensures { result ≡ told_of inner }
     {
         Told {
@@ -55,10 +56,14 @@ fn progress<E: Drop>(call: Result<usize, E>, bytes: &[u8]) -> Result<usize, Devi
 }
 
 impl<T: Read> Source for Told<T> {
+    /// If the contract of the reader says which bytes are left, the device has the same. A device that always fails meets
+    /// the contract too, so it is partly tested that bytes are passed on.
     ghost left = { λ t. T.remaining t.inner };
 
+    /// A device over a reader counts each failure.
     ghost faults = { λ t. t.faults };
 
+    /// The device tells whether its last read failed.
     ghost failed = { λ t. t.failed };
 
     fn read_some(&mut self, buf: &mut [u8]) -> Result<usize, DeviceFault> {
@@ -69,8 +74,10 @@ impl<T: Read> Source for Told<T> {
 }
 
 impl<T: Write> Sink for Told<T> {
+    /// If the contract of the writer says which bytes it has taken, the device has the same.
     ghost taken = { λ t. T.contents t.inner };
 
+    /// A device over a writer counts each failure. A write that takes no byte is one.
     ghost faults = { λ t. t.faults };
 
     fn write_some(&mut self, bytes: &[u8]) -> Result<usize, DeviceFault> {
