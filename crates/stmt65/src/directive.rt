@@ -30,6 +30,7 @@ const ALL: [Directive; 4] = [
 impl Directive {
     /// What is written.
     pub fn text(self) -> &'static [u8]
+        /// Returns the text of a directive of numbers.
         ensures text { result.now ≡ directive_text self }
     {
         match self {
@@ -42,6 +43,7 @@ impl Directive {
 
     /// How many bytes of a table an entry has.
     pub fn entry_len(self) -> usize
+        /// Returns how many bytes an entry of a directive has: at least two.
         ensures value { result ≡ entry_len self }
         ensures some { 2 ≤ result }
     {
@@ -53,6 +55,7 @@ impl Directive {
 
     /// In which order the bytes of an entry stand.
     pub fn order(self) -> ByteOrder
+        /// Returns the order of an entry's bytes.
         ensures { result ≡ order_of self }
     {
         match self {
@@ -64,6 +67,7 @@ impl Directive {
     /// The directive that the word is, in any letter case.
     #[tactic(auto, unfolding(crate::specs::Directives::directive_named))]
     pub fn from_word(word: &[u8]) -> Option<Directive>
+        /// Returns the directive that a word names, in any letter case.
         ensures { result ≡ directive_named word.now }
     {
         first_of(&ALL, word)

@@ -82,6 +82,7 @@ impl Statement<'_> {
 
     /// Whether it is an instruction or data.
     pub fn has_bytes(&self) -> bool
+        /// Returns whether a statement is an instruction or data.
         ensures { result ≡ has_bytes (statement_seen self.now) }
     {
         matches!(

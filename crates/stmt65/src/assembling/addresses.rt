@@ -15,6 +15,8 @@ pub fn line_addresses<L: Allocator + Clone, A: Allocator + Clone>(
     alloc: A,
     source: &Source<'_, '_, '_, L>,
 ) -> Result<Vec<u64, A>, AllocError>
+    /// Returns the address after each line of a text, in order, exactly if the text assembles. For any other text
+    /// 2^64 - 1 stands for every greater address. Or out of memory.
     ensures lines { IfOk result (λ found. found.items ≡ map held (source_addresses source.now)) }
     ensures exact { IfOk result (λ found. IfOk (source_meaning source.now) (λ _. found.items ≡ source_addresses source.now)) }
 {
@@ -40,6 +42,8 @@ pub fn assemble_lines<'a, 'b, L: Allocator + Clone, A: Allocator>(
     alloc: &'b A,
     source: &Source<'a, '_, '_, L>,
 ) -> Result<Assembly<'a, 'b, A>, AsmFault>
+    /// For a text that assembles, returns its bytes, the address after each line and the definitions, from one
+    /// reading. For any other text, its fault; or out of memory.
     ensures bytes { IfOk result (λ a. source_meaning source.now ≡ Ok a.bytes.items) }
     ensures fault { IfErr result (λ e. (source_meaning source.now ≡ Err e) ⊎ (e ≡ out_of_memory)) }
     ensures ends { IfOk result (λ a. a.ends.items ≡ source_addresses source.now) }

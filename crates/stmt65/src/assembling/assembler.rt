@@ -204,6 +204,7 @@ pub fn assemble_explained<'a, L: Allocator + Clone, A: Allocator + Clone>(
     alloc: A,
     source: &Source<'a, '_, '_, L>,
 ) -> Result<Vec<u8, A>, Explained<'a>>
+    /// The same as by `assemble_source`. What is returned of a fault beside it is not promised.
     ensures { IsExplained result (source_meaning source.now) }
 {
     let out = Vec::new(alloc.clone()?);
@@ -229,6 +230,8 @@ pub fn assemble_source<L: Allocator + Clone, A: Allocator + Clone>(
     alloc: A,
     source: &Source<'_, '_, '_, L>,
 ) -> Result<Vec<u8, A>, AsmFault>
+    /// The same as by `assemble`, for every text in either language, with segments that begin where the layout says. By
+    /// definition a listing is the case without such segments.
     ensures { Assembles result (source_meaning source.now) }
 {
     match assemble_explained(alloc, source) {
@@ -243,6 +246,8 @@ pub fn assemble<A: Allocator + Clone>(
     text: &[u8],
     start: u16,
 ) -> Result<Vec<u8, A>, AsmFault>
+    /// For every listing and start, returns exactly the bytes that the text means, or exactly the fault of the
+    /// first line that has one, of the lowest kind; or out of memory.
     ensures { Assembles result (meaning start text.now) }
 {
     let layout = Layout::new(alloc.clone()?, 0)?;

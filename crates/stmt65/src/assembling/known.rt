@@ -72,6 +72,8 @@ pub fn assemble_known<'b, L: Allocator + Clone, A: Allocator, B: Allocator + Clo
     source: &Source<'_, '_, '_, L>,
     names: &Symbols<'_, B>,
 ) -> Result<Option<Vec<u8, &'b A>>, AllocError>
+    /// Takes the names beforehand. If it returns bytes, the text means them, so it returns none for a text with a
+    /// fault; or out of memory.
     ensures { IfOk result (λ found.
         IfSome found (λ bytes. source_meaning source.now ≡ Ok bytes.items)) }
 {

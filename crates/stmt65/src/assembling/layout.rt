@@ -27,6 +27,7 @@ impl<'a, A: Allocator + Clone> Layout<'a, A> {
     ///
     /// Fails if an allocation is refused.
     pub fn new(alloc: A, fill: u8) -> Result<Self, AllocError>
+        /// A layout has the byte that fills gaps, and no segment; or memory ran out.
         ensures { IfOk result (λ l. l ≡ record { starts = []; fill = fill }) }
     {
         let starts = Symbols::new(alloc)?;
@@ -37,6 +38,7 @@ impl<'a, A: Allocator + Clone> Layout<'a, A> {
     ///
     /// Fails if an allocation is refused.
     pub fn add(&mut self, name: &'a [u8], start: u16) -> Result<(), AllocError>
+        /// Adds a segment with its start after the others; or memory ran out.
         ensures { OnOk result (self.new ≡ with_start self.old name.now start) }
     {
         self.starts.define(Definition {
@@ -48,6 +50,8 @@ impl<'a, A: Allocator + Clone> Layout<'a, A> {
 
     /// The address at which the segment of a name begins, if there is one.
     pub fn start_of(&self, name: &[u8]) -> Option<u16>
+        /// Returns the start of the segment of a name, if it has one. If a name was added twice, the first start
+        /// counts.
         ensures { result ≡ start_of self.now name.now }
     {
         self.starts.all().find(name)?.address()
@@ -55,6 +59,7 @@ impl<'a, A: Allocator + Clone> Layout<'a, A> {
 
     /// The byte that fills what is missing.
     pub fn fill(&self) -> u8
+        /// Returns the byte that fills gaps.
         ensures { result ≡ self.now.fill }
     {
         self.fill

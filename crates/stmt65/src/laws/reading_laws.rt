@@ -2,31 +2,32 @@
 
 ghost use Rattle.stmt65.specs.Words.{CutsTexts, ReadsLines, ReadsSpellings, SpellsOne, TakesParts};
 
-/// The parts of a line parse as a statement exactly when they are a source form of it.
 #[tactic(auto, using(crate::proofs::LineLemmas::reads_spellings))]
 pub fn reads_spellings()
+    /// Parts parse as a statement exactly when they are a spelling of it.
     ensures { ReadsSpellings }
 {}
 
-/// The parts of a line are a source form of at most one statement.
 #[tactic(auto, using(crate::proofs::LineLemmas::spells_one))]
 pub fn spells_one()
+    /// Parts are a spelling of at most one statement.
     ensures { SpellsOne }
 {}
 
-/// The lexer takes the parts of the line, each as long as it can be.
 #[tactic(auto, using(crate::proofs::SpacingLemmas::takes_parts))]
 pub fn takes_parts()
+    /// The parts are those of the line, each as long as possible.
     ensures { TakesParts }
 {}
 
-/// A line parses as a statement exactly when it is a source form of it, spaced in any way.
 #[tactic(auto, using(crate::proofs::LineLemmas::reads_lines))]
 pub fn reads_lines()
+    /// A line of a listing parses as a statement exactly when it is a source form of it.
     ensures { ReadsLines }
 {}
 
-/// A text is cut into the longest stretches and the bytes between, and in no other way.
 pub fn cuts_texts()
+    /// A text of a table is cut into the longest stretches that may stand in quotes and the bytes between them, and
+    /// in no other way.
     ensures { CutsTexts }
 {}

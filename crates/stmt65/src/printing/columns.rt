@@ -21,6 +21,7 @@ impl<const LEAST: u8, const GREATEST: u8> Model for Within<LEAST, GREATEST> {
 
     ghost view = { λ w. w.number };
 
+    /// A column is 1 to 120, a label break 0 to 120, a level 0 to 4.
     ghost invariant = { λ w. (LEAST ≤ w.number) × (w.number ≤ GREATEST) };
 
     ghost inverse = { λ n. record { number = n } };
@@ -31,6 +32,7 @@ impl<const LEAST: u8, const GREATEST: u8> Within<LEAST, GREATEST> {
 
     /// The number.
     pub fn get(self) -> u8
+        /// Returns the number, which is within the limits.
         ensures value { result ≡ self.entry }
         ensures least { LEAST ≤ result }
         ensures greatest { result ≤ GREATEST }
@@ -44,6 +46,7 @@ impl<const LEAST: u8, const GREATEST: u8> TryFrom<u8> for Within<LEAST, GREATEST
 
     type Error = LimitError;
 
+    /// A number outside the limits is refused, and the error holds it.
     ghost try_from_gives = { ConvertsWithin LEAST GREATEST };
 
     fn try_from(number: u8) -> Result<Self, LimitError> {
@@ -79,6 +82,7 @@ impl Column {
 impl Default for Level {
     ghost use Rattle.std.specs.Prelude.{◌≡◌};
 
+    /// By default the level is 0.
     ghost is_default = { λ l. l ≡ 0 };
 
     fn default() -> Self {
@@ -109,6 +113,8 @@ impl Columns {
     /// data: the name has at most as many bytes as the label break, and their number plus 1 is below
     /// the mnemonic column.
     pub fn fits_label(&self, name: &[u8]) -> bool
+        /// Returns whether a label stands on the line of its statement: its name has at most as many bytes as the
+        /// label break, and their number plus 1 is below the mnemonic column.
         ensures { result ≡ fits_label self.now name.now }
     {
         name.len() <= self.label_break.get() as usize
@@ -121,6 +127,7 @@ impl Default for Columns {
     ghost use Rattle.std.specs.Prelude.{◌≡◌};
     ghost use Rattle.stmt65.specs.Columns.{default_columns};
 
+    /// By default the columns are 9, 17, 49 and 81, and the label break is 7.
     ghost is_default = { λ c. c ≡ default_columns };
 
     fn default() -> Self {

@@ -280,11 +280,19 @@ fn start_line(out: &mut Line, label: Option<&[u8]>)
 #[inline(always)]
 #[tactic(auto, unfolding(crate::specs::Line::line_of))]
 pub fn put_line(out: &mut Line, columns: &Columns, statement: &Statement, remarks: &Remarks)
+    /// The caller guarantees three things: the statement keeps the limits of its kind (as many operands as its mode
+    /// writes, 1 to 8 bytes, 1 to 16 of text, a name of 1 to 80 bytes, ..); at most 16 bytes are to be shown; a
+    /// label stands only where one may, and fits. Columns and levels may be any.
     requires printable { IsPrintable (statement_seen statement.now) }
     requires few { length remarks.now.bytes.now ≤ 16 }
     requires label { MayBeLabelled columns.now (option_copied remarks.now.label) (statement_seen statement.now) }
+    /// Replaces the content of the buffer with exactly the line of the statement and one line feed, at most 512
+    /// bytes. The line has the label, the statement at these columns and, by the comment level, its address, its
+    /// bytes, and these as characters.
     ensures line { out.new.items ≡ line_of columns.now (statement_seen statement.now) (remarks_seen remarks.now) ++ 10 ∷ [] }
     ensures fits { array_vec_len out.new ≤ 512 }
+    /// If ca65 accepts the names in the line, the line reads as this statement with this label, and as no other, at
+    /// every comment level.
     ensures reads { ReadsBack (statement_seen statement.now) (option_copied remarks.now.label) out.new.items }
 {
     out.clear();

@@ -25,6 +25,7 @@ impl<'a> Numeral<'a> {
     /// The number, or 2^64 - 1 if it is greater.
     #[tactic(auto, unfolding(crate::specs::Parts::number_of))]
     pub fn value(self) -> u64
+        /// Returns the number, or 2^64 - 1 if it is greater.
         ensures { result ≡ held (numeral_of self.entry) }
     {
         match self.text {

@@ -94,6 +94,7 @@ fn part_here(language: Language, bytes: &[u8]) -> Option<(Part<'_>, usize)>
 
 /// The expression that the bytes are, if they are one and nothing else.
 pub fn read_value<'a>(language: Language, bytes: &'a [u8]) -> Option<Value<'a>>
+    /// Returns the expression that some bytes are, if they are one and nothing else.
     ensures { Gives value_of result (value_alone language (parts language bytes.now)) }
 {
     let mut parts = Parts::new(language, bytes);
@@ -146,6 +147,8 @@ impl<'a> Places<'a> {
     /// The next part, and where it stands. At the end the answer is `None`, again and again.
     #[tactic(auto, using(crate::proofs::PlaceLemmas::places))]
     pub fn next(&mut self) -> Option<Place<'a>>
+        /// Goes over the parts of a line as the reading has them, in order, each once. The bytes at the place of
+        /// each part are those that it is written with, and its place is after those of the parts before.
         ensures over { GoesOver self.old self.new }
         ensures parts { MatchOption result (parts_left self.old ≡ [])
             (λ p. parts_left self.old ≡ part_of p.part ∷ parts_left self.new) }
@@ -177,6 +180,7 @@ impl<'a> Places<'a> {
     /// What stands before the operands.
     pub fn head(&mut self) -> Head<'a>
         ensures over { GoesOver self.old self.new }
+        /// The places of the name before `:`, `:=` or `=` and of the operation hold parts of the line.
         ensures name { IfSome result.name (StandsIn self.old.line) }
         ensures operation { IfSome result.operation (StandsIn self.old.line) }
     {
@@ -246,6 +250,7 @@ impl<'a> Places<'a> {
 
     /// The next operand, and where it stands. Marks and words that are no names are passed over.
     pub fn operand(&mut self) -> Option<Operand<'a>>
+        /// The bytes at the place of an operand are the string, or read as the expression and nothing else.
         ensures { IfSome result (λ o.
             ReadsAs self.old.language (bytes_in o.span self.old.line) (datum_of o.datum)) }
     {
@@ -281,6 +286,7 @@ impl<'a> Places<'a> {
 
     /// Where the remark after all parts stands, with its `;`.
     pub fn remark(&mut self) -> Option<Span>
+        /// A remark's place begins with `;` and goes on to the end of the line.
         ensures { IfSome result (IsRemarkOf self.old.line) }
     {
         let line = self.line;

@@ -169,6 +169,8 @@ pub fn read_line<'a, A: Allocator>(
     language: Language,
     line: &'a [u8],
 ) -> Result<Option<SourceLine<'a, A>>, AllocError>
+    /// Returns what a line says in a language, with its numbers as written, of any size; `None` if it is not a line
+    /// of that language; or out of memory.
     ensures { GivesIfOk source_of result (reading_of language (parts language line.now)) }
 {
     let mut parts = Parts::new(language, line);
