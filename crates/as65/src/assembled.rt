@@ -36,6 +36,10 @@ impl<'s, 't, 'l, 'n> Assembled<'s, 't, 'l, 'n> {
         source: &'s Source<'t, 'l, 'n>,
         name: &str,
     ) -> Result<Assembled<'s, 't, 'l, 'n>, Failure>
+        /// A text assembles to exactly the bytes that it means in its language, from its start, with its segments
+        /// where its layout says. Otherwise the failure has the line and kind of its first fault, the name of the
+        /// listing, a hint, and the text of the line; or out of memory. Only an `Assembled` can be written, and
+        /// only a text without a fault makes one.
         ensures whole { IfOk result (λ a. a ≡ seen source.entry.now a.bytes) }
         ensures means { IfOk result (λ a. source_meaning source.entry.now ≡ Ok a.bytes) }
         ensures fault { IfErr result (Reports name.now source.entry.now) }
@@ -48,6 +52,7 @@ impl<'s, 't, 'l, 'n> Assembled<'s, 't, 'l, 'n> {
 
     /// The text, its language, and where it and its segments begin.
     pub fn source(&self) -> &'s Source<'t, 'l, 'n>
+        /// Returns the source that was given: it means the bytes, and has the same address after each line.
         ensures { self.now ≡ seen result.now self.now.bytes }
     {
         self.source
@@ -55,6 +60,7 @@ impl<'s, 't, 'l, 'n> Assembled<'s, 't, 'l, 'n> {
 
     /// The bytes that the text means.
     pub fn bytes(&self) -> &[u8]
+        /// Returns the bytes that the source means.
         ensures bytes { result.now ≡ self.now.bytes }
         ensures means { self.now.means ≡ Ok result.now }
     {
@@ -70,6 +76,8 @@ impl<'s, 't, 'l, 'n> Assembled<'s, 't, 'l, 'n> {
 
     /// Writes the bytes.
     pub fn write<W: Sink>(&self, out: &mut W) -> Result<(), FileFault>
+        /// Writes exactly the bytes that the listing means from its start. If a write fails, a prefix of them has
+        /// been written, and the failure says so. This holds for every output that reports its bytes.
         ensures whole { OnOk result (IfOk self.now.means (Appends (W.taken out.old) (W.taken out.new))) }
         ensures front { OnErr result (IfOk self.now.means (AppendsFront (W.taken out.old) (W.taken out.new))) }
         ensures count { Counts (W.faults out.old) (W.faults out.new) result }

@@ -19,6 +19,10 @@ pub fn compare<W: Sink>(
     assembled: &Assembled<'_, '_, '_, '_>,
     out: &mut W,
 ) -> Result<Ended, Failure>
+    /// Returns that nothing differs exactly if the bytes of the image are those that the listing means; then it
+    /// writes nothing, and can't fail. Otherwise it writes exactly the text of `differences`, or a prefix of it if
+    /// a write fails, or nothing if memory runs out. It fails for no other reason. The count of failed writes rises
+    /// by one exactly if a write failed.
     ensures answer { Compares assembled.now.moves (compared image.now assembled.now)
         (W.taken out.old) (W.taken out.new) result }
     ensures count { CountsWrites (W.faults out.old) (W.faults out.new) result }

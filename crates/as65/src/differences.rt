@@ -207,6 +207,12 @@ pub fn differences(
     image: &Image,
     assembled: &Assembled<'_, '_, '_, '_>,
 ) -> Result<Vec<u8>, AllocError>
+    /// The text begins with a line for each label `LXXXX` at which the distance from $XXXX changes, in order. If
+    /// there is none, the rest has one line for each stretch, in order: its address, at most eight bytes of the
+    /// image and of the listing, and, if the listing begins where the image does, the number of the line that gives
+    /// the first byte and at most 80 characters of that line. Blanks around it are left out, and `?` stands for
+    /// each control byte, $80 to $9F among them. A last line has both lengths, if they differ. If there is such a
+    /// label, the rest is advice: its rule is in as65.1, and `tests/test_as65.py` tests it. Or out of memory.
     ensures { IfOk result (λ text.
         IsDifferences assembled.now.moves (compared image.now assembled.now) text.items) }
 {

@@ -37,6 +37,7 @@ pub enum Refused {
 
 /// What is said after the text of a failure. It need not be valid UTF-8.
 pub fn said_after(failure: &Failure) -> &[u8]
+    /// Returns what is said after the text of a failure.
     ensures { result.now ≡ said_after failure.now }
 {
     match failure {

@@ -47,6 +47,8 @@ pub fn failure_of(
     source: &Source<'_, '_, '_>,
 ) -> Failure
     requires { FailsWith explained.fault source.now }
+    /// A fault is reported with its line and kind, and the name of the listing; after it come a hint or none, and
+    /// at most 80 characters of the line, as in the differences. Or out of memory.
     ensures { Reports name.now source.now result }
 {
     let fault = explained.fault;

@@ -12,6 +12,7 @@ use std::alloc::Global;
 
 /// The failure of an image of this name.
 fn failure_of(alloc: Global, fault: ImageFault, name: &str) -> Failure
+    /// A fault of the image is reported as one of its kind, or as out of memory.
     ensures { IsFailureOf fault result }
 {
     match (fault, String::from_str(alloc, name)) {
@@ -30,6 +31,10 @@ fn image_in<R: Source>(
     input: &mut R,
     name: &str,
 ) -> Result<Image, Failure>
+    /// Returns the part of the file that da65 lists: at the start of the command line or of the information file,
+    /// or without one so that it ends at $FFFF. It is refused as empty, too short, too large or unread for the same
+    /// reasons as in da65; or out of memory. This holds for an input that reports its bytes and has a count of
+    /// failures below 2^64 - 1.
     ensures image { R.faults input.old < 2 ^ 64 - 1 → IfSome (R.left input.old) (λ xs.
         IfOk result (λ image. image_of info.now.settings xs (has_failed (R.faults input.old) (R.faults input.new)) ≡ Ok image)) }
     ensures refused { R.faults input.old < 2 ^ 64 - 1 → IfSome (R.left input.old) (λ xs.

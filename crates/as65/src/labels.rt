@@ -38,6 +38,8 @@ fn label_lines(alloc: Global, definitions: &[Definition<'_>]) -> Result<Vec<u8>,
 /// A line for each label and constant below $10000 of the listing of this name, in the order in which it defines them. Fails with
 /// its first fault.
 pub fn names_in(alloc: Global, source: &Source<'_, '_, '_>, name: &str) -> Result<Vec<u8>, Failure>
+    /// With `--labels` the text has a line `al 00FE04 .say` for each name that the listing defines with a value
+    /// below $10000, in order, and no other line. A fault is reported as by `Assembled::new`.
     ensures lines { IfOk result (λ text. text.items ≡ source_labels source.now) }
     ensures fault { IfErr result (Reports name.now source.now) }
 {

@@ -13,6 +13,7 @@ pub fn need_bytes(
     assembled: &Assembled<'_, '_, '_, '_>,
     name: &str,
 ) -> Result<(), FileFault>
+    /// Fails exactly if the listing gives no byte: with its name, or out of memory.
     ensures some { OnOk result (0 < length assembled.now.bytes) }
     ensures none { OnErr result (length assembled.now.bytes ≡ 0) }
     ensures failure { IfErr result (IsEmpty name.now) }

@@ -66,6 +66,7 @@ pub fn labels_in(
     source: &Source<'_, '_, '_>,
     ends: &[u64],
 ) -> Result<Vec<Label>, AllocError>
+    /// Returns the labels `LXXXX` of the lines, in order; or out of memory.
     ensures { IfOk result (λ found. found.items
         ≡ labels_in 1 source.now.start (source_readings source.now) ends.now) }
 {
@@ -97,6 +98,8 @@ pub fn is_alike(one: Label, other: Label) -> bool
 /// The labels at which the distance from the address in the name changes: none if each label is at that address.
 #[tactic(auto, unfolding(crate::specs::Moves::moves_after))]
 pub fn moves_in(alloc: Global, labels: &[Label]) -> Result<Vec<Label>, AllocError>
+    /// Returns the labels at which the distance changes: each that does not lie as far from the address in its name
+    /// as the one before, the first compared with a label in place. Or out of memory.
     ensures { IfOk result (λ found. found.items ≡ moves_in labels.now) }
 {
     let mut found = Vec::new(alloc);
@@ -209,6 +212,8 @@ pub fn need_in_place(
     assembled: &Assembled<'_, '_, '_, '_>,
     name: &str,
 ) -> Result<(), Failure>
+    /// Passes a listing only if each label `LXXXX` of it is at $XXXX. Otherwise it fails with the line of the first
+    /// that is not, and how far it lies from there, or memory ran out.
     ensures none { OnOk result (assembled.now.moves ≡ []) }
     ensures failure { IfErr result (IsMoved name.now assembled.now.moves) }
 {

@@ -161,6 +161,9 @@ pub fn named_start(
     size: usize,
 ) -> Result<Option<NamedStart>, AllocError>
     requires { size ≤ 65536 }
+    /// For a text that assembles, returns the start from which the first label `LXXXX` would be at $XXXX, with the
+    /// number of labels that would then be at their addresses. Returns none if the label is there already, if no
+    /// start puts it there, or if the image has no room from that start on. Or out of memory.
     ensures { IfOk (source_meaning source.now) (λ _.
         IfOk result (λ found. option_map named_start_of found ≡ named_start source.now size)) }
 {

@@ -80,6 +80,7 @@ fn count_up_to(addresses: &[u64], address: u64) -> usize
 impl<'a> Origins<'a> {
     /// Over a text, by the address after each of its lines.
     pub fn new(text: &'a [u8], ends: &'a [u64]) -> Origins<'a>
+        /// At first no line is passed over.
         ensures { result ≡ record { lines = text_lines text.entry.now; ends = ends.entry.now; passed = 0 } }
     {
         Origins {
@@ -92,6 +93,9 @@ impl<'a> Origins<'a> {
 
     /// The line that gave the byte at this address, if no earlier call asked for a higher one.
     pub fn of_byte(&mut self, address: u64) -> Origin<'a>
+        /// Returns the number of the first remaining line after which the address is greater than that of the byte.
+        /// That this line gives the byte is the law `FindsLine` of `stmt65`. Exactly the lines before it are passed
+        /// over. The text returned is that of the first line left, without the blanks around it.
         ensures moves { Moves address self.old self.new }
         ensures number { result.number ≡ self.new.passed + 1 }
         ensures line { result.line.now ≡ trimmed (get_or self.new.lines 0 []) }

@@ -66,6 +66,7 @@ struct Given<'a> {
 
 /// Whether a comparison is asked for, however well: trouble then has a status of its own.
 pub fn is_comparing(words: &[String]) -> bool
+    /// Returns whether a comparison is asked for; the status of trouble depends on it.
     ensures { result ≡ is_comparing words.now }
 {
     words
@@ -109,6 +110,12 @@ pub fn is_compared_by<E: Env>(process: &E) -> bool {
 /// output may not have the name of the listing, nor may standard input be both the listing and the image.
 #[tactic(auto, using(crate::proofs::CommandLemmas::app_is_plain))]
 pub fn request_of(alloc: Global, words: &[String]) -> Result<Request<Work>, RequestFault>
+    /// For all words the request is that of the definition. It says which options there are, and takes help and
+    /// version before any value, then the start and the byte of `--fill`. To write bytes it needs a start or an
+    /// information file. A comparison takes no output, `--in-place` or `--labels`, and `--labels` not `--in-place`;
+    /// a comparison refuses an image that is standard input beside another input that is. Then the listing and the
+    /// information file may not both be standard input, and the output may have the name of neither. The first
+    /// refusal in this order counts; or out of memory.
     ensures { Gives (asked_of work_of) result
         (asked this_program work_in (map string_bytes words.now)) }
 {

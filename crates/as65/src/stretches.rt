@@ -58,6 +58,7 @@ fn next_stretch(one: &[u8], other: &[u8], from: usize) -> Option<Stretch>
 /// The stretches of bytes that differ, each as long as it can be, in order.
 #[tactic(auto, unfolding(crate::specs::Stretches::AreRuns))]
 pub fn stretches(alloc: Global, one: &[u8], other: &[u8]) -> Result<Vec<Stretch>, AllocError>
+    /// Returns all stretches of bytes that differ, in order, each as long as possible; or out of memory.
     ensures { IfOk result (λ found. AreRuns (differs one.now other.now) 0 found.items) }
 {
     let mut found = Vec::new(alloc);

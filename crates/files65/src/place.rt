@@ -29,6 +29,8 @@ pub fn layout_of<'n>(
     segments: &'n [SegmentSpec],
     fill: Option<u8>,
 ) -> Result<Layout<'n>, AllocError>
+    /// With a byte that fills gaps, each segment of the information file begins at its START; without one, segments
+    /// move nothing; or out of memory.
     ensures { IfOk result (λ l. l ≡ layout_of (map segment_seen segments.now) fill) }
 {
     match fill {
