@@ -47,6 +47,7 @@ pub enum Refusal {
 }
 
 impl From<AllocError> for Refusal {
+    /// A refused allocation is out of memory.
     ghost from_gives = { λ _ f. f ≡ Memory };
 
     fn from(_: AllocError) -> Refusal {

@@ -25,6 +25,7 @@ pub enum Refused {
 }
 
 impl From<Refusal> for Failure {
+    /// A group that cannot be followed ends the program as that fault.
     ghost from_gives = { λ e f. f ≡ failure_of e };
 
     fn from(refusal: Refusal) -> Failure {

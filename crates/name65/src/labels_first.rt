@@ -96,7 +96,10 @@ pub fn with_labels_first(
     name: &str,
     source: &Source<'_, '_, '_>,
 ) -> Result<Vec<u8>, Failure>
+    /// With `--labels-first` the text that is written by names means exactly the bytes that the listing means, from
+    /// the same start. It has the lines of the listing in another order, or anything else that means these bytes.
     ensures same { IfOk result (λ text. MeansTheSame source.now text.items) }
+    /// As in `named_text`.
     ensures fault { IfErr result (Reports name.now source.now) }
 {
     let assembly = assembled(&alloc, name, source)?;

@@ -60,8 +60,23 @@ pub fn named_text(
     tags: &[Tag],
     used: bool,
 ) -> Result<Vec<u8>, Failure>
+    /// The text means exactly the bytes that the listing means, from the same start.
     ensures same { IfOk result (λ text. MeansTheSame source.now text.items) }
+    /// Each line of the listing that no group touches stands in the text unchanged, in order, with a line feed. A
+    /// group touches a line if the line gives a byte that the group names, or is a constant line whose value the
+    /// group names; with `--used`, groups touch every constant line. Of a touched line that gives bytes only the
+    /// operands change whose bytes groups name, and the blanks before a comment. In the place of a number stands
+    /// `<NAME` or `>NAME`, also with what is added or subtracted; in that of a number of a `.word`, `TO - FROM`; in
+    /// that of the address of an instruction whose first byte a group names, a name with what is added or
+    /// subtracted. Each operand that a group names changes so, or nothing is written. A `.byte` all of whose
+    /// operands become halves without a sign is `.lobytes` or `.hibytes`.
+    ///
+    /// A constant line is left out only with `--used`. It moves after the last line if a group names its value and
+    /// that is not before the end of the text: there a line defines the same name with the same value, `NAME := * +
+    /// n`, with the same comment. Nothing else comes after the last line. Each other constant line stays. That no
+    /// line uses a name that was left out follows from `same`: a text that uses an undefined name means nothing.
     ensures rest { IfOk result (λ text. IsNamed source.now tags.now used text.items) }
+    /// If a line of the listing is reported, it is the line of the first fault, with the name of the listing.
     ensures fault { IfErr result (Reports name.now source.now) }
 {
     let assembly = assembled(&alloc, name, source)?;

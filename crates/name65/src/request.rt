@@ -36,6 +36,9 @@ pub struct Naming {
 /// the byte are read. The output may not have the name of an input, nor may standard input be both the listing and the information file.
 #[tactic(auto, using(crate::proofs::CommandLemmas::app_is_plain))]
 pub fn request_of(alloc: Global, words: &[String]) -> Result<Request<Naming>, RequestFault>
+    /// For all words the request is that of the definition. It says which options there are, and takes help and
+    /// version before the start, and the start before the byte of `--fill`. It refuses standard input given twice,
+    /// and an output with the name of an input. The first refusal in this order counts; or out of memory.
     ensures { Gives (asked_of naming_of) result
         (asked this_program naming_in (map string_bytes words.now)) }
 {
