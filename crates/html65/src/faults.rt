@@ -173,6 +173,8 @@ fn are_found(ids: &[&[u8]], targets: &[&[u8]]) -> bool
 /// The first promise that a page does not keep for this listing. The ids have to be numbered, whether a link leads to them or not.
 #[tactic(auto, using(crate::proofs::LinkLemmas::read_back))]
 pub fn fault_in(alloc: Global, page: &[u8], listing: &[u8]) -> Result<Option<Fault>, AllocError>
+    /// If it finds no fault in any bytes, these are a page whose text is the listing, and each link within it is
+    /// the `id` of exactly one element.
     ensures text { IfOk result (λ fault. fault ≡ None → text_of page.now ≡ listing.now) }
     ensures links { IfOk result (λ fault. fault ≡ None → AreLinksWhole page.now) }
 {

@@ -53,8 +53,12 @@ fn written(alloc: Global, name: &str, survey: &Survey<'_, '_>) -> Result<Vec<u8>
 /// Nothing is trusted for what the page promises: it is read back, and unless its text is the listing and each of its links leads to
 /// one element, there is none.
 pub fn page_of(alloc: Global, name: &str, source: &Source<'_, '_, '_>) -> Result<Vec<u8>, Failure>
+    /// If there is a page, its text is exactly the listing: the text in `<pre id="listing">` without tags and
+    /// without the elements `<i>`, with `&amp;`, `&lt;` and `&gt;` resolved.
     ensures text { IfOk result (λ page. text_of page.items ≡ source.now.text.now) }
+    /// Each link within the page, an attribute `href` that begins with `#`, is the `id` of exactly one element.
     ensures links { IfOk result (λ page. AreLinksWhole page.items) }
+    /// If a line of the listing is reported, it is the line of the first fault, with the name of the listing.
     ensures fault { IfErr result (Reports name.now source.now) }
 {
     let assembly = assembled(&alloc, name, source)?;
