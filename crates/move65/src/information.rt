@@ -96,6 +96,8 @@ pub fn read_back(
     bytes: &[u8],
     text: &[u8],
 ) -> Result<Info, Failure>
+    /// Reads an information file with a line feed and a text behind it. Returns only what the definition says of
+    /// both together.
     ensures accepted { IfOk result (λ info.
         information options.now ((bytes.now ++ (10 ∷ [])) ++ text.now) ≡ Ok info) }
 {
