@@ -36,6 +36,8 @@ pub fn ranges_of<A: Allocator, B: Allocator, C: Allocator, F: Fn(u16) -> (RangeT
     piece: F,
 ) -> Result<Vec<RangeSpec, A>, AllocError>
     requires { F.IsAlwaysCallable piece }
+    /// The ranges are disjoint, in order, lie in the image, and cover exactly its addresses that are not taken,
+    /// whatever the caller's function says of where they end. Or out of memory.
     ensures cover { IfOk result (λ list. HaveAllFree image.now (is_marked taken.now) list.items) }
     ensures inside { IfOk result (λ list. LieIn image.now list.items) }
     ensures apart { IfOk result (λ list. AreInOrder list.items) }

@@ -134,6 +134,7 @@ impl<'f, 'm> Model for Steps<'f, 'm> {
 impl<'f, 'm> Steps<'f, 'm> {
     /// Reads what begins at each address of the image. Fails only if an allocation fails.
     pub fn of(alloc: Global, map: &'f Map<'m>, tags: &'f [Tag]) -> Result<Steps<'f, 'm>, AllocError>
+        /// The steps are those of the map and the groups; or out of memory.
         ensures { IfOk result (λ s. s ≡ record { map = map.now; tags = tags.now }) }
     {
         let flow = Flow::new(alloc, map, tags)?;
@@ -164,6 +165,9 @@ impl<'f, 'm> Steps<'f, 'm> {
 
     /// Returns the instruction that begins at the address, if one does.
     pub fn at(&self, address: u16) -> Option<&Step>
+        /// The instruction leads to the address after it, unless it is `jmp`, `bra`, `rts`, `rti` or `brk`, and to
+        /// the target of a branch, or of `jmp` or `jsr` with an absolute address. Each must lie in the image. If a
+        /// group INLINE names the address of a call, the call leads to the address after the text that follows it.
         ensures { IsStep self.now address (option_copied result) }
     {
         let start = self.image().start();
@@ -179,6 +183,8 @@ impl<'f, 'm> Steps<'f, 'm> {
     /// Returns what begins at the address, if an instruction does.
     #[tactic(auto, using(crate::proofs::StepsLemmas::step_is_whole))]
     pub fn instruction_at(&self, address: u16) -> Option<Op>
+        /// An address has an instruction exactly if it is code of the image, its opcode is defined, and all its
+        /// bytes lie in the image.
         ensures value { result ≡ instruction_at self.now.map address }
         ensures whole { IfSome result (λ op. address + len_of op.mode ≤ 65536) }
     {

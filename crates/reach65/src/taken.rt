@@ -27,6 +27,7 @@ fn mark_code(code: &mut Marks, steps: &Steps<'_, '_>, reached: &Marks, address: 
 /// Returns marks of exactly the addresses that a reached instruction has. Fails only if the allocation fails.
 #[tactic(auto, using(crate::proofs::TakenLemmas::code_in_none, crate::proofs::TakenLemmas::code_in_more, crate::proofs::TakenLemmas::code_in_all))]
 pub fn code_of(alloc: Global, steps: &Steps<'_, '_>, reached: &Marks) -> Result<Marks, AllocError>
+    /// Marks exactly the addresses that a reached instruction has; or out of memory.
     ensures { IfOk result (AreMarkedBy (is_code steps.now.map (is_marked reached.now))) }
 {
     let mut code = Marks::none(alloc)?;
@@ -49,6 +50,7 @@ fn mark_range(marks: &mut Marks, range: RangeSpec)
 /// allocation fails.
 #[tactic(auto, unfolding(crate::specs::Taken::is_taken, crate::specs::Taken::is_given), using(crate::proofs::TakenLemmas::any_range))]
 pub fn taken_of(alloc: Global, steps: &Steps<'_, '_>, code: &Marks) -> Result<Marks, AllocError>
+    /// Marks exactly the addresses that are marked or that a range of the information file has; or out of memory.
     ensures { IfOk result (AreMarkedBy (is_taken steps.now.map (is_marked code.now))) }
 {
     let mut taken = code.copy(alloc)?;
