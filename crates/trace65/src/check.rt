@@ -158,6 +158,8 @@ fn are_names(new: &Info, base: &Info, labels: &[u16]) -> bool
 /// Returns whether the information says what the base says, these ranges after those of the base, default names for these addresses,
 /// and nothing else.
 pub fn says(new: &Info, base: &Info, ranges: &[RangeSpec], labels: &[u16]) -> bool
+    /// Returns true only if an information says what another one says, with these ranges and labels, and nothing
+    /// else.
     ensures { IsTrue result → Says base.now ranges.now labels.now new.now }
 {
     are_same_settings(new.settings(), base.settings())
@@ -169,6 +171,7 @@ pub fn says(new: &Info, base: &Info, ranges: &[RangeSpec], labels: &[u16]) -> bo
 
 /// The failure for a fault of the text.
 fn failure_of(fault: InfoFault) -> Failure
+    /// A fault of the text that is read back is reported as that fault, unless memory ran out.
     ensures memory { fault.kind ≡ InfoFaultKind.Memory → result ≡ Memory }
     ensures other { fault.kind ≢ InfoFaultKind.Memory → result ≡ Own (Refused.Text fault) }
 {
@@ -189,6 +192,8 @@ pub fn read_back(
     ranges: &[RangeSpec],
     labels: &[u16],
 ) -> Result<Info, Failure>
+    /// Reads a text by `read_info`. Returns what the text says only if that is what the base says, with these
+    /// ranges and labels. A failure that names a fault of the text names the one that `read_info` refuses it for.
     ensures accepted { IfOk result (λ info. information options.now text.now ≡ Ok info) }
     ensures says { IfOk result (Says base.now ranges.now labels.now) }
     ensures fault { IfErr result (Explains options.now text.now) }

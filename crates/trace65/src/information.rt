@@ -10,6 +10,7 @@ use map65::{Image, ImageFault, read_image};
 
 /// The failure for a fault of the include file of this name.
 fn failure_of(fault: InfoFault, name: String) -> Failure
+    /// A fault of an include file is reported as that fault, with the name of the file, unless memory ran out.
     ensures memory { fault.kind ≡ InfoFaultKind.Memory → result ≡ Memory }
     ensures other { fault.kind ≢ InfoFaultKind.Memory → result ≡ Own (Refused.Include name fault) }
 {
@@ -57,6 +58,8 @@ pub fn without_includes(
 
 /// The failure for a fault of the image.
 fn image_failure(fault: ImageFault) -> Failure
+    /// A fault of the image ends the program as that fault; those of the command line and of a file are kept too
+    /// (`files65`).
     ensures { result ≡ Own (Refused.Image fault) }
 {
     Failure::Own(Refused::Image(fault))

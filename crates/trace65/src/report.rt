@@ -238,8 +238,23 @@ pub fn report_of(
     file: &InfoFile<'_>,
     tracing: &Tracing,
 ) -> Result<Report, Failure>
+    /// The marks are exactly the addresses that are reached from the entries of the result, whatever chose these
+    /// (`reached`). The entries begin with those of `--entry` (`given_first`).
+    ///
+    /// The proposed ranges are disjoint, in order (`apart`), lie in the image (`inside`), and cover exactly its
+    /// bytes that no reached instruction and no range of the information file has (`cover`).
     ensures found { IfOk result (λ r. AreFindings (flow_of map.now file.now) tracing.now r.found) }
+    /// The information file, followed by everything that is added to it, is accepted under the options of the
+    /// command line (`accepted`). It says what the file says, with exactly the proposed ranges after its own,
+    /// default names for exactly the proposed labels among its names, and nothing else (`says`). This is about the
+    /// file alone, without its include files.
+    ///
+    /// In the map of what was read back, an item begins at each reached instruction and is as long as it, except at
+    /// the addresses that the comments `# no item of its own: ..` name. They name exactly those, in order
+    /// (`shown`).
     ensures accepted { IfOk result (IsAccepted tracing.now.options file.now map.now) }
+    /// What is written is the information file, if `--whole` asks for it, then what is found, and then these
+    /// comments.
     ensures written { IfOk result (IsWritten tracing.now.whole file.now) }
 {
     let steps = Steps::of(alloc, map, file.tags)?;

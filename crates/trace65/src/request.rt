@@ -39,6 +39,10 @@ pub struct Tracing {
 /// looked at. Then the start, the CPU and the entries are read, in this order. `Memory` is returned only if memory ran out.
 #[tactic(auto, using(crate::proofs::CommandLemmas::app_is_plain))]
 pub fn request_of(alloc: Global, words: &[String]) -> Result<Request<Tracing>, RequestFault>
+    /// For all words the request is that of the definition. It says which options there are, and takes help and
+    /// version before any value, then the start, the CPU, the entries, `--plain` and `--whole`. It refuses standard
+    /// input as both image and information file, after any fault of a value. The first refusal in this order
+    /// counts; or out of memory.
     ensures { Gives (asked_of tracing_of) result
         (asked this_program traced_in (texts_seen words.now)) }
 {

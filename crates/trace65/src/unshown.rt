@@ -32,6 +32,8 @@ pub fn unshown_of(
     steps: &Steps<'_, '_>,
     reached: &Marks,
 ) -> Result<Vec<u16>, AllocError>
+    /// Returns exactly the addresses of the image where a reached instruction begins and no item that is as long,
+    /// in order; or out of memory.
     ensures { IfOk result (λ found. found.items ≡ unshown_in shown.now steps.now.map reached.now) }
 {
     let image = steps.image();
