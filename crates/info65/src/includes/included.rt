@@ -144,6 +144,8 @@ impl<'a, A: Allocator + Copy> Inclusion<'a, A> {
     /// The information as it is. `bytes` is how many bytes its include files have together: memory for looking names up
     /// is taken in proportion to it.
     pub fn of(alloc: A, info: &'a Info<A>, bytes: usize) -> Result<Self, InfoFault>
+        /// An `Inclusion` takes include files one after the other over one index. It starts with the names of the
+        /// information that it borrows; or memory ran out.
         ensures { Gives (λ i. i) result (Ok info.entry.now) }
     {
         let names = index_of(alloc, info, bytes)?;
@@ -152,6 +154,7 @@ impl<'a, A: Allocator + Copy> Inclusion<'a, A> {
 
     /// The include files of the information, in the order of their groups.
     pub fn includes(&self) -> &'a [IncludeSpec<A>]
+        /// Returns the include files of the information.
         ensures includes { result.now ≡ self.now.includes }
         ensures sound { AreIncludes self.now.includes }
     {
@@ -162,6 +165,8 @@ impl<'a, A: Allocator + Copy> Inclusion<'a, A> {
     /// which names are added, and when a file is refused. What was read is then gone, and the information is as before.
     pub fn with(self, index: usize, bytes: &'a [u8]) -> Result<Self, InfoFault>
         requires { index < length self.includes }
+        /// Each file is accepted with exactly its names, or refused, as by `read_include`; or out of memory. After
+        /// a failure nothing of the index is left.
         ensures { Gives (λ i. i) result (included self.entry index bytes.entry.now) }
     {
         let Inclusion { info, names } = self;
@@ -171,6 +176,7 @@ impl<'a, A: Allocator + Copy> Inclusion<'a, A> {
 
     /// All names, by address, for [`Info::set_names`].
     pub fn names(self, alloc: A) -> Result<NamePool<A>, InfoFault>
+        /// Returns the names of the information with those of the files so far; or out of memory.
         ensures names { Gives (λ n. n) result (Ok self.entry.names) }
         ensures sound { AreNames self.entry.names }
     {

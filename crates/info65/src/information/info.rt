@@ -48,6 +48,7 @@ impl<A: Allocator> Model for Info<A> {
 impl<A: Allocator> Info<A> {
     /// The settings: the options, the groups GLOBAL and the defaults.
     pub fn settings(&self) -> &Settings<A>
+        /// Returns the settings that the file and the options gave, which are in their limits.
         ensures settings { result.now ≡ self.now.settings }
         ensures limits { AreInLimits self.now.settings }
     {
@@ -56,7 +57,9 @@ impl<A: Allocator> Info<A> {
 
     /// The ranges, in the order of their groups. No two of them share an address.
     pub fn ranges(&self) -> &[RangeSpec]
+        /// Returns the ranges that the file gave.
         ensures ranges { result.now ≡ self.now.ranges }
+        /// None of the ranges ends before it begins, and no two share an address.
         ensures sound { AreRanges self.now.ranges }
     {
         self.ranges.as_slice()
@@ -64,7 +67,9 @@ impl<A: Allocator> Info<A> {
 
     /// The segments, in the order of their groups. No two of them share an address.
     pub fn segments(&self) -> &[SegmentSpec<A>]
+        /// Returns the segments of the groups SEGMENT, in their order.
         ensures segments { segments_seen result.now ≡ self.now.segments }
+        /// None of the segments ends before it begins, and no address belongs to two.
         ensures sound { AreSegments self.now.segments }
     {
         self.segments.as_slice()
@@ -73,7 +78,9 @@ impl<A: Allocator> Info<A> {
     /// The name of the segment that contains an address.
     /// It takes a time that grows with the logarithm of the number of segments.
     pub fn segment_covering(&self, address: u16) -> Option<&[u8]>
+        /// Returns the name of the segment that an address belongs to.
         ensures name { option_copied result ≡ segment_covering self.now.segments address }
+        /// As in `Info::segments`.
         ensures sound { AreSegments self.now.segments }
     {
         self.segments.covering(address)
@@ -83,7 +90,9 @@ impl<A: Allocator> Info<A> {
     /// only if they are one name, since no two segments share an address, so it is a key of the name.
     /// It takes a time that grows with the number of segments.
     pub fn first_named(&self, name: &[u8]) -> Option<u16>
+        /// Returns where the first segment of a name begins, which is the key of the name.
         ensures first { result ≡ first_named self.now.segments name.now }
+        /// As in `Info::segments`.
         ensures sound { AreSegments self.now.segments }
     {
         self.segments.first_named(name)
@@ -92,7 +101,9 @@ impl<A: Allocator> Info<A> {
     /// The key of the name of the segment that contains an address, which is what [`Info::first_named`] returns
     /// for that name. It takes a time that grows with the logarithm of the number of segments.
     pub fn segment_key(&self, address: u16) -> Option<u16>
+        /// Returns the key of the name of the address's segment.
         ensures key { result ≡ segment_key self.now.segments address }
+        /// As in `Info::segments`.
         ensures sound { AreSegments self.now.segments }
     {
         self.segments.key(address)
@@ -100,6 +111,7 @@ impl<A: Allocator> Info<A> {
 
     /// The include files, in the order of their groups, 16 at most. A file that two groups name is there twice.
     pub fn includes(&self) -> &[IncludeSpec<A>]
+        /// Returns the include files, at most 16.
         ensures includes { result.now ≡ self.now.includes }
         ensures sound { AreIncludes self.now.includes }
     {
@@ -108,7 +120,9 @@ impl<A: Allocator> Info<A> {
 
     /// How many names are given.
     pub fn given_count(&self) -> usize
+        /// Returns the number of names.
         ensures count { result ≡ length self.now.names }
+        /// The names ascend by address, and no two have one text.
         ensures sound { AreNames self.now.names }
     {
         self.names.count()
@@ -117,7 +131,9 @@ impl<A: Allocator> Info<A> {
     /// The given name at this place, by address.
     pub fn given(&self, index: usize) -> Given<'_>
         requires { index < length self.now.names }
+        /// Returns a name by its number.
         ensures name { given_seen result ≡ name_at self.now.names index }
+        /// As in `Info::given_count`.
         ensures sound { AreNames self.now.names }
     {
         self.names.given(index)
@@ -126,7 +142,9 @@ impl<A: Allocator> Info<A> {
     /// The given name of an address: of those that are for it the one with the highest address of its own.
     /// It takes a time that grows with the square of the logarithm of the number of names, however these overlap.
     pub fn covering(&self, address: u16) -> Option<Given<'_>>
+        /// Returns exactly the name that covers the address, by the definition.
         ensures name { option_map given_seen result ≡ covering self.now.names address }
+        /// As in `Info::given_count`.
         ensures sound { AreNames self.now.names }
     {
         self.names.covering(address)
@@ -135,6 +153,7 @@ impl<A: Allocator> Info<A> {
     /// Puts names in the place of its own: those of an [`Inclusion`](crate::Inclusion) of this information.
     pub fn set_names(&mut self, names: NamePool<A>)
         requires { AreNames names }
+        /// The names of the index replace those of the `Info`, which is otherwise unchanged.
         ensures { self.new ≡ with_names self.old names }
     {
         self.names = names;
@@ -199,6 +218,9 @@ pub fn read_info<A: Allocator + Copy, B: Allocator>(
     options: &Options<B>,
     bytes: &[u8],
 ) -> Result<Info<A>, InfoFault>
+    /// Accepts the file with exactly the merged settings, the ranges, segments and include files in their order,
+    /// and the names with their comments by address. Or refuses it with exactly the line and kind of the
+    /// definition; or out of memory.
     ensures { Gives (λ i. i) result (information options.now bytes.now) }
 {
     if bytes.len() > MOST_BYTES {
@@ -238,6 +260,8 @@ pub fn read_include<A: Allocator + Copy>(
     bytes: &[u8],
 ) -> Result<(), InfoFault>
     requires { index < length info.old.includes }
+    /// Accepts an include file, and adds exactly the names of its lines, or refuses it with exactly the line and
+    /// kind of the definition; or out of memory. On every refusal the `Info` is unchanged.
     ensures { Includes info.old index bytes.now result info.new }
 {
     let read = Inclusion::of(alloc, info, bytes.len())?.with(index, bytes)?;

@@ -68,6 +68,7 @@ impl<A: Allocator> Options<A> {
 
     /// No option at all.
     pub fn none() -> Self
+        /// No option is set.
         ensures { result ≡ no_options }
     {
         Options {
@@ -90,6 +91,7 @@ impl<A: Allocator> Options<A> {
 
     /// Does nothing: its clause says that the numbers are in their limits.
     pub fn limits(&self)
+        /// The numbers of options are in their limits.
         ensures { AreOptions self.now }
     {
         let _ = &self.comments;

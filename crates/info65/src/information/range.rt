@@ -64,6 +64,8 @@ impl RangeType {
     #[inline]
     #[tactic(auto, using(crate::proofs::LayoutLemmas::layout_entry))]
     pub fn layout(self) -> Layout
+        /// Returns the number of bytes of an entry of a type, 1 to 4; the most entries of a line, at least 1; and
+        /// what an entry is. A number has 1, 2 or 4 bytes, an address 2, and a line of numbers at most 8.
         ensures value { result ≡ layout_of self }
         ensures some { 1 ≤ result.unit }
         ensures small { result.unit ≤ 4 }

@@ -10,6 +10,8 @@ ghost use Rattle.info65.specs.Words.{number_of_digits};
 pub fn number_of_digits(digits: &[u8], radix: u32) -> Option<u64>
     requires low { 2 ≤ radix }
     requires high { radix ≤ 36 }
+    /// Returns the number that digits of a radix write, or 2^32 if it is greater; None if there is no digit or
+    /// another byte.
     ensures value { result ≡ number_of_digits radix digits.now }
     ensures some { IfSome result (λ _. 0 < length digits.now) }
 {

@@ -42,6 +42,7 @@ impl<'a> Lexer<'a> {
     /// The tokens of these bytes, of which there are at most 1,048,576.
     pub fn new(bytes: &'a [u8]) -> Self
         requires { length bytes.now ≤ 1_048_576 }
+        /// A lexer returns the tokens of the given text, whose first line is line 1.
         ensures { result ≡ tokens_of 1 bytes.entry.now }
     {
         Lexer { bytes, line: 1 }
@@ -74,6 +75,8 @@ impl<'a> Lexer<'a> {
     /// Refuses BadByte, OpenString and BadNumber at the line of the first token that has such a fault; that
     /// fault is answered again at every later call.
     pub fn next_token(&mut self) -> Result<Option<Token<'a>>, InfoFault>
+        /// Returns the tokens of the text one by one, then None. At the first fault it returns that fault, and at
+        /// every later call too. The call is given no allocator.
         ensures { Hands self.old result self.new }
     {
         match self.next()? {

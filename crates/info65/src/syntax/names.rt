@@ -26,6 +26,7 @@ pub fn has_comment_form(text: &[u8]) -> bool
 #[tactic(auto, unfolding(crate::specs::Names::default_name))]
 #[inline]
 pub fn default_name(address: u16) -> [u8; 5]
+    /// The default name of an address is `L` and four digits.
     ensures { result ≡ default_name address }
 {
     [

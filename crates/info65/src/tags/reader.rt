@@ -54,6 +54,8 @@ fn tags_in<A: Allocator>(alloc: A, tokens: Lexer<'_>) -> Result<Vec<Tag, A>, Inf
 #[tactic(auto, unfolding(crate::specs::Tags::tags_of))]
 pub fn read_tags<A: Allocator + Copy>(alloc: A, bytes: &[u8]) -> Result<Vec<Tag, A>, InfoFault>
     requires { length bytes.now ≤ 1_048_576 }
+    /// Returns exactly the groups of the lines that begin with `#:`, each with its line, or the first fault with
+    /// its line; or out of memory.
     ensures { Gives (λ found. found.items) result (tags_of bytes.now) }
 {
     let text = tagged_text(alloc, bytes)?;
