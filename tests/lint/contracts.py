@@ -82,7 +82,7 @@ def given_out(crate):
 def entries(crate):
     """The public items of a crate."""
     root = source(crate, module_file(crate, []))
-    promised = {name.partition(": ")[0] for _, _, calls in rows(crate) for name in calls} or named_in_page(crate)
+    promised = {name.partition(": ")[0] for _, _, calls in rows(crate) for name in calls}
     own, others = given_out(crate)
 
     def is_public(here, item):
@@ -118,12 +118,6 @@ def plain_entry(here, item):
         fields = visible(item.clauses[0]) if item.kind == "struct" else item.clauses[0]
         return entry(here, item.name, [*item.attributes, f"{item.text} {fields}".strip()])
     return entry(here, item.name, [item.text + ";"])
-
-
-def named_in_page(crate):
-    """The functions and types that the table of a crate without comments of clauses names."""
-    table = (ROOT / "docs" / "PROOFS.md").read_text().partition(f"### `{crate}`\n")[2].partition("\n##")[0]
-    return {word for line in table.splitlines() if line[:1] == "|" for word in re.findall(r"`([^`]*)`", line.split(" | ")[-1])}
 
 
 def snapshot(crate):

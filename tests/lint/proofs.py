@@ -63,11 +63,9 @@ def check(write):
     """What differs from the page that is there, a line each; with `write` its tables are written anew."""
     head, *parts = re.split(r"(?m)^### `(\w+)`\n", PAGE.read_text())
     for crate, text in zip(parts[::2], parts[1::2]):
-        there = [re.search(r"`([^`]*)`[^`|]*(?:, `[^`]*`)* \|$", line) for line in text.splitlines()]
-        calls = [found[1] for found in there if found]
+        calls = re.findall(r"(?m)\| `([^`]*)`[^|]*\|$", text)
         in_order = sorted(rows(crate), key=lambda row: calls.index(row[2][0]) if row[2][0] in calls else len(calls))
         table = HEAD + "".join(f"| {said} | {quoted(clauses) or 'the one clause'} | {quoted(names)} |\n" for said, clauses, names in in_order)
-        table = re.sub(r"(?m)(^\|.*\n)+", lambda _: table, text, count=1) if in_order else text
-        head += f"### `{crate}`\n" + table
+        head += f"### `{crate}`\n" + re.sub(r"(?m)(^\|.*\n)+", lambda _: table, text, count=1)
     yield from differs(PAGE, head, write, "the contracts")
     yield from (f"PROOFS.md has no part for {crate}" for crate in CRATES if rows(crate) and crate not in parts[::2])
