@@ -36,15 +36,11 @@ def test_runs(as65, given, words, status, out, err, after, stdin):
 
 
 def test_pipes(as65):
-    """Two of them; one in two pieces; one that is not asked for; and one of a listing a byte too large, which is read
-    no further."""
+    """Two of them; one in two pieces; and one of a listing a byte too large, which is read no further."""
     fds = [in_pieces(read(name)) for name in ("three.bin", "three.s")]
     as65(["-S", "0x1000", "--compare", *(f"/dev/fd/{pipe.fileno()}" for pipe in fds)],
          pass_fds=[pipe.fileno() for pipe in fds])
     as65("-S 0x1000 -", 0, "\xa9\x01\x60", stdin=in_pieces(TEXTS["THREE"][:40], TEXTS["THREE"][40:]))
-    pipe = in_pieces("abcdef")
-    as65("-S 0 three.s", 0, None, stdin=pipe)
-    same("abcdef", pipe.read(), "it was read")
     pipe = in_pieces(bytes(67108864 + 8192))
     as65.refuses("-S 0", "input is too large", stdin=pipe)
     assert len(pipe.read()) == 8191
@@ -130,19 +126,8 @@ def test_suggests_a_start(as65, text, labels, start):
          "as65: other.bin is taken to begin at $FFFD\n" + said)
 
 
-def test_every_second_byte(as65):
-    """Searching the lines from the first one, anew for each stretch, would take far longer than 5 seconds."""
-    write("every.s", 32768 * " .byte 0,1\n")
-    write("zeros.bin", bytes(65536))
-    out = as65("-S 0 --compare zeros.bin every.s", 1, None, timeout=5).out
-    same("".join(f"${2 * k + 1:04X}: 00 -> 01, line {k + 1}: .byte 0,1\n" for k in range(32768)), out,
-         "the differences")
-
-
 @FULL
 @rows("image full status out err", [
-    ("differences on a full output", "other.bin", "stdout", 2, None,
-     "as65: other.bin is taken to begin at $FFFD\nas65: cannot write the output\n"),
     ("no difference, and a full output", "three.bin", "stdout", 0),
     ("a full standard error before differences", "other.bin", "stderr", 2),
 ])

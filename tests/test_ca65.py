@@ -99,19 +99,14 @@ def segments(text, renamed=False):
     one segment together."""
     current, is_entered, found, lines, count = "CODE", False, [], [], 0
     for line in text.removesuffix("\n").split("\n"):
-        words = line.split()
-        if words[:1] == [".segment"] or re.fullmatch(r" *\.code", line):
-            current, is_entered, count = "CODE" if words[0] == ".code" else words[1].strip('"'), False, count + 1
-            if renamed:
-                current = f"stretch_{count}"
-                lines.append(f' .segment "{current}"')
-                continue
-        lines.append(line)
-        says_nothing = not words or words[0] in (".segment", ".code",
-                                                 ".setcpu") or words[0][0] == ";" or words[1:2] == [":="]
-        if not says_nothing and not re.match(r" *[A-Za-z_0-9]+ *=", line) and not is_entered:
+        if entered := re.match(r' *\.(?:code$|segment +"?(\w+))', line):
+            count += 1
+            current, is_entered = f"stretch_{count}" if renamed else entered[1] or "CODE", False
+            line = f' .segment "{current}"'
+        elif not is_entered and not re.match(r"\s*(;|$|\.setcpu|\w+\s*:?=)", line):
             found.append(current)
             is_entered = True
+        lines.append(line)
     return "\n".join(lines) + "\n" if renamed else found
 
 
@@ -226,12 +221,49 @@ def test_the_listing_of_an_image(da65, as65, name, cpu):
     assert not fault(da65, as65, 65536 - len(read(name)), name, f"--cpu {cpu} {name}")
 
 
-ANY_FORM = "adc and cmp eor lda ora sbc sta".split()
-IMPLIED = "brk clc cld cli clv dex dey inx iny nop pha php pla plp rti rts sec sed sei tax tay tsx txa txs tya".split()
-BRANCHES = "bcc bcs beq bmi bne bpl bvc bvs".split()
-IMMEDIATE = "adc and cmp cpx cpy eor lda ldx ldy ora sbc".split()
-# Only the newer CPUs have these.
-NEWER = ("bra here1", "stz $10", "lda ($20)", "rmb3 $40", "bbs7 $12,here1", "inc a", "inc", "dec")
+# What stands for a name in braces: one of its texts, where 5* is as likely as five; {#N} is a number below N. The other
+# names are methods of Text.
+GRAMMAR = """\
+statement = .byte {#256}, {#256}, "A;b" | {words} {value},{#65536} | .setcpu "{cpu}" | {segment} | {branch} {here} | \
+{far} {value} | {one} | 2*{implied} | 4*{load} {operand} | 5*{repair}
+words = .word | .addr | .dbyt | .dword | .WORD
+cpu = 6502 | 65SC02 | 65C02 | 65c02
+segment = .code | .segment "one" | .segment "Two"
+branch = bcc | bcs | beq | bmi | bne | bpl | bvc | bvs
+far = jmp | jsr | inc | asl | bit | ldx | sty
+one = asl a | ROL A | lsr a | jmp ($1234) | ldx $20,y | sty $20,x | {newer}
+newer = bra here1 | stz $10 | lda ($20) | rmb3 $40 | bbs7 $12,here1 | inc a | inc | dec
+implied = brk | clc | cld | cli | clv | dex | dey | inx | iny | nop | pha | php | pla | plp | rti | rts | sec | sed | \
+sei | tax | tay | tsx | txa | txs | tya
+load = adc | and | cmp | eor | lda | ora | sbc | sta
+operand = 21*{value} | 7*{value},x | 7*{value},y | 8*({#256},x) | 8*({#256}),Y | 8*#{#256} | 3*a:{value} | \
+a:{value},x | a:{value},y
+repair = 3*{immediate} #{half} | 2*{immediate} #{byte} | 2*.byte {data} | {halves} {expressions} | \
+{numbers} {differences} | 2*.res {size} | {shift}
+immediate = adc | and | cmp | cpx | cpy | eor | lda | ldx | ldy | ora | sbc
+halves = .lobytes | .hibytes | .LoBytes | .HIBYTES
+numbers = .word | .addr | .dbyt | .dword
+shift = asl | lsr | rol | ror | ASL | Ror | {newer}
+size = {fill} | {fill}, {#260}
+fill = 39*{#20} | {#70000}
+data = {datum} | {datum}, {data}
+datum = 2*{half} | "<;" | "A" | "%'" | 3*{byte}
+byte = {expression} | 3*{difference} | 8*{#256}
+expressions = {expression} | {expression}, {expressions}
+expression = {difference} | 2*{value}
+differences = {difference} | {difference}, {differences}
+value = 25*{number} | 5*{number}{plus}{#256} | 6*{name}{minus}{#300} | 5*{name}+{#300} | {name}+{#300}-1 | \
+15*{name} | 3*{name}-1
+number = {#65536} | 3*{#256}
+plus = + | \x20+\x20
+minus = 2*- | \x20-\x20
+is = \x20:=\x20 | \x20=\x20 | =
+"""
+RULES = {}
+for rule in GRAMMAR.splitlines():
+    left, _, right = rule.partition(" = ")
+    texts = [re.fullmatch(r"(?:(\d+)\*)?(.*)", text).groups("1") for text in right.split(" | ")]
+    RULES[left] = [text for times, text in texts for _ in range(int(times))]
 
 
 class Text:
@@ -243,26 +275,31 @@ class Text:
         self.lines = [f'.setcpu "{cpu}"']
         for self.count in range(1, self.any(3, 43) + 1):
             kind = self.any(12)
-            if kind == 0:
-                value = self.number(draw.choice((65536, 256, 256)))
-                statement = f"k{self.count}{draw.choice((' := ', ' = ', '='))}{value} ; a constant"
-                self.defined.append(f"k{self.count}")
-            elif kind == 1:
-                statement = f"p{self.count} := * + {self.number(20)}"
-                self.defined.append(f"p{self.count}")
+            if kind < 2:
+                name = f"{'kp'[kind]}{self.count}"
+                line = name + self.made(("{is}{number} ; a constant", " := * + {#20}")[kind])
             else:
-                statement = self.statement()
-                if self.any(3) == 0 and statement[:2] not in (".c", ".s"):
-                    statement = f"w{self.count}:  {statement}"
-                    self.defined.append(f"w{self.count}")
-            self.lines.append(f"here{self.count}:\n {statement}")
-        self.lines += [f"{name} := {self.number(65536)}" for name in sorted(self.wanted) if self.any(30)]
+                line, name = self.made("{statement}"), f"w{self.count}"
+                name = name if self.any(3) == 0 and line[:2] not in (".c", ".s") else None
+                line = f"{name}:  {line}" if name else line
+            self.defined += [name] if name else []
+            self.lines.append(f"here{self.count}:\n {line}")
+        self.lines += [self.made(name + " := {#65536}") for name in sorted(self.wanted) if self.any(30)]
 
-    def number(self, limit):
+    def made(self, text):
+        """The text with what stands for its names."""
+        return re.sub(r"\{(#?)(\w+)\}", lambda found: self.below(int(found[2])) if found[1]
+                      else getattr(self, found[2])() if hasattr(self, found[2])
+                      else self.made(self.draw.choice(RULES[found[2]])), text)
+
+    def below(self, limit):
         """A number below this one: in decimal, hexadecimal or binary, or as a character."""
         value, kind = self.any(limit), self.any(6)
         character = 32 + value % 95 if 32 + value % 95 < limit else 32
         return {0: str(value), 4: f"%{value:b}", 5: f"'{chr(character)}'"}.get(kind, f"${value:0{kind}X}")
+
+    def here(self):
+        return f"here{self.count}"
 
     def name(self):
         if self.any(5) and self.defined:
@@ -271,79 +308,18 @@ class Text:
         self.wanted.add(name)
         return name
 
-    def value(self):
-        """A number or the sum of two, or a name, perhaps with an offset."""
-        if self.any(2) == 0:
-            number = self.number(self.draw.choice((65536, 256, 256, 256)))
-            return number if self.any(6) else number + self.draw.choice(("+", " + ")) + self.number(256)
-        value, kind = self.name(), self.any(5)
-        if kind == 1:
-            return value + self.draw.choice(("-", " - ")) + self.number(300)
-        return value + (f"+{self.number(300)}" if kind == 0 else "") + ("-1" if self.any(6) == 0 else "")
-
     def difference(self):
         """That of two names: mostly of a line and one before it."""
-        minus = self.draw.choice(("-", "-", " - "))
         if self.any(8) == 0:
-            return self.name() + minus + self.name()
+            return self.made("{name}{minus}{name}")
         first = self.any(1, self.count + 1)
-        return f"here{self.any(first, self.count + 1)}{minus}here{first}"
-
-    def expression(self):
-        return self.value() if self.any(3) else self.difference()
-
-    def byte(self):
-        kind = self.any(12)
-        return self.expression() if kind == 0 else self.difference() if kind < 4 else self.number(256)
+        return self.made(f"here{self.any(first, self.count + 1)}{{minus}}here{first}")
 
     def half(self):
         """That of a value. A number and a name may stand in parentheses; anything else needs them."""
-        word = self.expression()
+        word = self.made("{expression}")
         in_parentheses = "-" in word or "+" in word or self.any(3) == 0
         return self.draw.choice(("<", ">", "< ", "> ")) + (f"({word})" if in_parentheses else word)
-
-    def datum(self):
-        kind = self.any(6)
-        return self.half() if kind < 2 else self.draw.choice(('"<;"', '"A"', '"%\'"')) if kind == 2 else self.byte()
-
-    def some(self, one):
-        return ", ".join(one() for _ in range(self.any(1, 5)))
-
-    def repair(self):
-        """A statement that no listing has."""
-        pick, kind = self.draw.choice, self.any(12)
-        if kind < 5:
-            return f"{pick(IMMEDIATE)} #{self.half() if kind < 3 else self.byte()}"
-        if kind < 7:
-            return f".byte {self.some(self.datum)}"
-        if kind < 9:
-            return (f"{pick(('.lobytes', '.hibytes', '.LoBytes', '.HIBYTES'))} {self.some(self.expression)}"
-                    if kind == 7
-                    else f"{pick(('.word', '.addr', '.dbyt', '.dword'))} {self.some(self.difference)}")
-        if kind < 11:
-            count = self.number(20 if self.any(40) else 70000)
-            return f".res {count}" + (f", {self.number(260)}" if self.any(2) == 0 else "")
-        return pick(("asl", "lsr", "rol", "ror", "ASL", "Ror", pick(NEWER)))
-
-    def operand(self):
-        form = self.draw.choice(("E", "E", "E,x", "E,y", "(E,x)", "(E),Y", "#N"))
-        if form == "#N":
-            return "#" + self.number(256)
-        is_far = self.any(8) == 0 and form[0] != "("
-        return "a:" * is_far + form.replace("E", self.number(256) if form[0] == "(" else self.value())
-
-    def statement(self):
-        pick, kind = self.draw.choice, self.any(18)
-        if kind >= 13:
-            return self.repair()
-        return (lambda: f'.byte {self.number(256)}, {self.number(256)}, "A;b"',
-                lambda: f"{pick(('.word', '.addr', '.dbyt', '.dword', '.WORD'))} {self.value()},{self.number(65536)}",
-                lambda: f'.setcpu "{pick((*CPUS, "65c02"))}"',
-                lambda: pick((".code", '.segment "one"', '.segment "Two"')),
-                lambda: f"{pick(BRANCHES)} here{self.count}",
-                lambda: f"{pick('jmp jsr inc asl bit ldx sty'.split())} {self.value()}",
-                lambda: pick(("asl a", "ROL A", "lsr a", "jmp ($1234)", "ldx $20,y", "sty $20,x", pick(NEWER))),
-                *2 * (lambda: pick(IMPLIED),), *4 * (lambda: f"{pick(ANY_FORM)} {self.operand()}",))[kind]()
 
 
 def excused(message):
@@ -362,8 +338,8 @@ def judged(as65, lines, start):
         they_say = theirs if isinstance(theirs, str) else "other bytes"
         return is_same, None if is_same else f"as65 takes it from {start}, and ca65: {they_say}"
     said = ours.err.decode("latin-1")
-    return False, None if isinstance(theirs,
-                                     str) or excused(said) else f"ca65 takes it from {start}, and not as65: {said}"
+    is_excused = isinstance(theirs, str) or excused(said)
+    return False, None if is_excused else f"ca65 takes it from {start}, and not as65: {said}"
 
 
 def test_texts(as65, text):

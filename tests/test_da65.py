@@ -97,39 +97,17 @@ def test_closed(da65, command, wanted):
     holds("out.s", wanted)
 
 
-@rows("words", [
-    ("a file that is full in the middle of a listing", ""),
-    ("no warning after a listing that was cut", "-i skip_last.info"),
-])
-def test_a_full_file(da65, words):
-    """The file may have 256 KiB, which is in the middle of a write."""
-    listing = HEADER + 65536 * "        nop\n"
-    da65.refuses(f"{words} -o cut.s large.bin", "cannot write the listing", limits={resource.RLIMIT_FSIZE: 262144})
-    holds("cut.s", listing[:262144])
-
-
-def test_a_write_that_fails_once(da65):
-    """A pipe that is full and does not wait: a second try would wait for its reader and go through."""
-    listing, (ours, theirs) = (HEADER + 65536 * "        nop\n").encode(), os.pipe()
-    os.set_blocking(theirs, False)
-    da65.run("large.bin", stdout=theirs).gives(1, None, "da65: cannot write the listing\n")
-    os.close(theirs)
-    with os.fdopen(ours, "rb") as pipe:
-        given = pipe.read()
-    same(listing[:len(given)], given, "what was written is no beginning of the listing")
-
-
-@FULL
-@listed()
-def test_a_full_output(da65, words, err):
-    da65.run(words, stdout=open("/dev/full", "wb")).gives(1, None, err)
+def test_no_warning_after_a_listing_that_was_cut(da65):
+    """The file may have 256 KiB."""
+    da65.refuses("-i skip_last.info -o cut.s large.bin", "cannot write the listing",
+                 limits={resource.RLIMIT_FSIZE: 262144})
+    holds("cut.s", (HEADER + 65536 * "        nop\n")[:262144])
 
 
 @FULL
 @rows("words out written", [
     ("a full standard error", "-i skip.info -o out.s three.bin", "", HEADER + SKIPPED),
     ("a full standard error, the listing on standard output", "-i skip.info three.bin", HEADER + SKIPPED, None),
-    ("a refusal on a full standard error", "empty.bin", "", None),
 ])
 def test_a_full_standard_error(da65, words, out, written):
     da65.run(words, stderr=open("/dev/full", "wb")).gives(1, out, None)

@@ -235,12 +235,3 @@ def test_options_of_refused_in_turn():
     said = [tests.run([name], shim={"REFUSE": at}).out.split(b"\n")[0] for at in range(1, whole.counts.allocations + 1)]
     assert set(said) == {b"no memory for words",
                          b"no memory for options"} and said.count(b"no memory for options") >= 40
-
-
-def test_the_longest_listing_of_html65(html65):
-    """A page is made of a listing of 16 MiB, and of no longer one: 64 MiB, which as65 reads, are refused."""
-    text = " nop\n" + 838860 * "; a line of comment\n"
-    assert 16 * 1024 * 1024 - 20 < len(text) <= 16 * 1024 * 1024
-    html65(f"-o out.html {write('a.s', text)}")
-    assert os.path.getsize("out.html") > 4 * len(text)
-    html65.refuses(write("a.s", 64 * 1024 * 1024 * "\n"), "input is too large")

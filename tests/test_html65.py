@@ -336,6 +336,7 @@ def test_browser(da65, page_of, folder):
 
 def test_large(page_of):
     """As much as is read: 16 MiB of comments, and two million empty lines, each with its own element."""
-    for listing, count in (("; " + "x" * 97 + "\n") * 167_771 + "nop", 167_772), ("\n" * 2_000_000 + "nop", 2_000_001):
+    lines = ("; " + "x" * 97 + "\n") * 167_771 + "nop"
+    for listing, count in (lines.ljust(16 * 1024 * 1024), 167_772), ("\n" * 2_000_000 + "nop", 2_000_001):
         page = page_of(listing, "-S 0")
         assert page.count(b'<span id="l') == count and page.count(b'<span id="l%d">' % count) == 1

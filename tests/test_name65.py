@@ -31,21 +31,13 @@ def test_refuses(name65, da65, info, listing, words, message):
 def from_1000(groups, listing):
     """The words for a listing from $1000 on with these groups, each a line `#: ..`, and those LABEL without `#:`."""
     write("groups.info", re.sub("^(?!LABEL)", "#: ", groups, flags=re.M))
-    return f"-S 0x1000 -i groups.info -o named.s {write('listing.s', listing)}"
+    return f" -S 0x1000 -i groups.info -o named.s {write('listing.s', listing)}"
 
 
 @listed()
-def test_names(name65, as65, groups, listing, wanted):
+def test_names(name65, as65, groups, listing, wanted, words):
     """By these groups the listing becomes this text, and both have the same bytes."""
-    name65(from_1000(groups, listing))
-    holds("named.s", wanted)
-    same(by_as65(as65, 0x1000, "listing.s"), by_as65(as65, 0x1000, "named.s"), "other bytes")
-
-
-@listed()
-def test_labels_first(name65, as65, listing, wanted):
-    """With its labels first the listing becomes this text, and both have the same bytes."""
-    name65(f"-S 0x1000 --labels-first -o named.s {write('listing.s', listing)}")
+    name65(words + from_1000(groups, listing))
     holds("named.s", wanted)
     same(by_as65(as65, 0x1000, "listing.s"), by_as65(as65, 0x1000, "named.s"), "other bytes")
 

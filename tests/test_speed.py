@@ -5,7 +5,7 @@ Runs differ by less than a thousandth. Twice as much takes at most 2.3 times the
 the figures."""
 import random, re, shutil
 import pytest
-from conftest import ROOT, Program, listed, read, rows, same, tables, write
+from conftest import ROOT, Program, listed, read, same, tables, write
 from large import groups, information
 
 pytestmark = [pytest.mark.valgrind, pytest.mark.ca65]
@@ -135,7 +135,7 @@ def test_large_information_files(da65, shows, kind, count, half, limit):
 
 def files(what, kind, count):
     """The ends of names, and texts, of that many groups for the bytes of an image; of jumps beside as many labels; of
-    definitions; of stretches that differ, in lines or in one line."""
+    definitions; of digits; of stretches that differ, in lines or in one line."""
     def jumps():
         return b"".join(b"\x4c" + (32768 + k * 7919 % count).to_bytes(2, "little") for k in range(count))
 
@@ -148,6 +148,7 @@ def files(what, kind, count):
                 f" .byte n{n * 7919 % count}\n" for n in range(count))},
             "references": lambda: {"s": "v := 4\n" + count * " .byte v\n"},
             "texts": lambda: {"s": count * ' .byte "&<>"\n .byte 1,2\n'},
+            "digits": lambda: {"s": f"{kind}{0:0{count}}1\n"},
             "line": lambda: {"s": " .byte 0,1" + (count - 1) * ",0,1" + "\n", "bin": bytes(2 * count)}}[what]()
 
 
@@ -187,14 +188,6 @@ def test_html65(as65, html65, shows, text):
     ours = instructions(html65.path, f"-S 0 -o a.html {write('a.s', listing)}")
     shows(331, ours, instructions(as65.path, "-S 0 -o ours.bin a.s"))
     assert len(read("a.html")) <= 12 * len(listing)
-
-
-@rows("status before", [("a line that is one word", 1, "n"), ("a long number after a half", 0, "x1 := 1\n .byte <x1,")])
-def test_a_long_line(as65, status, before):
-    """With 128 KiB of digits as65 takes at most 2.3 times the instructions that it takes with 64 KiB."""
-    half, whole = (instructions(as65.path, f"-S 0 -o a.bin {write('a.s', f'{before}{0:0{size}}1{chr(10)}')}", status)
-                   for size in (65536, 131072))
-    assert whole <= 2.3 * half
 
 
 @listed()

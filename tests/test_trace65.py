@@ -127,23 +127,6 @@ def test_random_images_come_back(programs, seed, cpu):
     comes_back(programs, "0x2000", write("random.bin", draw.randbytes(draw.randint(1, 3000))), "--cpu " + cpu)
 
 
-def halves_text(seed):
-    """Routines with the address of another one, or of two, in halves."""
-    draw, text = random.Random(seed), ""
-    count = draw.randrange(2, 32)
-    for k in range(count):
-        low = draw.randrange(count)
-        high = low if draw.random() < 0.7 else draw.randrange(count)
-        text += f'L{k}: lda #<L{low}\nldx #>L{high}\njsr L{draw.randrange(count)}\nsta V+{k}\nrts\n.byte "text",0\n'
-    return text + "V := * + 0\n"
-
-
-@pytest.mark.parametrize("seed", range(1, 6), ids=lambda seed: f"random halves {seed}")
-def test_halves_come_back(programs, as65, seed):
-    as65(f"-S 0x2000 -o code.bin {write('code.s', halves_text(seed))}")
-    comes_back(programs, "0x2000", "code.bin")
-
-
 @pytest.mark.parametrize("byte", range(256), ids=lambda byte: f"64 KiB of the byte {byte}")
 def test_64_kib_come_back(trace65, da65, as65, byte):
     comes_back((trace65, da65, as65, None, None), 0, write("whole.bin", 65536 * bytes([byte])), "--cpu 65C02")
