@@ -25,9 +25,14 @@ def test_shows_names(as65, name, shown):
 
 
 @listed()
-def test_gives(as65, text, wanted, words):
-    """The text gives these bytes on the words, by default from $1000 on."""
-    as65([*(words or "-S 0x1000").split(), write("text.s", text)], 0, bytes.fromhex(wanted))
+def test_gives(as65, text, wanted, words, info):
+    """The text gives these bytes on the words, by default from $1000 on, and does not differ from them, unless the
+    information file asks for more."""
+    write("a.info", info or TEXTS["PLACES"])
+    words = [*(words or "-S 0x1000").split(), write("text.s", text)]
+    as65(words, 0, bytes.fromhex(wanted))
+    if "INPUTSIZE" not in info:
+        as65(["--compare", write("wanted.bin", bytes.fromhex(wanted)), *words])
 
 
 @listed()
@@ -66,32 +71,11 @@ def refuses(as65, text, line, cause, words="-S 0x1000"):
 
 
 @listed()
-def test_segments(as65, words, text, wanted, info):
-    write("a.info", info or TEXTS["PLACES"])
-    write("text.s", text)
-    as65(words + " -o out.bin text.s")
-    holds("out.bin", bytes.fromhex(wanted))
-    as65(words + " --compare out.bin text.s")
-
-
-@listed()
 def test_refuses_places(as65, text, line, cause):
     """The text is refused with the segments at their place, also beside an image."""
     write("a.info", TEXTS["PLACES"])
     refuses(as65, text, line, cause, "-i a.info --fill 0xff")
     as65.refuses("-i a.info --fill 0xff --compare three.bin text.s", f"text.s:{line}: {cause}", 2)
-
-
-@listed()
-def test_starts(as65, info, words, wanted):
-    write("a.info", info)
-    as65(words + " here.s", 0, bytes.fromhex(wanted))
-
-
-@listed()
-def test_refuses_information(as65, info, words, message, status):
-    write("a.info", info)
-    as65.refuses("-i a.info " + words, message, status or 1)
 
 
 @pytest.mark.ca65
@@ -109,13 +93,6 @@ def test_compares(as65, words, image, text, out, begin):
     write("image.bin", bytes.fromhex(image))
     said = f"as65: image.bin is taken to begin at ${begin}\n" if begin else ""
     as65([*words.split(), "--compare", "image.bin", write("text.s", text)], 1 if out else 0, out, said)
-
-
-@listed()
-def test_parts(as65, info, words, image, at, said):
-    write("a.info", info)
-    write("image.bin", bytes.fromhex(image))
-    as65(f"-i a.info {words} --compare image.bin three.s", 1, f"${at}: 02 -> 01, line 5: lda     #$01\n", said)
 
 
 @listed()

@@ -33,20 +33,8 @@ def test_lists(da65, words, body, warning, cpu):
 
 
 @listed()
-def test_writes(da65, words, name, wanted, warning):
-    da65(words, 0, "", warning)
-    holds(name, wanted)
-
-
-@listed()
 def test_runs(da65, given, words, status, out, err, after, stdin):
     da65.does(given, words, status, out, err, after, stdin)
-
-
-@listed()
-def test_examples(da65, info, out):
-    da65(["-i", info, "-o", "out.s"])
-    holds("out.s", HEADER + out)
 
 
 @pytest.mark.parametrize("name", sorted(path.name for path in (ROOT / "names").glob("*.inc")))
