@@ -45,13 +45,12 @@ def rows(crate):
     said = [found for path in sorted((ROOT / "crates" / crate / "src").rglob("*.rt")) for found in comments(path)]
     made = [(part.strip(), clauses, [call]) for text, call, clauses in said if not SAME.match(text) for part in text.split("\n\n")]
     for text, call, clauses in said:
-        other = SAME.match(text)
-        for clause in clauses if other else ():
-            same = [row for row in made if row[2][0] == other[1] and clause in row[1]]
-            if not same:
-                raise Refused(f"{crate}: {call} has {clause} as {other[1]}, which says nothing of it")
+        if other := SAME.match(text):
+            same = [row for row in made if row[2][0] == other[1] and set() < set(row[1]) <= set(clauses)]
+            if not clauses or set(clauses) > {clause for row in same for clause in row[1]}:
+                raise Refused(f"{crate}: {call} has other clauses than those that {other[1]} has sentences for")
             for row in same:
-                row[2].extend([call] * (call not in row[2]))
+                row[2].append(call)
     return made
 
 
