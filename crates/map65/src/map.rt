@@ -102,7 +102,7 @@ impl<'a, A: Allocator> Map<'a, A> {
     #[tactic(auto, using(crate::proofs::MarkingLemmas::item_fits))]
     pub fn item_len(&self, address: u16) -> u8
         /// Returns the length of the item that begins at an address by the definition, or 0, for all 65,536
-        /// addresses.
+        /// addresses. The call is given no allocator.
         ensures value { result ≡ item_len self.now address }
         /// An item ends in the image.
         ensures fits { 0 < result → address + result ≤ end_of self.now.image }
@@ -144,7 +144,7 @@ impl<'a, A: Allocator> Map<'a, A> {
     /// that name, and puts the base name in the buffer. If the address has no name, the buffer is empty.
     pub fn name(&self, address: u16, name: &mut NameBuf) -> Option<NameKind>
         /// Returns the name of an address by the definition, for all 65,536 addresses. The buffer is empty if the
-        /// address has none.
+        /// address has none. The call is given no allocator.
         ensures kind { result ≡ kind_at self.now address }
         ensures text { name.new.items ≡ text_at self.now address }
     {
