@@ -10,9 +10,8 @@ pub use Rattle.as65.specs.declared.status.Ended.{Ended}
 pub use Rattle.as65.specs.declared.status.Ended.TheVariants.{Differs, Done}
 pub use Rattle.as65.specs.declared.stretches.Stretch.{Stretch}
 pub use Rattle.files65.specs.declared.failure.Failure.{Failure}
-pub use Rattle.files65.specs.declared.failure.Failure.TheVariants.{File, Info, Memory, Own}
+pub use Rattle.files65.specs.declared.failure.Failure.TheVariants.{File, Memory, Own}
 pub use Rattle.files65.specs.declared.fault.FileFault.TheVariants.{Writing}
-pub use Rattle.info65.specs.declared.fault.InfoFault.{InfoFault}
 pub use Rattle.map65.specs.declared.image.ImageFault.{ImageFault}
 pub use Rattle.stmt65.specs.declared.assembling.assembler.Source.{Source}
 pub use Rattle.stmt65.specs.declared.assembling.fault.AsmFault.{AsmFault}

@@ -14,6 +14,7 @@ const LIMIT: usize = 1_048_576;
 
 /// What these bytes say under the options, without include files. Refuses a file that da65 refuses.
 pub fn information_of<R>(alloc: Global, options: &Options, bytes: &[u8]) -> Result<Info, Failure<R>>
+    /// Reads an information file as da65 does, and refuses it for the same fault; or out of memory.
     ensures value { IfOk result (λ info. information options.now bytes.now ≡ Ok info) }
     ensures refused { IfErr result (IsRefused (information options.now bytes.now)) }
 {
@@ -35,6 +36,8 @@ pub fn information_at<R>(
     start: Option<u16>,
     bytes: &[u8],
 ) -> Result<Info, Failure<R>>
+    /// Reads an information file as da65 does, with the start of the command line as the only option, and refuses
+    /// it for the same fault; or out of memory.
     ensures value { IfOk result (λ info. information (options_at start) bytes.now ≡ Ok info) }
     ensures refused { IfErr result (IsRefused (information (options_at start) bytes.now)) }
 {
