@@ -1,9 +1,96 @@
--- The groups of the lines `#: ..`, token by token.
-use Rattle.std.proofs.Common.{◌≡◌, ℕ, Bool, arith, refl}
-use Rattle.std.specs.Prelude.{Result, Ok, Err}
-use Rattle.info65.specs.Words.{InfoFault, Next, Outcome, Steps, Stream, TokenView, Turns, done, ended, seen, stepped, tag_end, tag_step, tags_from, turn_of, with_token}
+-- The text of the lines `#: ..`, line by line, and its groups, token by token.
+use Rattle.std.proofs.Common.{◌≡◌, ◌∙◌, ◌<◌, ◌+◌, ◌-◌, ℕ, zero, suc, Bool, true, false, List, [], ◌∷◌, ◌++◌, ap, append_assoc, arith, drop, get_or, length, refl, sym, take}
+use Rattle.std.specs.Prelude.{◌==◌, Result, Ok, Err}
+use Rattle.std.proofs.Math.ListN.{replicate}
+use Rattle.std.proofs.lemmas.Bool.{and_parts, eq-eqb, eqb-true, ne_eqb}
+use Rattle.std.proofs.lemmas.List.{drop_more, get_or-take, length-append, length-take-le, take-append-drop, take_rest}
+use Rattle.memchr.specs.Find.{NoneBefore, Nowhere, Passes, is_byte}
+use Rattle.info65.specs.Tags.{at_start, in_groups, in_other}
+use Rattle.info65.specs.Words.{InfoFault, IsLine, Next, Outcome, Spot, Steps, Stream, TokenView, Turns, done, ended, opens_groups, seen, spot_after, stepped, tag_end, tag_step, tagged_byte, tagged_from, tagged_text, tags_from, turn_of, with_token}
 use Rattle.info65.specs.declared.syntax.lexer.Next.TheVariants as next
 use Rattle.info65.specs.declared.tags.place.Place.{Place}
+
+-- a line feed ends a line
+pub lines_apart : (p : Spot) (line rest : List ℕ) → tagged_from p (line ++ 10 ∷ rest) ≡ tagged_from p line ++ 10 ∷ tagged_text rest
+unfolding tagged_from tagged_byte spot_after
+lines_apart p [] rest = refl
+lines_apart p (b ∷ []) rest = refl
+lines_apart p (b ∷ c ∷ line) rest = ap (λ more. tagged_byte p b ∷ more) (lines_apart (spot_after p b (c ∷ line)) (c ∷ line) rest)
+
+rest-all : (bytes : List ℕ) (n : ℕ) → take (length bytes - n) (drop n bytes) ≡ drop n bytes
+rest-all bytes n = rw take_rest refl
+
+-- the text is as long as the bytes
+pub tagged_length : (p : Spot) (bytes : List ℕ) → length (tagged_from p bytes) ≡ length bytes
+unfolding tagged_from
+tagged_length p [] = refl
+tagged_length p (b ∷ bytes) = ap suc (tagged_length (spot_after p b bytes) bytes)
+
+kept-next : (b : ℕ) (bytes : List ℕ) → (b ≡ 10 → ⊥) → tagged_from in_groups (b ∷ bytes) ≡ b ∷ tagged_from in_groups bytes
+unfolding tagged_from tagged_byte spot_after
+kept-next b bytes other = rw (ne_eqb b 10 other) refl
+
+kept : (line : List ℕ) → IsLine line → tagged_from in_groups line ≡ line
+unfolding tagged_from
+kept [] is = refl
+kept (b ∷ line) is = kept-next b line (is 0 (omega arith)) ∙ ap (λ more. b ∷ more) (kept line (λ k lt. is (suc k) (omega (arith, lt))))
+
+blank-next : (b : ℕ) (bytes : List ℕ) → (b ≡ 10 → ⊥) → tagged_from in_other (b ∷ bytes) ≡ 32 ∷ tagged_from in_other bytes
+unfolding tagged_from tagged_byte spot_after
+blank-next b bytes other = rw (ne_eqb b 10 other) refl
+
+blank : (line : List ℕ) → IsLine line → tagged_from in_other line ≡ replicate (length line) 32
+unfolding tagged_from
+blank [] is = refl
+blank (b ∷ line) is = blank-next b line (is 0 (omega arith)) ∙ ap (λ more. 32 ∷ more) (blank line (λ k lt. is (suc k) (omega (arith, lt))))
+
+-- the text of a line of groups, and of any other line
+groups-next : (line : List ℕ) → tagged_text (35 ∷ 58 ∷ line) ≡ 32 ∷ 32 ∷ tagged_from in_groups line
+unfolding tagged_from tagged_byte spot_after
+groups-next line = refl
+
+pub groups_line : (line : List ℕ) → IsLine line → opens_groups line ≡ true → tagged_text line ≡ 32 ∷ 32 ∷ drop 2 line
+groups_line [] is opens = cc
+groups_line (b ∷ []) is opens = let none : false ≡ true = (and_parts (b == 35) false opens).1 in cc
+groups_line (b ∷ c ∷ line) is opens =
+    let sharp : b ≡ 35 = eqb-true b 35 (and_parts (b == 35) (c == 58) opens).0 in
+    let colon : c ≡ 58 = eqb-true c 58 (and_parts (b == 35) (c == 58) opens).1 in
+    let after : tagged_from in_groups line ≡ line = kept line (λ k lt. is (suc (suc k)) (omega (arith, lt))) in
+    ap (λ x. tagged_text (x ∷ c ∷ line)) sharp ∙ ap (λ x. tagged_text (35 ∷ x ∷ line)) colon ∙ groups-next line ∙ ap (λ more. 32 ∷ 32 ∷ more) after
+
+pub other_line : (line : List ℕ) → IsLine line → opens_groups line ≡ false → tagged_text line ≡ replicate (length line) 32
+unfolding tagged_from tagged_byte spot_after
+other_line [] is opens = refl
+other_line (b ∷ line) is opens = rw (ne_eqb b 10 (is 0 (omega arith)), opens) (ap (λ more. 32 ∷ more) (blank line (λ k lt. is (suc k) (omega (arith, lt)))))
+
+pub ruleset line_texts = (groups_line, other_line, append_assoc)
+
+-- bytes without a line feed are a line; others are a line, a line feed and the bytes after it
+pub no_feed : (bytes : List ℕ) → Nowhere (Passes (is_byte 10) bytes) 0 (length bytes) → IsLine bytes
+no_feed bytes none = λ k lt is. none k (omega arith) lt (eq-eqb (get_or bytes k 0) 10 is)
+
+pub at_feed : (bytes : List ℕ) (len : ℕ) → NoneBefore (Passes (is_byte 10) bytes) 0 (length bytes) len → Passes (is_byte 10) bytes len
+    → IsLine (take len bytes) × (bytes ≡ take len bytes ++ 10 ∷ take (length bytes - (len + 1)) (drop (len + 1) bytes))
+at_feed bytes len first here =
+    let so_long : length (take len bytes) ≡ len = length-take-le len bytes (omega (arith, first.high)) in
+    let feed : get_or bytes len 0 ≡ 10 = eqb-true (get_or bytes len 0) 10 here in (
+      λ k lt is. let within : k < len = omega (arith, lt, so_long) in
+          first.before k (omega arith) within (eq-eqb (get_or bytes k 0) 10 (sym (get_or-take len bytes k 0 within) ∙ is)),
+      sym (take-append-drop len bytes) ∙ ap (λ rest. take len bytes ++ rest) (drop_more bytes len 0 first.high
+          ∙ ap (λ b. b ∷ drop (len + 1) bytes) feed ∙ ap (λ rest. 10 ∷ rest) (sym (rest-all bytes (len + 1)))),
+    )
+
+pub ruleset feeds = (no_feed, at_feed)
+
+-- a line more
+pub line_added : (bytes left line after old : List ℕ) → left ≡ line ++ 10 ∷ after → old ++ tagged_text left ≡ tagged_text bytes
+    → ((old ++ tagged_text line) ++ 10 ∷ []) ++ tagged_text after ≡ tagged_text bytes
+line_added bytes left line after old cut so =
+    append_assoc (old ++ tagged_text line) (10 ∷ []) (tagged_text after) ∙ append_assoc old (tagged_text line) (10 ∷ tagged_text after)
+    ∙ ap (λ l. old ++ l) (sym (ap tagged_text cut ∙ lines_apart at_start line after)) ∙ so
+
+pub after_line : (left line after : List ℕ) → left ≡ line ++ 10 ∷ after → length after < length left
+after_line left line after cut = let all : length left ≡ length line + suc (length after) = ap length cut ∙ length-append line (10 ∷ after) in omega (arith, all)
 
 token-turns : (p : Place) (t : TokenView) (new : Stream) (r : Result Outcome InfoFault) → tag_step p t ≡ r → Turns p (with_token t new) (stepped r) new
 unfolding tags_from

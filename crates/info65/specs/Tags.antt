@@ -1,45 +1,59 @@
 -- The lines `#: ..` of an information file: groups for programs beside da65, which takes them as comments.
-use Rattle.std.specs.Prelude.{ℕ, ◌==◌, ◌&&◌, ◌||◌, ◌++◌, nat_le, nat_lt, not, Bool, true, false, List, [], ◌∷◌, codes, is_some, slice_index, if◌then◌else◌, Option, Some, None, Result, Ok, Err}
+use Rattle.std.specs.Prelude.{◌≡◌, ◌<◌, ℕ, ◌==◌, ◌&&◌, ◌||◌, ◌++◌, nat_le, nat_lt, not, Bool, true, false, List, [], ◌∷◌, codes, get_or, is_some, length, slice_index, if◌then◌else◌, Option, Some, None, Result, Ok, Err}
 use Rattle.std.specs.Option.{option_to_list}
 use Rattle.std.specs.Str.{str_eq_ignore_ascii_case}
 use Rattle.info65.specs.Faults.{fault, ◌>>=◌}
 use Rattle.info65.specs.Lexemes.{KindView, closing_brace, number, opening_brace, semicolon, word}
 use Rattle.info65.specs.Tokens.{Stream, TokenView, tokens_of}
-use Rattle.info65.specs.Types.{Expected, GivenTwice, InfoFault, Missing, OutOfRange, Spot, Tag, TagAttribute, TagKind, UnknownAttribute, UnknownGroup}
+use Rattle.info65.specs.Types.{Expected, GivenTwice, InfoFault, Missing, OutOfRange, Tag, TagAttribute, TagKind, UnknownAttribute, UnknownGroup}
 use Rattle.info65.specs.declared.tags.place.Outcome.{Outcome}
 use Rattle.info65.specs.declared.tags.place.Place.{Place}
 use Rattle.info65.specs.declared.tags.place.Place.TheVariants as place
 use Rattle.info65.specs.declared.tags.tag.TagAttribute.TheVariants as attribute
 use Rattle.info65.specs.declared.tags.tag.TagKind.TheVariants as kind
-use Rattle.info65.specs.declared.tags.tagged_text.Spot.TheVariants as spot
 
 -- ---- the text of the groups
 
--- where the byte after this one stands: a line of groups begins with `#:`
+-- where a byte stands: at the start of a line, after the `#` that begins a line of groups, after its `#:`, or elsewhere
+pub data Spot : Type 0 where
+  at_start : Spot
+  at_colon : Spot
+  in_groups : Spot
+  in_other : Spot
+
+-- a line of groups begins with `#:`
+abbrev pub opens_groups : List ℕ → Bool
+opens_groups bs = slice_index bs 0 == 35 && slice_index bs 1 == 58
+
+-- where the byte after this one stands
 unfoldable pub spot_after : Spot → ℕ → List ℕ → Spot
-spot_after p b rest = if b == 10 then spot.Start else in_line p
+spot_after p b rest = if b == 10 then at_start else in_line p
   where
     in_line : Spot → Spot
-    in_line spot.Start = if b == 35 && slice_index rest 0 == 58 then spot.Colon else spot.Passed
-    in_line spot.Colon = spot.Kept
-    in_line spot.Kept = spot.Kept
-    in_line spot.Passed = spot.Passed
+    in_line at_start = if opens_groups (b ∷ rest) then at_colon else in_other
+    in_line at_colon = in_groups
+    in_line in_groups = in_groups
+    in_line in_other = in_other
 
 -- a byte of a line of groups after its `#:`, or a blank for any other one; each line ends where it does
 unfoldable pub tagged_byte : Spot → ℕ → ℕ
 tagged_byte p b = if b == 10 then 10 else in_line p
   where
     in_line : Spot → ℕ
-    in_line spot.Kept = b
+    in_line in_groups = b
     in_line _ = 32
 
 unfoldable pub tagged_from : Spot → List ℕ → List ℕ
 tagged_from p [] = []
 tagged_from p (b ∷ bs) = tagged_byte p b ∷ tagged_from (spot_after p b bs) bs
 
+-- a line has no line feed
+abbrev pub IsLine : List ℕ → Type 0
+IsLine line = (k : ℕ) → k < length line → get_or line k 0 ≡ 10 → ⊥
+
 -- the text of the lines that begin with `#:`, each at its line
 abbrev pub tagged_text : List ℕ → List ℕ
-tagged_text bytes = tagged_from spot.Start bytes
+tagged_text bytes = tagged_from at_start bytes
 
 -- ---- groups and their attributes
 

@@ -27,7 +27,6 @@ pub use Rattle.info65.specs.declared.syntax.token.TokenKind.{TokenKind}
 pub use Rattle.info65.specs.declared.tags.tag.Tag.{Tag}
 pub use Rattle.info65.specs.declared.tags.tag.TagAttribute.{TagAttribute}
 pub use Rattle.info65.specs.declared.tags.tag.TagKind.{TagKind}
-pub use Rattle.info65.specs.declared.tags.tagged_text.Spot.{Spot}
 pub use Rattle.isa65.specs.declared.byte_order.ByteOrder.{ByteOrder}
 pub use Rattle.isa65.specs.declared.byte_order.ByteOrder.TheVariants.{BigEndian, LittleEndian}
 pub use Rattle.isa65.specs.declared.cpu.Cpu.{Cpu}

@@ -1,77 +1,68 @@
 //! The text of the lines `#: ..`.
 
-ghost use Rattle.std.specs.Prelude.{◌≡◌, ◌==◌, IfOk, length, slice_index};
-ghost use Rattle.info65.specs.Words.{spot_after, tagged_byte, tagged_text};
+ghost use Rattle.std.specs.Prelude.{◌≡◌, ◌≤◌, ◌∷◌, ◌++◌, IfOk, IsTrue, MatchOption, length, replicate};
+ghost use Rattle.info65.specs.Words.{Adds, IsLine, opens_groups, tagged_text};
 
+use memchr::memchr;
 use std::alloc::{AllocError, Allocator};
 
-/// Where a byte stands: at the start of a line, after the `#` that begins a line of groups, after its `#:`, or elsewhere.
-#[derive(Clone, Copy)]
-pub(crate) enum Spot {
-    Start,
-    Colon,
-    Kept,
-    Passed,
+/// Whether a line begins with `#:`.
+fn opens_groups(line: &[u8]) -> bool
+    ensures value { result ≡ opens_groups line.now }
+    ensures fits { IsTrue result → 2 ≤ length line.now }
+{
+    line.len() > 1 && line[0] == b'#' && line[1] == b':'
 }
 
-/// Whether the first byte is a colon.
-fn begins_with_colon(rest: &[u8]) -> bool
-    ensures { result ≡ (slice_index rest.now 0 == 58) }
+/// Adds blanks for all of a line.
+fn put_blanks<A: Allocator>(text: &mut Vec<u8, A>, line: &[u8]) -> Result<(), AllocError>
+    ensures { Adds result text.old text.new (replicate (length line.now) 32) }
 {
-    match rest.first() {
-        Some(byte) => *byte == b':',
-        None => false,
-    }
+    let len = text.len() + line.len();
+    text.resize(len, b' ')?;
+    Ok(())
 }
 
-/// Where the byte after this one stands, of which these are left.
-#[tactic(auto, unfolding(crate::specs::Tags::spot_after))]
-fn spot_after(spot: Spot, byte: u8, rest: &[u8]) -> Spot
-    ensures { result ≡ spot_after spot byte rest.now }
+/// Adds the text of a line: what follows its `#:`, and blanks for all else.
+#[tactic(auto, using(crate::proofs::TagLemmas::line_texts))]
+fn put_line<A: Allocator>(text: &mut Vec<u8, A>, line: &[u8]) -> Result<(), AllocError>
+    requires { IsLine line.now }
+    ensures { Adds result text.old text.new (tagged_text line.now) }
 {
-    if byte == b'\n' {
-        return Spot::Start;
+    if !opens_groups(line) {
+        return put_blanks(text, line);
     }
-    match spot {
-        Spot::Start => {
-            if byte == b'#' && begins_with_colon(rest) {
-                Spot::Colon
-            } else {
-                Spot::Passed
-            }
-        }
-        Spot::Colon | Spot::Kept => Spot::Kept,
-        Spot::Passed => Spot::Passed,
-    }
+    let (_, groups) = line.split_at(2);
+    text.extend_from_slice(b"  ")?;
+    text.extend_from_slice(groups)?;
+    Ok(())
 }
 
-/// The byte, or a blank if it belongs to no group.
-#[tactic(auto, unfolding(crate::specs::Tags::tagged_byte))]
-fn tagged_byte(spot: Spot, byte: u8) -> u8
-    ensures { result ≡ tagged_byte spot byte }
+/// The bytes before the first line feed, and those after it.
+#[tactic(auto, using(crate::proofs::TagLemmas::feeds))]
+fn first_line(bytes: &[u8]) -> Option<(&[u8], &[u8])>
+    ensures { MatchOption result (IsLine bytes.now)
+        (λ parts. IsLine parts.0.now × (bytes.now ≡ parts.0.now ++ 10 ∷ parts.1.now)) }
 {
-    if byte == b'\n' {
-        return b'\n';
-    }
-    match spot {
-        Spot::Kept => byte,
-        _ => b' ',
+    match memchr(b'\n', bytes) {
+        Some(len) => Some((&bytes[..len], &bytes[len + 1..])),
+        None => None,
     }
 }
 
 /// The text of the lines that begin with `#:`, each at its line: all other bytes are blanks.
-#[tactic(auto, unfolding(crate::specs::Tags::tagged_from))]
+#[tactic(auto, using(crate::proofs::TagLemmas::line_added, crate::proofs::TagLemmas::after_line, crate::proofs::TagLemmas::tagged_length))]
 pub(crate) fn tagged_text<A: Allocator>(alloc: A, bytes: &[u8]) -> Result<Vec<u8, A>, AllocError>
     ensures text { IfOk result (λ text. text.items ≡ tagged_text bytes.now) }
     ensures len { IfOk result (λ text. length text.items ≡ length bytes.now) }
 {
-    let mut text = Vec::new(alloc);
-    let mut spot = Spot::Start;
+    let mut text = Vec::with_capacity(alloc, bytes.len())?;
     let mut left = bytes;
-    'bytes: while let Some((byte, rest)) = left.split_first() {
-        text.push(tagged_byte(spot, *byte))?;
-        spot = spot_after(spot, *byte, rest);
-        left = rest;
+    'lines: while let Some((line, after)) = first_line(left) {
+        put_line(&mut text, line)?;
+        text.push(b'\n')?;
+        left = after;
     }
+    put_line(&mut text, left)?;
     Ok(text)
 }
