@@ -50,6 +50,8 @@ FORMS = {
     "misplaced": (r"# ((entry|range) .*)", r"\1"),
     # What is only likely
     "likely": (r"# ((the word|what follows) .*)", r"\1"),
+    # Reached instructions that the listing does not show
+    "unshown": (r"# no item of its own: (.*)", r"\1"),
 }
 
 
