@@ -37,8 +37,7 @@ info65 InfoFaultKind::text 1
 info65 narrow 1
 map65 ImageFault::from 2
 map65 TakeFault::from 1
-move65 assembled 2
-move65 assembled_later 2
+move65 failure_for 2
 move65 failure_of 2
 move65 find 1
 name65 Failure::from 2

@@ -20,8 +20,8 @@ pub struct Information {
     pub start: Option<u16>,
     pub cpu: Cpu,
     pub tags: Vec<Tag>,
-    /// What ranges have.
-    pub ranges: Marks,
+    /// The addresses that have a name.
+    pub named: Marks,
 }
 
 /// The groups of the lines `#: ..`, without the halves that count for nothing.
@@ -49,18 +49,15 @@ pub fn information_of(
 ) -> Result<Information, Failure> {
     let info = read_info(alloc, options, bytes)?;
     let settings: &Settings = info.settings();
-    let mut ranges = Marks::none(alloc)?;
-    for range in info.ranges() {
-        ranges.set_span(
-            usize::from(range.first),
-            usize::from(range.last).saturating_add(1),
-        );
+    let mut named = Marks::none(alloc)?;
+    for index in 0..info.given_count() {
+        named.set(info.given(index).address);
     }
     Ok(Information {
         start: settings.start,
         cpu: settings.cpu,
         tags: tags(alloc, bytes)?,
-        ranges,
+        named,
     })
 }
 

@@ -2,53 +2,32 @@
 
 use crate::failure::{Failure, Refused};
 use crate::information::{Information, information_of, options_with, read_back};
-use crate::judge::{Findings, Ground};
-use crate::likely::likely_of;
+use crate::judge::Findings;
 use crate::lines::Lines;
+pub use crate::report::Moved;
 use crate::report::Report;
 use crate::request::Moving;
-use crate::runs::{Both, Starts, run_all};
+use crate::runs::{Both, run_all};
 use crate::scene::Scene;
 use crate::variables::move_variables;
 use crate::world::World;
 use info65::{Tag, TagKind};
-use isa65::Cpu;
 use map65::Marks;
 use run65::{Machine, Registers};
 use std::alloc::{AllocError, Global};
 use stmt65::{
-    AsmFaultKind, Assembly, Language, Layout, Source, Symbols, assemble_lines, assemble_source,
+    AsmFault, AsmFaultKind, Language, Layout, Source, assemble_lines, assemble_source,
     line_addresses,
 };
 
 /// How often what is found is moved, and both images run again.
 const ROUNDS: usize = 8;
 
-/// What is written, and whether something parts.
-#[derive(Drop)]
-pub struct Moved {
-    pub text: Vec<u8>,
-    pub parts: bool,
-}
-
-/// A text as people edit it, from a start on.
-fn repair<'t, 'l, 'n>(layout: &'l Layout<'n>, start: u16, text: &'t [u8]) -> Source<'t, 'l, 'n> {
-    Source {
-        language: Language::Repair,
-        layout,
-        start,
-        text,
-    }
-}
-
 /// The start from which the last byte of a text is at $FFFF.
-fn start_at_end(alloc: Global, layout: &Layout<'_>, text: &[u8]) -> Result<u16, Failure> {
-    let ends = line_addresses(alloc, &repair(layout, 0, text))?;
+fn start_at_end(alloc: Global, source: &Source<'_, '_, '_>) -> Result<u16, AllocError> {
+    let ends = line_addresses(alloc, source)?;
     let len = ends.last().copied().unwrap_or(0);
-    if 0 < len && len <= 65_536 {
-        return Ok((65_536 - len) as u16);
-    }
-    Ok(0)
+    Ok(u16::try_from(65_536u64.saturating_sub(len)).unwrap_or(0))
 }
 
 /// How much later the second image lies: so much, or so much less if it would end behind $FFFF.
@@ -63,40 +42,16 @@ fn distance(start: u16, len: usize, by: u16) -> Result<u16, Failure> {
     Err(Failure::Own(Refused::NoRoom))
 }
 
-/// What the listing of this name means.
-fn assembled<'t, 'b>(
-    alloc: &'b Global,
-    name: &str,
-    source: &Source<'t, '_, '_>,
-) -> Result<Assembly<'t, 'b, Global>, Failure> {
-    match assemble_lines(alloc, source) {
-        Ok(assembly) => Ok(assembly),
-        Err(fault) if fault.kind == AsmFaultKind::Memory => Err(Failure::Memory),
-        Err(fault) => Err(Failure::Own(Refused::Line(String::from_str(*alloc, name)?, fault))),
+/// The failure for a fault of a listing: what is refused, unless memory ran out.
+fn failure_for(fault: AsmFault, refused: Refused) -> Failure {
+    if fault.kind == AsmFaultKind::Memory {
+        Failure::Memory
+    } else {
+        Failure::Own(refused)
     }
 }
 
-/// The bytes of the listing from another start.
-fn assembled_later(alloc: Global, source: &Source<'_, '_, '_>) -> Result<Vec<u8>, Failure> {
-    match assemble_source(alloc, source) {
-        Ok(bytes) => Ok(bytes),
-        Err(fault) if fault.kind == AsmFaultKind::Memory => Err(Failure::Memory),
-        Err(fault) => Err(Failure::Own(Refused::Later(source.start, fault))),
-    }
-}
-
-/// The addresses of groups AFTER.
-fn after(alloc: Global, tags: &[Tag]) -> Result<Marks, AllocError> {
-    let mut marks = Marks::none(alloc)?;
-    for tag in tags {
-        if let (TagKind::After, Some(first), Some(last)) = (tag.kind, tag.first, tag.last) {
-            marks.set_span(usize::from(first), usize::from(last).saturating_add(1));
-        }
-    }
-    Ok(marks)
-}
-
-/// Both images of a text.
+/// Both images of a text, of which one has these bytes.
 fn scene_of(
     alloc: Global,
     source: &Source<'_, '_, '_>,
@@ -106,20 +61,31 @@ fn scene_of(
 ) -> Result<Scene, Failure> {
     let by = distance(source.start, bytes.len(), by)?;
     let start = source.start.wrapping_add(by);
-    let later = assembled_later(alloc, &Source { start, ..*source })?;
+    let later = match assemble_source(alloc, &Source { start, ..*source }) {
+        Ok(later) => later,
+        Err(fault) => return Err(failure_for(fault, Refused::Later(start, fault))),
+    };
     if later.len() != bytes.len() {
         return Err(Failure::Own(Refused::Length(start)));
+    }
+    let mut after = Marks::none(alloc)?;
+    for tag in tags {
+        if let (TagKind::After, Some(first), Some(last)) = (tag.kind, tag.first, tag.last) {
+            after.set_span(usize::from(first), usize::from(last).saturating_add(1));
+        }
     }
     Ok(Scene {
         start: source.start,
         here: Vec::from_slice(alloc, bytes)?,
         later,
         by,
-        after: after(alloc, tags)?,
+        after,
+        after_end: 0,
+        last_named: 0,
     })
 }
 
-/// Where code begins: the addresses that are given and those of groups ENTRY; without any the vectors, or the first address.
+/// Where code begins: the addresses that are given and those of groups ENTRY, and the vectors; without any the first address.
 fn entries_of(
     alloc: Global,
     given: &[u16],
@@ -132,11 +98,11 @@ fn entries_of(
             found.push(address)?;
         }
     }
-    if scene.has(0xFFFA) && scene.has(0xFFFF) {
-        for vector in [0xFFFCu16, 0xFFFA, 0xFFFE] {
-            if let (Some(low), Some(high)) = (scene.byte(vector), scene.byte(vector + 1)) {
-                found.push(u16::from_le_bytes([low, high]))?;
-            }
+    for vector in [0xFFFCu16, 0xFFFA, 0xFFFE] {
+        if scene.has(0xFFFA)
+            && let Some(address) = scene.word(vector, vector + 1)
+        {
+            found.push(address)?;
         }
     }
     if found.is_empty() {
@@ -145,179 +111,60 @@ fn entries_of(
     Ok(found)
 }
 
-/// The addresses of a set, in order.
-fn addresses_of(alloc: Global, marks: &Marks) -> Result<Vec<u16>, AllocError> {
-    let mut found = Vec::new(alloc);
-    for address in 0..=u16::MAX {
-        if marks.get(address) {
-            found.push(address)?;
-        }
-    }
-    Ok(found)
-}
-
-/// The addresses that have a name of their own.
-fn named(alloc: Global, names: &Symbols<'_, &Global>) -> Result<Marks, AllocError> {
-    let mut marks = Marks::none(alloc)?;
-    for definition in names.definitions() {
-        if let Some(address) = definition.address() {
-            marks.set(address);
-        }
-    }
-    Ok(marks)
-}
-
 /// Runs both images until nothing more is found.
 fn find(
+    alloc: Global,
     machine: &mut Both,
-    found: &mut Findings,
-    starts: &Starts,
-    ground: &Ground<'_>,
-) -> Result<(), AllocError> {
+    lines: &Lines,
+    entries: &[u16],
+    tags: &[Tag],
+) -> Result<Findings, AllocError> {
+    let mut found = Findings::new(alloc, tags)?;
     for _ in 0..ROUNDS {
-        machine.bus.seen.clear();
-        run_all(machine, starts)?;
+        machine.bus.clear();
+        run_all(machine, lines, entries);
         if machine.bus.is_out_of_memory {
             return Err(AllocError);
         }
-        let bus = &mut machine.bus;
-        let variables = &mut found.variables;
-        let has_moved = move_variables(&mut bus.scene, ground.lines, &bus.touched, variables)?;
-        if !has_moved && !found.judge(bus, ground)? {
+        let has_moved = move_variables(&mut machine.bus, lines, &mut found.variables)?;
+        if !has_moved && !found.judge(&mut machine.bus, lines, tags)? {
             break;
         }
     }
-    Ok(())
-}
-
-/// Where runs begin.
-fn starts_of(
-    alloc: Global,
-    moving: &Moving,
-    tags: &[Tag],
-    scene: &Scene,
-    lines: &Lines,
-) -> Result<Starts, AllocError> {
-    let entries = entries_of(alloc, &moving.entries, tags, scene)?;
-    let routines = addresses_of(alloc, &lines.routines)?;
-    Ok(Starts {
-        entries,
-        routines,
-        instructions: lines.instructions.copy(alloc)?,
-    })
-}
-
-/// Both machines, with these images.
-fn machine_of(alloc: Global, cpu: Cpu, scene: Scene) -> Result<Both, AllocError> {
-    let start = scene.start;
-    let world = World::new(alloc, scene)?;
-    Ok(Machine::new(cpu, Registers::at(start), world))
-}
-
-/// A listing, where its runs begin, and the addresses that have a name.
-#[derive(Clone, Copy)]
-struct Listing<'a> {
-    lines: &'a Lines,
-    starts: &'a Starts,
-    named: &'a Marks,
-}
-
-/// The text of what is found.
-fn put_report(alloc: Global, report: &Report<'_>) -> Result<Vec<u8>, AllocError> {
-    let mut labels = Marks::none(alloc)?;
-    let mut text = Vec::new(alloc);
-    report.put(&mut text, &mut labels)?;
-    Ok(text)
-}
-
-/// Runs both images, and returns what is found.
-fn study(
-    alloc: Global,
-    machine: &mut Both,
-    info: &Information,
-    listing: Listing<'_>,
-) -> Result<Findings, AllocError> {
-    let mut found = Findings::new(alloc, &info.tags)?;
-    let ground = Ground {
-        lines: listing.lines,
-        ranges: &info.ranges,
-        tags: &info.tags,
-    };
-    find(machine, &mut found, listing.starts, &ground)?;
-    found.sort()?;
-    let bus = &machine.bus;
-    found.likely = likely_of(alloc, &bus.scene, listing.lines, &bus.ran, &found.taken)?;
+    // Those with their bytes as far apart follow each other.
+    found
+        .claims
+        .sort_by_key(|claim| (claim.high.wrapping_sub(claim.low), claim.low))?;
     Ok(found)
 }
 
-/// Runs both images, and returns what is written of them.
-fn written(
-    alloc: Global,
-    machine: &mut Both,
-    info: &Information,
-    listing: Listing<'_>,
-) -> Result<Moved, AllocError> {
-    let found = study(alloc, machine, info, listing)?;
-    let text = put_report(
-        alloc,
-        &Report {
-            scene: &machine.bus.scene,
-            lines: listing.lines,
-            ran: &machine.bus.ran,
-            tags: &info.tags,
-            named: listing.named,
-            found: &found,
-        },
-    )?;
-    Ok(Moved {
-        text,
-        parts: found.parts(),
-    })
-}
-
-/// What is written of these images of a listing.
-fn written_of(
-    alloc: Global,
-    moving: &Moving,
-    info: &Information,
-    read: (&[u8], &Assembly<'_, '_, Global>),
-    scene: Scene,
-) -> Result<Moved, AllocError> {
-    let lines = Lines::of(alloc, &scene, read.0, &read.1.ends)?;
-    let starts = starts_of(alloc, moving, &info.tags, &scene, &lines)?;
-    let named = named(alloc, &read.1.names)?;
-    let mut machine = machine_of(alloc, info.cpu, scene)?;
-    let listing = Listing {
-        lines: &lines,
-        starts: &starts,
-        named: &named,
-    };
-    written(alloc, &mut machine, info, listing)
-}
-
 /// What is written of a listing.
-fn written_from(
+fn written(
     alloc: Global,
     moving: &Moving,
     info: &Information,
     source: &Source<'_, '_, '_>,
 ) -> Result<Moved, Failure> {
-    let assembly = assembled(&alloc, moving.names.listing.as_str(), source)?;
-    let scene = scene_of(alloc, source, &assembly.bytes, moving.by, &info.tags)?;
-    Ok(written_of(alloc, moving, info, (source.text, &assembly), scene)?)
-}
-
-/// The start that is given, or the one from which the last byte is at $FFFF.
-fn start_of(
-    alloc: Global,
-    given: Option<u16>,
-    layout: &Layout<'_>,
-    text: &[u8],
-) -> Result<u16, Failure> {
-    match given {
-        Some(start) => Ok(start),
-        None => start_at_end(alloc, layout, text),
-    }
+    let assembly = match assemble_lines(&alloc, source) {
+        Ok(assembly) => assembly,
+        Err(fault) => {
+            let name = String::from_str(alloc, moving.names.listing.as_str())?;
+            return Err(failure_for(fault, Refused::Line(name, fault)));
+        }
+    };
+    let tags: &[Tag] = &info.tags;
+    let scene = scene_of(alloc, source, &assembly.bytes, moving.by, tags)?;
+    let lines = Lines::of(alloc, &scene, source.text, &assembly, &info.named)?;
+    let entries = entries_of(alloc, &moving.entries, tags, &scene)?;
+    let world = World::new(alloc, scene)?;
+    let mut machine = Machine::new(info.cpu, Registers::at(source.start), world);
+    let found = find(alloc, &mut machine, &lines, &entries, tags)?;
+    let report = Report {
+        world: &machine.bus,
+        lines: &lines,
+        found: &found,
+    };
+    Ok(report.text(alloc)?)
 }
 
 /// What is written of a listing, and of the information file of these bytes.
@@ -330,8 +177,17 @@ pub fn text_of(
     let options = options_with(moving.start, moving.cpu);
     let info = information_of(alloc, &options, bytes)?;
     let layout = Layout::new(alloc, 0)?;
-    let start = start_of(alloc, info.start, &layout, text)?;
-    let moved = written_from(alloc, moving, &info, &repair(&layout, start, text))?;
+    let mut source = Source {
+        language: Language::Repair,
+        layout: &layout,
+        start: 0,
+        text,
+    };
+    source.start = match info.start {
+        Some(start) => start,
+        None => start_at_end(alloc, &source)?,
+    };
+    let moved = written(alloc, moving, &info, &source)?;
     let _ = read_back(alloc, &options, bytes, &moved.text)?;
     Ok(moved)
 }

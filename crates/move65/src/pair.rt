@@ -3,7 +3,7 @@
 use run65::{Operation, Value};
 
 /// The most places that a value is known to come from.
-pub const MOST: usize = 6;
+const MOST: usize = 6;
 
 /// Places of the image, in order, each once. A value of more places than fit comes from `MOST` + 1, of which none is known.
 #[derive(Clone, Copy, Debug, PartialEq, Eq)]
@@ -28,11 +28,6 @@ impl Places {
         places
     }
 
-    /// Whether there are none.
-    pub fn is_empty(&self) -> bool {
-        self.count == 0
-    }
-
     /// The places, if they are known.
     pub fn as_slice(&self) -> &[u16] {
         self.at.get(..usize::from(self.count)).unwrap_or(&[])
@@ -40,11 +35,17 @@ impl Places {
 
     /// Adds a place behind the others.
     fn put(&mut self, place: u16) {
-        if let Some(free) = self.at.get_mut(usize::from(self.count)) {
-            *free = place;
-        }
-        if usize::from(self.count) <= MOST {
-            self.count = self.count.saturating_add(1);
+        match self.at.get_mut(usize::from(self.count)) {
+            Some(free) => {
+                *free = place;
+                self.count = self.count.saturating_add(1);
+            }
+            None => {
+                *self = Places {
+                    count: (MOST + 1) as u8,
+                    at: [0; MOST],
+                }
+            }
         }
     }
 
@@ -53,14 +54,8 @@ impl Places {
         if other.count == 0 || self == other {
             return self;
         }
-        if self.count == 0 {
+        if self.count == 0 || MOST < usize::from(other.count) {
             return other;
-        }
-        if MOST < usize::from(self.count) || MOST < usize::from(other.count) {
-            return Places {
-                count: (MOST + 1) as u8,
-                at: [0; MOST],
-            };
         }
         let mut both = self;
         for &place in other.as_slice() {
@@ -88,25 +83,32 @@ pub struct Pair {
 }
 
 impl Pair {
-    /// A byte that both runs have, from outside of the image.
-    pub fn unknown(byte: u8) -> Pair {
+    /// Bytes that come from these places of the image, or from an address of the code.
+    pub fn known(here: u8, later: u8, places: Places) -> Pair {
         Pair {
-            here: byte,
-            later: byte,
-            is_known: false,
-            is_mixed: true,
-            places: Places::none(),
+            here,
+            later,
+            is_known: true,
+            is_mixed: false,
+            places,
         }
     }
 
-    /// For each run one of two bytes: this one, or the other one.
-    pub fn chosen(self, other: Pair, is_other: (bool, bool)) -> Pair {
+    /// A byte that both runs have, from outside of the image.
+    pub fn unknown(byte: u8) -> Pair {
         Pair {
-            here: if is_other.0 { other.here } else { self.here },
-            later: if is_other.1 { other.later } else { self.later },
+            is_mixed: true,
+            ..Pair::of(byte)
+        }
+    }
+
+    /// These bytes, which come from another one too.
+    pub fn with_origin(self, other: Pair) -> Pair {
+        Pair {
             is_known: self.is_known || other.is_known,
             is_mixed: self.is_mixed || other.is_mixed,
             places: self.places.with(other.places),
+            ..self
         }
     }
 
@@ -119,8 +121,8 @@ impl Pair {
 impl Value for Pair {
     fn of(byte: u8) -> Pair {
         Pair {
-            is_mixed: false,
-            ..Pair::unknown(byte)
+            is_known: false,
+            ..Pair::known(byte, byte, Places::none())
         }
     }
 
@@ -132,17 +134,10 @@ impl Value for Pair {
         let both = Pair {
             here: operation.result(a.here, b.here, c.here),
             later: operation.result(a.later, b.later, c.later),
-            is_known: a.is_known || b.is_known,
-            is_mixed: a.is_mixed || b.is_mixed,
-            places: a.places.with(b.places),
+            ..a.with_origin(b)
         };
         match operation {
-            Operation::SumCarry | Operation::DecimalCarry => Pair {
-                is_known: both.is_known || c.is_known,
-                is_mixed: both.is_mixed || c.is_mixed,
-                places: both.places.with(c.places),
-                ..both
-            },
+            Operation::SumCarry | Operation::DecimalCarry => both.with_origin(c),
             _ => both,
         }
     }

@@ -2,29 +2,35 @@
 
 use crate::judge::{Claim, Findings};
 use crate::lines::Lines;
-use crate::scene::Scene;
 use crate::sightings::{Kind, Sighting};
+use crate::world::World;
 use files65::{put_address, put_decimal};
-use info65::{Tag, TagKind};
 use map65::Marks;
 use run65::Purpose;
-use std::alloc::AllocError;
+use std::alloc::{AllocError, Global};
+
+/// The most addresses of one group.
+const MOST: usize = 256;
+
+/// What is written, and whether something parts.
+#[derive(Drop)]
+pub struct Moved {
+    pub text: Vec<u8>,
+    pub parts: bool,
+}
 
 /// What the text is made of.
 #[derive(Clone, Copy)]
 pub struct Report<'a> {
-    pub scene: &'a Scene,
+    pub world: &'a World,
     pub lines: &'a Lines,
-    pub ran: &'a Marks,
-    pub tags: &'a [Tag],
-    /// The addresses that have a name.
-    pub named: &'a Marks,
     pub found: &'a Findings,
 }
 
 /// What an instruction does at an address.
 fn deed(kind: Kind) -> &'static [u8] {
     match kind {
+        Kind::Branch => b" branches by it at $",
         Kind::Stays(purpose) | Kind::Moves(purpose) => match purpose {
             Purpose::Read => b" reads $",
             Purpose::Write => b" writes $",
@@ -34,65 +40,29 @@ fn deed(kind: Kind) -> &'static [u8] {
             Purpose::Call => b" calls $",
             Purpose::Return => b" returns behind $",
         },
-        Kind::Branch => b" branches by it at $",
     }
 }
 
-/// Appends who uses an address, as a comment at the end of a line.
-fn put_use(out: &mut Vec<u8>, seen: &Sighting) -> Result<(), AllocError> {
-    put_address(out, b" # $", usize::from(seen.at))?;
+/// Appends who uses an address, and ends the line.
+fn put_use(out: &mut Vec<u8>, before: &[u8], seen: &Sighting) -> Result<(), AllocError> {
+    put_address(out, before, usize::from(seen.at))?;
     put_address(out, deed(seen.kind), usize::from(seen.here))?;
     out.extend_from_slice(b"\n")
 }
 
-/// The most addresses of one group.
-const MOST: usize = 256;
-
-/// Whether variables at the address move with the end of the image.
-fn is_after(tags: &[Tag], address: u16) -> bool {
-    tags.iter().any(|tag| match (tag.kind, tag.first, tag.last) {
-        (TagKind::After, Some(first), Some(last)) => first <= address && address <= last,
-        _ => false,
-    })
-}
-
-/// Appends the group of so many addresses of which both bytes stay, from this one on.
-fn put_halves(out: &mut Vec<u8>, claim: &Claim, count: usize) -> Result<(), AllocError> {
-    let (low, high) = claim.places();
-    put_address(out, b"#: HALVES { LOW $", usize::from(low))?;
-    put_address(out, b"; HIGH $", usize::from(high))?;
-    if 1 < count {
-        put_decimal(out, b"; SIZE ", count)?;
-    }
-    out.extend_from_slice(b"; };")?;
-    put_use(out, &claim.seen)
-}
-
 /// How many claims follow each other from the first one on: both bytes of each are this far behind those of the one before.
 fn run_of(claims: &[Claim], step: u16) -> usize {
-    let mut wanted = claims.first().map(|first| first.places());
+    let mut wanted = None;
     let mut count = 0usize;
     for claim in claims {
-        if wanted != Some(claim.places()) || claim.is_table || MOST <= count {
+        let places = (claim.low, claim.high);
+        if MOST <= count || wanted.is_some_and(|wanted| wanted != places) {
             break;
         }
-        let (low, high) = claim.places();
-        wanted = Some((low.wrapping_add(step), high.wrapping_add(step)));
+        wanted = Some((claim.low.wrapping_add(step), claim.high.wrapping_add(step)));
         count = count.saturating_add(1);
     }
-    count.max(1)
-}
-
-/// Appends the range of two neighbours that are an address, or one less if code goes back there.
-fn put_table(out: &mut Vec<u8>, claim: &Claim) -> Result<(), AllocError> {
-    let low = usize::from(claim.places().0);
-    put_address(out, b"RANGE { START $", low)?;
-    put_address(out, b"; END $", low.saturating_add(1))?;
-    out.extend_from_slice(match claim.seen.kind {
-        Kind::Stays(Purpose::Return) => b"; TYPE RtsTable; };",
-        _ => b"; TYPE AddrTable; };",
-    })?;
-    put_use(out, &claim.seen)
+    count
 }
 
 impl Report<'_> {
@@ -100,7 +70,7 @@ impl Report<'_> {
     fn label_of(&self, claim: &Claim) -> u16 {
         let next = claim.address.wrapping_add(1);
         let is_return = claim.seen.kind == Kind::Stays(Purpose::Return);
-        if is_return && self.lines.instructions.get(next) && !self.named.get(claim.address) {
+        if is_return && self.lines.instructions.get(next) && !self.lines.named.get(claim.address) {
             next
         } else {
             claim.address
@@ -108,14 +78,13 @@ impl Report<'_> {
     }
 
     /// Appends the labels that are missing: of variables behind the image that operands have, and of addresses that stay.
-    fn put_labels(&self, out: &mut Vec<u8>, labels: &mut Marks) -> Result<(), AllocError> {
+    fn put_labels(&self, alloc: Global, out: &mut Vec<u8>) -> Result<(), AllocError> {
+        let mut labels = Marks::none(alloc)?;
         for &address in &self.found.variables {
-            self.put_label(out, labels, address)?;
+            self.put_label(out, &mut labels, address)?;
         }
         for claim in &self.found.claims {
-            if !claim.is_table {
-                self.put_label(out, labels, self.label_of(claim))?;
-            }
+            self.put_label(out, &mut labels, self.label_of(claim))?;
         }
         Ok(())
     }
@@ -127,7 +96,7 @@ impl Report<'_> {
         labels: &mut Marks,
         address: u16,
     ) -> Result<(), AllocError> {
-        if self.named.get(address) || labels.get(address) {
+        if self.lines.named.get(address) || labels.get(address) {
             return Ok(());
         }
         labels.set(address);
@@ -137,186 +106,140 @@ impl Report<'_> {
     }
 
     /// Appends the groups of all addresses that stay. Those whose bytes follow each other have one, with a SIZE.
-    fn put_claims(&self, out: &mut Vec<u8>) -> Result<(), AllocError> {
-        let claims: &[Claim] = &self.found.claims;
-        let mut written = 0;
-        for index in 0..claims.len() {
-            if index < written {
-                continue;
+    fn put_halves(&self, out: &mut Vec<u8>) -> Result<(), AllocError> {
+        let mut rest: &[Claim] = &self.found.claims;
+        for _ in 0..rest.len() {
+            let Some(claim) = rest.first() else {
+                break;
+            };
+            let count = run_of(rest, 1);
+            put_address(out, b"#: HALVES { LOW $", usize::from(claim.low))?;
+            put_address(out, b"; HIGH $", usize::from(claim.high))?;
+            if 1 < count {
+                put_decimal(out, b"; SIZE ", count)?;
             }
-            if let Some(claim) = claims.get(index) {
-                let count = run_of(claims.get(index..).unwrap_or(&[]), 1);
-                written = index.saturating_add(count);
-                if claim.is_table {
-                    put_table(out, claim)?;
-                } else {
-                    put_halves(out, claim, count)?;
-                }
-            }
-        }
-        self.put_tables(out)
-    }
-
-    /// Appends a comment for several words that follow each other and would better be a table of addresses.
-    fn put_tables(&self, out: &mut Vec<u8>) -> Result<(), AllocError> {
-        let claims: &[Claim] = &self.found.claims;
-        let mut written = 0;
-        for index in 0..claims.len() {
-            if index < written {
-                continue;
-            }
-            let run = claims.get(index..).unwrap_or(&[]);
-            let count = run_of(run, 2);
-            let (low, high) = run.first().map(|claim| claim.places()).unwrap_or((0, 0));
-            if high == low.wrapping_add(1) && 1 < count {
-                written = index.saturating_add(count);
-                let last = usize::from(low).saturating_add(count.saturating_mul(2));
-                put_address(out, b"# $", usize::from(low))?;
-                put_address(out, b" to $", last.saturating_sub(1))?;
-                out.extend_from_slice(b": AddrTable?\n")?;
-            }
+            put_use(out, b"; }; # $", &claim.seen)?;
+            rest = rest.get(count..).unwrap_or(&[]);
         }
         Ok(())
     }
 
-    /// Appends a group for the addresses behind the image that were named, unless one has them all.
+    /// Appends a comment for several words that follow each other and would better be a table of addresses.
+    fn put_tables(&self, out: &mut Vec<u8>) -> Result<(), AllocError> {
+        let mut rest: &[Claim] = &self.found.claims;
+        for _ in 0..rest.len() {
+            let Some(claim) = rest.first() else {
+                break;
+            };
+            let count = run_of(rest, 2);
+            if 1 < count && claim.high == claim.low.wrapping_add(1) {
+                let last = usize::from(claim.low).saturating_add(count.saturating_mul(2));
+                put_address(out, b"# $", usize::from(claim.low))?;
+                put_address(out, b" to $", last.saturating_sub(1))?;
+                out.extend_from_slice(b": AddrTable?\n")?;
+            }
+            rest = rest.get(count..).unwrap_or(&[]);
+        }
+        Ok(())
+    }
+
+    /// Appends a group for the addresses behind the image that names are written for, unless groups have them.
     fn put_after(&self, out: &mut Vec<u8>) -> Result<(), AllocError> {
-        let mut last = 0;
-        for claim in &self.found.claims {
-            last = self.last_behind(last, claim.address);
-        }
-        for &address in &self.found.variables {
-            last = self.last_behind(last, address);
-        }
+        let last = self.world.scene.last_named;
         if last == 0 {
             return Ok(());
         }
-        put_address(out, b"#: AFTER { START $", self.scene.end())?;
+        put_address(out, b"#: AFTER { START $", self.world.scene.end())?;
         put_address(out, b"; END $", usize::from(last))?;
         out.extend_from_slice(b"; };\n")
-    }
-
-    /// The greater of two addresses, of which the second one counts only if it lies behind the image and no group has it.
-    fn last_behind(&self, last: u16, address: u16) -> u16 {
-        if self.scene.is_behind(address) && !is_after(self.tags, address) {
-            last.max(address)
-        } else {
-            last
-        }
     }
 
     /// Appends the bytes that move and must not.
     fn put_numbers(&self, out: &mut Vec<u8>) -> Result<(), AllocError> {
         for number in &self.found.numbers {
             put_address(out, b"#: NUMBER { ADDR $", usize::from(number.at))?;
-            out.extend_from_slice(b"; };")?;
-            put_use(out, &number.seen)?;
+            put_use(out, b"; }; # $", &number.seen)?;
         }
         Ok(())
     }
 
     /// Appends as comments what stays and no name can be written for.
     fn put_loose(&self, out: &mut Vec<u8>) -> Result<(), AllocError> {
+        let scene = &self.world.scene;
         for claim in &self.found.loose {
             put_address(out, b"# $", usize::from(claim.address))?;
             out.extend_from_slice(b" stays:")?;
-            if let Some(low) = claim.low {
-                put_address(out, b" its low byte at $", usize::from(low))?;
+            if scene.stays(claim.low) {
+                put_address(out, b" its low byte at $", usize::from(claim.low))?;
             }
-            if let Some(high) = claim.high {
-                put_address(out, b" its high byte at $", usize::from(high))?;
+            if scene.stays(claim.high) {
+                put_address(out, b" its high byte at $", usize::from(claim.high))?;
             }
-            out.extend_from_slice(b";")?;
-            put_address(out, b" $", usize::from(claim.seen.at))?;
-            put_address(out, deed(claim.seen.kind), usize::from(claim.seen.here))?;
-            out.extend_from_slice(b"\n")?;
+            put_use(out, b"; $", &claim.seen)?;
         }
         Ok(())
     }
 
-    /// Appends as comments what may be an address, and no run has shown.
-    fn put_likely(&self, out: &mut Vec<u8>) -> Result<(), AllocError> {
-        for pair in &self.found.likely {
-            put_address(out, b"# perhaps $", usize::from(pair.address))?;
-            put_address(out, b": low byte at $", usize::from(pair.low))?;
-            put_address(out, b", high byte at $", usize::from(pair.high))?;
-            out.extend_from_slice(b"\n")?;
-        }
-        Ok(())
-    }
-
-    /// Appends as a comment which instructions have run.
-    fn put_runs(&self, out: &mut Vec<u8>) -> Result<(), AllocError> {
-        let mut all = 0usize;
-        let mut ran = 0usize;
-        for at in 0..=u16::MAX {
-            if self.lines.instructions.get(at) {
-                all = all.saturating_add(1);
-                if self.ran.get(at) {
-                    ran = ran.saturating_add(1);
-                }
-            }
-        }
-        put_decimal(out, b"# ", ran)?;
-        put_decimal(out, b" of ", all)?;
-        out.extend_from_slice(b" instructions have run in both")?;
-        self.put_unrun(out)?;
-        out.extend_from_slice(b"\n")
-    }
-
-    /// Appends the stretches of instructions that have not run.
-    fn put_unrun(&self, out: &mut Vec<u8>) -> Result<(), AllocError> {
+    /// Appends as a comment how many instructions have run, and the stretches of those that have not.
+    fn put_runs(&self, alloc: Global, out: &mut Vec<u8>) -> Result<(), AllocError> {
+        let mut stretches: Vec<(u16, u16)> = Vec::new(alloc);
         let mut first: Option<u16> = None;
         let mut last = 0u16;
-        let mut count = 0usize;
+        let mut all = 0usize;
+        let mut ran = 0usize;
         for at in 0..=u16::MAX {
             if !self.lines.instructions.get(at) {
                 continue;
             }
-            if !self.ran.get(at) {
+            all = all.saturating_add(1);
+            if !self.world.ran.get(at) {
                 first = Some(first.unwrap_or(at));
                 last = at;
                 continue;
             }
-            if let Some(from) = first {
-                put_stretch(out, &mut count, from, last)?;
+            ran = ran.saturating_add(1);
+            if let Some(first) = first {
+                stretches.push((first, last))?;
             }
             first = None;
         }
-        if let Some(from) = first {
-            put_stretch(out, &mut count, from, last)?;
+        if let Some(first) = first {
+            stretches.push((first, last))?;
         }
-        Ok(())
+        put_decimal(out, b"# ", ran)?;
+        put_decimal(out, b" of ", all)?;
+        out.extend_from_slice(b" instructions have run in both")?;
+        put_stretches(out, &stretches)?;
+        out.extend_from_slice(b"\n")
     }
 
-    /// Appends all.
-    pub fn put(&self, out: &mut Vec<u8>, labels: &mut Marks) -> Result<(), AllocError> {
-        self.put_labels(out, labels)?;
-        self.put_claims(out)?;
-        self.put_after(out)?;
-        self.put_numbers(out)?;
-        self.put_loose(out)?;
-        self.put_likely(out)?;
-        self.put_runs(out)
+    /// All of it, and whether something parts.
+    pub fn text(&self, alloc: Global) -> Result<Moved, AllocError> {
+        let mut out = Vec::new(alloc);
+        self.put_labels(alloc, &mut out)?;
+        self.put_halves(&mut out)?;
+        self.put_tables(&mut out)?;
+        self.put_after(&mut out)?;
+        self.put_numbers(&mut out)?;
+        self.put_loose(&mut out)?;
+        let parts = !out.is_empty();
+        self.put_runs(alloc, &mut out)?;
+        Ok(Moved { text: out, parts })
     }
 }
 
-/// Appends a stretch, eight to a line.
-fn put_stretch(
-    out: &mut Vec<u8>,
-    count: &mut usize,
-    first: u16,
-    last: u16,
-) -> Result<(), AllocError> {
-    out.extend_from_slice(match *count {
-        0 => b"; not run:",
-        n if n % 8 == 0 => b",\n#",
-        _ => b",",
-    })?;
-    put_address(out, b" $", usize::from(first))?;
-    if first != last {
-        put_address(out, b" to $", usize::from(last))?;
+/// Appends stretches of instructions that have not run, eight to a line.
+fn put_stretches(out: &mut Vec<u8>, stretches: &[(u16, u16)]) -> Result<(), AllocError> {
+    for (index, &(first, last)) in stretches.iter().enumerate() {
+        out.extend_from_slice(match index {
+            0 => b"; not run:",
+            index if index % 8 == 0 => b",\n#",
+            _ => b",",
+        })?;
+        put_address(out, b" $", usize::from(first))?;
+        if first != last {
+            put_address(out, b" to $", usize::from(last))?;
+        }
     }
-    *count = count.saturating_add(1);
     Ok(())
 }

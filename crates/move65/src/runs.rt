@@ -1,11 +1,9 @@
 //! Runs both images side by side, from the entries and from each routine.
 
+use crate::lines::Lines;
 use crate::pair::Pair;
-use crate::rejoin::rejoins;
 use crate::world::World;
-use map65::Marks;
-use run65::{Machine, Registers, Step, Value};
-use std::alloc::AllocError;
+use run65::{DECIMAL, Machine, Registers, Value};
 
 /// How many instructions run from an entry.
 const LONG: u32 = 400_000;
@@ -23,15 +21,6 @@ const BRK: u8 = 0x00;
 
 const RTI: u8 = 0x40;
 
-/// Where runs begin.
-#[derive(Drop)]
-pub struct Starts {
-    pub entries: Vec<u16>,
-    pub routines: Vec<u16>,
-    /// Where the listing has instructions.
-    pub instructions: Marks,
-}
-
 /// Both machines as one.
 pub type Both = Machine<Pair, World>;
 
@@ -42,52 +31,51 @@ fn forget(machine: &mut Both) {
     machine.registers.y = machine.bus.fresh();
     let status = machine.bus.fresh();
     machine.registers.set_status(status);
-    machine.registers.decimal = Pair::of(0);
+    machine.registers.flags[DECIMAL] = Pair::of(0);
 }
 
 /// Runs from an address, at most so many instructions, and only those that the listing has. What leads out of the image comes back with
 /// unknown registers.
-fn run_from(machine: &mut Both, starts: &Starts, from: u16, steps: u32) -> Result<(), AllocError> {
+fn run_from(machine: &mut Both, lines: &Lines, from: u16, steps: u32) {
     machine.registers = Registers::at(from);
     machine.registers.s = Pair::of(0xFF);
     forget(machine);
     for _ in 0..steps {
         let at = machine.registers.pc;
-        if !machine.bus.scene.has(at) {
-            forget(machine);
-            if machine.come_back() != Step::Done {
-                return Ok(());
+        let goes_on = if machine.bus.scene.has(at) {
+            let ends = matches!(machine.bus.opcode(at), None | Some(BRK) | Some(RTI));
+            if ends || !lines.instructions.get(at) {
+                return;
             }
-            continue;
-        }
-        let ends = matches!(machine.bus.opcode(at), None | Some(BRK) | Some(RTI));
-        if ends || !starts.instructions.get(at) {
-            return Ok(());
-        }
-        machine.bus.begin(at);
-        if !rejoins(machine, at)? && machine.step() != Step::Done {
-            return Ok(());
+            machine.bus.begin(at);
+            machine.step()
+        } else {
+            forget(machine);
+            machine.come_back()
+        };
+        if !goes_on {
+            return;
         }
     }
-    Ok(())
 }
 
 /// Runs from all entries, and then from each routine, each with memory of which only the image is known.
-pub fn run_all(machine: &mut Both, starts: &Starts) -> Result<(), AllocError> {
+pub fn run_all(machine: &mut Both, lines: &Lines, entries: &[u16]) {
     for seed in 0..ENTRY_SEEDS {
         machine.bus.reset(seed);
-        machine.bus.clock = 0;
-        for &entry in &starts.entries {
-            run_from(machine, starts, entry, LONG)?;
+        for &entry in entries {
+            run_from(machine, lines, entry, LONG);
         }
     }
     machine.bus.reset(0);
-    for &routine in &starts.routines {
+    for routine in 0..=u16::MAX {
+        if !lines.routines.get(routine) {
+            continue;
+        }
         for seed in 0..ROUTINE_SEEDS {
             machine.bus.begin_trial(seed.saturating_add(10));
-            run_from(machine, starts, routine, SHORT)?;
+            run_from(machine, lines, routine, SHORT);
             machine.bus.end_trial();
         }
     }
-    Ok(())
 }

@@ -2,6 +2,9 @@
 
 use map65::Marks;
 
+/// How far behind the image variables may lie.
+const BEHIND: usize = 0x1000;
+
 /// The bytes of a listing, where it belongs and somewhere else.
 #[derive(Drop)]
 pub struct Scene {
@@ -13,13 +16,17 @@ pub struct Scene {
     pub later: Vec<u8>,
     /// How much later, modulo 65,536.
     pub by: u16,
-    /// The addresses of variables that move with the end of the image.
+    /// The addresses of variables that move with the end of the image, by groups AFTER.
     pub after: Marks,
+    /// Those before this address do so too.
+    pub after_end: usize,
+    /// The greatest address behind the image that a name is written for, and that no group has.
+    pub last_named: u16,
 }
 
 impl Scene {
     /// The index of an address in the image, if it has that.
-    pub fn index(&self, address: u16) -> Option<usize> {
+    fn index(&self, address: u16) -> Option<usize> {
         let index = usize::from(address).checked_sub(usize::from(self.start))?;
         if index < self.here.len() {
             Some(index)
@@ -38,20 +45,28 @@ impl Scene {
         usize::from(self.start).saturating_add(self.here.len())
     }
 
-    /// Whether the address is one of the image, or of so many behind it.
-    pub fn has_near(&self, address: u16, behind: usize) -> bool {
-        let address = usize::from(address);
-        usize::from(self.start) <= address && address < self.end().saturating_add(behind)
-    }
-
     /// Whether the address lies behind the image.
     pub fn is_behind(&self, address: u16) -> bool {
-        self.start <= address && !self.has(address)
+        self.end() <= usize::from(address)
     }
 
     /// Whether the address is to lie later in the other run: the image has it, or variables do that move with its end.
     pub fn moves(&self, address: u16) -> bool {
-        self.has(address) || self.after.get(address)
+        let is_variable = self.is_behind(address) && usize::from(address) < self.after_end;
+        self.has(address) || is_variable || self.after.get(address)
+    }
+
+    /// Takes down that a name is written for the address.
+    pub fn name_behind(&mut self, address: u16) {
+        if self.is_behind(address) && !self.after.get(address) {
+            self.last_named = self.last_named.max(address);
+        }
+    }
+
+    /// Whether the address may be one of the program: it moves, or lies near behind the image, where variables may be.
+    pub fn may_move(&self, address: u16) -> bool {
+        let is_near = usize::from(address) < self.end().saturating_add(BEHIND);
+        self.moves(address) || self.is_behind(address) && is_near
     }
 
     /// The byte at an address where the image belongs.
@@ -79,8 +94,7 @@ impl Scene {
         address.wrapping_add(self.by).to_le_bytes()
     }
 
-    /// Sets the byte of an address in the image that lies later.
-    pub fn set_later(&mut self, address: u16, value: u8) {
+    fn set_later(&mut self, address: u16, value: u8) {
         if let Some(index) = self.index(address)
             && let Some(byte) = self.later.get_mut(index)
         {
@@ -93,5 +107,12 @@ impl Scene {
         let [low_byte, high_byte] = self.wanted(address);
         self.set_later(low, low_byte);
         self.set_later(high, high_byte);
+    }
+
+    /// Sets the byte of an address in the image that lies later to what it is where the image belongs.
+    pub fn put_back(&mut self, address: u16) {
+        if let Some(byte) = self.byte(address) {
+            self.set_later(address, byte);
+        }
     }
 }

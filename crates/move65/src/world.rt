@@ -2,8 +2,7 @@
 
 use crate::pair::{Pair, Places};
 use crate::scene::Scene;
-use crate::sightings::{Kind, Sighting, Sightings};
-use crate::variables::Touched;
+use crate::sightings::{Kind, Sighting};
 use map65::Marks;
 use run65::{Bus, Purpose, Word};
 use std::alloc::{AllocError, Global};
@@ -11,40 +10,36 @@ use std::alloc::{AllocError, Global};
 /// The page of the stack ends before this address. Nothing is written below it by an address that nobody knows.
 const STACK_END: u16 = 0x0200;
 
+/// The most that is kept of what is seen of one instruction.
+const MOST: usize = 24;
+
 /// Both memories, and what is seen of them.
 #[derive(Drop)]
 pub struct World {
     pub scene: Scene,
     /// What each address holds, if it is known.
     cells: Vec<Option<Pair>>,
-    /// What cells held before they were written, if that is to be undone.
-    undo: Vec<(u16, Option<Pair>)>,
-    /// Whether the run began at a routine that nobody called.
+    /// Whether the run began at a routine that nobody called. What it writes is undone.
     is_trial: bool,
-    /// Whether writes are to be undone.
-    records: bool,
+    /// What cells held before a trial wrote them.
+    undo: Vec<(u16, Option<Pair>)>,
     /// Whether something that nobody knows came into the last address.
     is_guess: bool,
-    /// Whether nothing is to be seen, while the ways of a branch are tried.
-    is_silent: bool,
-    /// Whether branches go as in the run that lies later.
-    pub follows_later: bool,
-    pub alloc: Global,
     /// Whether memory ran out.
     pub is_out_of_memory: bool,
     /// The address of the instruction that runs.
-    pub at: u16,
+    at: u16,
     /// How many instructions have run.
-    pub clock: u32,
+    clock: u32,
     /// What decides the unknown bytes.
-    pub seed: u32,
+    seed: u32,
     /// Where instructions have run.
     pub ran: Marks,
-    /// Where some have run that began at an entry.
-    pub reached: Marks,
-    pub seen: Sightings,
-    /// What is read and written behind the image, by addresses that are known.
-    pub touched: Touched,
+    /// What is seen of each instruction.
+    pub seen: Vec<Vec<Sighting>>,
+    /// What is read behind the image, and what is written there, by addresses that are known.
+    pub read: Marks,
+    pub written: Marks,
     /// Bytes that were used as half of an address that lies where it has to, in both runs.
     pub used: Marks,
 }
@@ -61,66 +56,49 @@ fn unknown_byte(of: u32, seed: u32) -> u8 {
     (mixed / 0x10000 % 256) as u8
 }
 
-/// Half of an address of the code.
-fn half(here: u8, later: u8) -> Pair {
-    Pair {
-        here,
-        later,
-        is_known: true,
-        is_mixed: false,
-        places: Places::none(),
-    }
-}
-
 impl World {
-    /// The memories with these images, in which nothing else is known.
+    /// The memories with these images, of which nothing is known yet.
     pub fn new(alloc: Global, scene: Scene) -> Result<World, AllocError> {
         let mut cells = Vec::new(alloc);
+        let mut seen = Vec::new(alloc);
         for _ in 0..65_536 {
             cells.push(None)?;
+            seen.push(Vec::new(alloc))?;
         }
-        let mut world = World {
+        Ok(World {
             scene,
             cells,
-            undo: Vec::new(alloc),
             is_trial: false,
-            records: false,
+            undo: Vec::new(alloc),
             is_guess: false,
-            is_silent: false,
-            follows_later: false,
-            alloc,
             is_out_of_memory: false,
             at: 0,
             clock: 0,
             seed: 0,
             ran: Marks::none(alloc)?,
-            reached: Marks::none(alloc)?,
-            seen: Sightings::new(alloc)?,
-            touched: Touched {
-                read: Marks::none(alloc)?,
-                written: Marks::none(alloc)?,
-            },
+            seen,
+            read: Marks::none(alloc)?,
+            written: Marks::none(alloc)?,
             used: Marks::none(alloc)?,
-        };
-        world.reset(0);
-        Ok(world)
+        })
+    }
+
+    /// Forgets what is seen.
+    pub fn clear(&mut self) {
+        for seen in self.seen.iter_mut() {
+            seen.clear();
+        }
     }
 
     /// Nothing is known but the images, and these unknown bytes are elsewhere.
     pub fn reset(&mut self, seed: u32) {
         self.seed = seed;
-        self.is_trial = false;
-        self.records = false;
-        self.undo.clear();
+        self.clock = 0;
         for address in 0..=u16::MAX {
             let cell = match (self.scene.byte(address), self.scene.later_byte(address)) {
-                (Some(here), Some(later)) => Some(Pair {
-                    here,
-                    later,
-                    is_known: true,
-                    is_mixed: false,
-                    places: Places::one(address),
-                }),
+                (Some(here), Some(later)) => {
+                    Some(Pair::known(here, later, Places::one(address)))
+                }
                 _ => None,
             };
             self.set(address, cell);
@@ -131,97 +109,16 @@ impl World {
     pub fn begin_trial(&mut self, seed: u32) {
         self.seed = seed;
         self.is_trial = true;
-        self.records = true;
     }
 
     /// Undoes what was written since a trial began.
     pub fn end_trial(&mut self) {
         for _ in 0..self.undo.len() {
-            let Some((address, cell)) = self.undo.pop() else {
-                break;
-            };
-            self.set(address, cell);
+            if let Some((address, cell)) = self.undo.pop() {
+                self.set(address, cell);
+            }
         }
         self.is_trial = false;
-        self.records = false;
-    }
-
-    /// Begins to try the ways of a branch. Returns whether writes were to be undone before.
-    pub fn begin_ways(&mut self) -> bool {
-        let was = self.records;
-        self.records = true;
-        self.is_silent = true;
-        was
-    }
-
-    /// Ends to try the ways of a branch. Writes are to be undone as before.
-    pub fn end_ways(&mut self, records: bool) {
-        self.is_silent = false;
-        self.records = records;
-        if !records {
-            self.undo.clear();
-        }
-    }
-
-    /// How many writes are to be undone.
-    pub fn mark(&self) -> usize {
-        self.undo.len()
-    }
-
-    /// Undoes all writes but so many.
-    pub fn undo_to(&mut self, mark: usize) {
-        for _ in mark..self.undo.len() {
-            let Some((address, cell)) = self.undo.pop() else {
-                return;
-            };
-            self.set(address, cell);
-        }
-    }
-
-    /// What was written since there were so many writes, and what is there now.
-    pub fn written_since(&self, mark: usize) -> Result<Vec<(u16, Option<Pair>)>, AllocError> {
-        let mut found = Vec::new(self.alloc);
-        for &(address, _) in self.undo.get(mark..).unwrap_or(&[]) {
-            found.push((address, self.cell(address)))?;
-        }
-        Ok(found)
-    }
-
-    /// Sets each cell that was written in one of two ways to what both have, each in its run. Those of the first way are given, and the second
-    /// one has written since there were so many writes.
-    pub fn merge(&mut self, mark: usize, first: &[(u16, Option<Pair>)]) {
-        for index in mark..self.undo.len() {
-            let Some(&(address, before)) = self.undo.get(index) else {
-                return;
-            };
-            let is_first_write = !self
-                .undo
-                .get(mark..index)
-                .unwrap_or(&[])
-                .iter()
-                .any(|write| write.0 == address);
-            if is_first_write && !first.iter().any(|write| write.0 == address) {
-                self.join(address, before);
-            }
-        }
-        for index in 0..first.len() {
-            if let Some(&(address, here)) = first.get(index)
-                && !first
-                    .get(..index)
-                    .unwrap_or(&[])
-                    .iter()
-                    .any(|write| write.0 == address)
-            {
-                self.join(address, here);
-            }
-        }
-    }
-
-    /// Sets a cell to what one way has left there, where the image belongs, and what is there now, in the other run.
-    fn join(&mut self, address: u16, here: Option<Pair>) {
-        let later = self.read(Some(address));
-        let here = here.unwrap_or(later);
-        self.write(Some(address), here.chosen(later, (false, true)));
     }
 
     fn set(&mut self, address: u16, cell: Option<Pair>) {
@@ -251,15 +148,9 @@ impl World {
         self.at = address;
         self.clock = self.clock.wrapping_add(1);
         self.ran.set(address);
-        if !self.is_trial {
-            self.reached.set(address);
-        }
     }
 
     fn see(&mut self, kind: Kind, here: u16, low: Pair, high: Pair) {
-        if self.is_silent {
-            return;
-        }
         let sighting = Sighting {
             kind,
             at: self.at,
@@ -269,7 +160,11 @@ impl World {
             is_mixed: low.is_mixed || high.is_mixed,
             is_sure: !self.is_trial,
         };
-        if self.seen.put(sighting).is_err() {
+        if let Some(seen) = self.seen.get_mut(usize::from(self.at))
+            && seen.len() < MOST
+            && !seen.iter().any(|other| other.is_like(&sighting))
+            && seen.push(sighting).is_err()
+        {
             self.is_out_of_memory = true;
         }
     }
@@ -280,42 +175,29 @@ impl Bus<Pair> for World {
         let Word { low, high } = word;
         let base = u16::from_le_bytes([low.here, high.here]);
         let here = base.wrapping_add(u16::from(index.here));
-        let later = u16::from_le_bytes([low.later, high.later]).wrapping_add(u16::from(
-            index.later,
-        ));
-        let is_inside = self.scene.has(here);
+        let later = u16::from_le_bytes([low.later, high.later]);
+        let later = later.wrapping_add(u16::from(index.later));
+        let moved = here.wrapping_add(self.scene.by);
         self.is_guess = low.is_mixed || high.is_mixed || index.is_mixed;
         if !low.is_known && !high.is_known {
-            let is_stack = high.here == 1;
-            let is_low = here < STACK_END && purpose == Purpose::Write && !is_stack;
-            return if is_inside || is_low {
+            let is_low = here < STACK_END && purpose == Purpose::Write && high.here != 1;
+            return if is_low || self.scene.has(here) {
                 None
             } else {
                 Some(here)
             };
         }
-        if self.scene.moves(here) || self.scene.moves(base) {
-            if later != here.wrapping_add(self.scene.by) {
+        if self.scene.moves(here) || base != here && self.scene.moves(base) {
+            if later != moved {
                 self.see(Kind::Stays(purpose), base, low, high);
             } else if let ([low], [high]) = (low.places.as_slice(), high.places.as_slice()) {
                 self.used.set(*low);
                 self.used.set(*high);
             }
-        } else if later != here
-            && !(self.scene.is_behind(here) && later == here.wrapping_add(self.scene.by))
-        {
-            let low = low.chosen(index, (false, false));
-            self.see(Kind::Moves(purpose), here, low, high);
+        } else if later != here && !(self.scene.is_behind(here) && later == moved) {
+            self.see(Kind::Moves(purpose), here, low.with_origin(index), high);
         }
         Some(here)
-    }
-
-    fn zero_page(&mut self, low: Pair, purpose: Purpose) -> Option<u16> {
-        self.is_guess = low.is_mixed;
-        if !low.is_same() {
-            self.see(Kind::Moves(purpose), u16::from(low.here), low, low);
-        }
-        Some(u16::from(low.here))
     }
 
     fn read(&mut self, place: Option<u16>) -> Pair {
@@ -325,7 +207,7 @@ impl Bus<Pair> for World {
         let is_guess = self.is_guess;
         self.is_guess = false;
         if !is_guess && self.scene.is_behind(address) {
-            self.touched.read.set(address);
+            self.read.set(address);
         }
         match self.cell(address) {
             Some(pair) => Pair {
@@ -347,11 +229,11 @@ impl Bus<Pair> for World {
             return;
         };
         if !is_guess && self.scene.is_behind(address) {
-            self.touched.written.set(address);
+            self.written.set(address);
         }
-        if self.records {
-            let before = self.cell(address);
-            if self.undo.push((address, before)).is_err() {
+        if self.is_trial {
+            let before = (address, self.cell(address));
+            if self.undo.push(before).is_err() {
                 self.is_out_of_memory = true;
             }
         }
@@ -359,12 +241,11 @@ impl Bus<Pair> for World {
     }
 
     fn word_of(&mut self, address: u16) -> Word<Pair> {
-        let later = address.wrapping_add(self.scene.by);
         let [low, high] = address.to_le_bytes();
-        let [later_low, later_high] = later.to_le_bytes();
+        let [later_low, later_high] = self.scene.wanted(address);
         Word {
-            low: half(low, later_low),
-            high: half(high, later_high),
+            low: Pair::known(low, later_low, Places::none()),
+            high: Pair::known(high, later_high, Places::none()),
         }
     }
 
@@ -372,11 +253,6 @@ impl Bus<Pair> for World {
         if !flag.is_same() {
             self.see(Kind::Branch, self.at, flag, flag);
         }
-        let value = if self.follows_later {
-            flag.later
-        } else {
-            flag.here
-        };
-        (value != 0) == wanted
+        (flag.here != 0) == wanted
     }
 }

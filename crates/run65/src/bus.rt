@@ -31,9 +31,6 @@ pub trait Bus<V> {
     /// The place at a word, and so many bytes after it as the index says.
     fn place(&mut self, word: Word<V>, index: V, purpose: Purpose) -> Option<u16>;
 
-    /// The place in the zero page that has this byte as its address.
-    fn zero_page(&mut self, low: V, purpose: Purpose) -> Option<u16>;
-
     /// What is read at a place.
     fn read(&mut self, place: Option<u16>) -> V;
 

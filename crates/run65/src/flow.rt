@@ -1,11 +1,11 @@
 //! Where code goes on.
 
 use crate::bus::{Bus, Purpose, Word};
-use crate::machine::{Machine, Step};
+use crate::machine::Machine;
 use crate::operation::Operation;
-use crate::sums::{less, more};
+use crate::registers::{DECIMAL, INTERRUPT};
 use crate::value::Value;
-use isa65::{Mnemonic, Mode};
+use isa65::Mode;
 
 /// Where a break leads is read here.
 const BREAK: u16 = 0xFFFE;
@@ -33,12 +33,12 @@ impl<V: Value, B: Bus<V>> Machine<V, B> {
     pub(crate) fn push(&mut self, value: V) {
         let place = self.top(Purpose::Write);
         self.bus.write(place, value);
-        self.registers.s = less(self.registers.s);
+        self.registers.s = self.registers.s.plus(V::of(0xFF));
     }
 
     /// Pulls a value.
     pub(crate) fn pull(&mut self) -> V {
-        self.registers.s = more(self.registers.s);
+        self.registers.s = self.registers.s.plus(V::of(1));
         let place = self.top(Purpose::Read);
         self.bus.read(place)
     }
@@ -57,15 +57,11 @@ impl<V: Value, B: Bus<V>> Machine<V, B> {
         Word { low, high }
     }
 
-    /// Code goes on at so many bytes after a word.
-    fn go(&mut self, word: Word<V>, index: u8, purpose: Purpose) -> Step {
-        match self.bus.place(word, V::of(index), purpose) {
-            Some(address) => {
-                self.registers.pc = address;
-                Step::Done
-            }
-            None => Step::Lost,
-        }
+    /// Code goes on at so many bytes after a word. Returns whether it is known where.
+    fn go(&mut self, word: Word<V>, index: u8, purpose: Purpose) -> bool {
+        let place = self.bus.place(word, V::of(index), purpose);
+        self.registers.pc = place.unwrap_or(self.registers.pc);
+        place.is_some()
     }
 
     /// Branches to the distance at so many bytes after the opcode, if the flag is as wanted.
@@ -76,28 +72,18 @@ impl<V: Value, B: Bus<V>> Machine<V, B> {
         }
     }
 
-    /// Runs a branch.
-    pub(crate) fn branch(&mut self, mnemonic: Mnemonic) {
-        let (flag, wanted) = match mnemonic {
-            Mnemonic::Bpl => (self.registers.negative, false),
-            Mnemonic::Bmi => (self.registers.negative, true),
-            Mnemonic::Bvc => (self.registers.overflow, false),
-            Mnemonic::Bvs => (self.registers.overflow, true),
-            Mnemonic::Bcc => (self.registers.carry, false),
-            Mnemonic::Bcs => (self.registers.carry, true),
-            Mnemonic::Bne => (self.registers.zero, false),
-            Mnemonic::Beq => (self.registers.zero, true),
-            _ => (V::of(0), false),
-        };
+    /// Runs a branch. The one that asks for no flag is always taken.
+    pub(crate) fn branch(&mut self, opcode: u8) {
+        let asked = self.registers.asked_by(opcode);
+        let (flag, wanted) = asked.unwrap_or((V::of(0), false));
         self.branch_if(flag, wanted, 1);
     }
 
     /// Runs a branch by a bit of the zero page. Bits 4 to 6 of its opcode are the bit's number, and bit 7 is whether it has to be set.
     pub(crate) fn branch_by_bit(&mut self, opcode: u8) {
         let base = self.byte_at(1);
-        let place = self.bus.zero_page(base, Purpose::Read);
-        let value = self.bus.read(place);
-        let flag = V::apply(Operation::Bit(opcode / 16 % 8), value, value, value);
+        let place = self.in_zero_page(base, Purpose::Read);
+        let flag = self.bus.read(place).alone(Operation::Bit(opcode / 16 % 8));
         self.branch_if(flag, 0x7F < opcode, 2);
     }
 
@@ -105,15 +91,11 @@ impl<V: Value, B: Bus<V>> Machine<V, B> {
     fn word_at(&mut self, word: Word<V>, index: V) -> Word<V> {
         let first = self.bus.place(word, index, Purpose::Pointer);
         let second = if self.is_cmos {
-            match first {
-                Some(place) => Some(place.wrapping_add(1)),
-                None => None,
-            }
+            first.map(|place| place.wrapping_add(1))
         } else {
-            let low = more(word.low);
-            let high = word.high;
+            let low = word.low.plus(V::of(1));
             self.bus
-                .place(Word { low, high }, V::of(0), Purpose::Pointer)
+                .place(Word { low, ..word }, V::of(0), Purpose::Pointer)
         };
         let low = self.bus.read(first);
         let high = self.bus.read(second);
@@ -121,7 +103,7 @@ impl<V: Value, B: Bus<V>> Machine<V, B> {
     }
 
     /// Runs a jump.
-    pub(crate) fn jump(&mut self, mode: Mode) -> Step {
+    pub(crate) fn jump(&mut self, mode: Mode) -> bool {
         let word = self.word();
         let to = match mode {
             Mode::Ind => self.word_at(word, V::of(0)),
@@ -132,20 +114,20 @@ impl<V: Value, B: Bus<V>> Machine<V, B> {
     }
 
     /// Runs a call.
-    pub(crate) fn call(&mut self) -> Step {
+    pub(crate) fn call(&mut self) -> bool {
         let word = self.word();
         self.push_address(self.start.wrapping_add(2));
         self.go(word, 0, Purpose::Call)
     }
 
     /// Returns as `rts` does.
-    pub fn come_back(&mut self) -> Step {
+    pub fn come_back(&mut self) -> bool {
         let word = self.pull_word();
         self.go(word, 1, Purpose::Return)
     }
 
     /// Runs the return from an interrupt.
-    pub(crate) fn end_interrupt(&mut self) -> Step {
+    pub(crate) fn end_interrupt(&mut self) -> bool {
         let status = self.pull();
         self.registers.set_status(status);
         let word = self.pull_word();
@@ -153,13 +135,13 @@ impl<V: Value, B: Bus<V>> Machine<V, B> {
     }
 
     /// Runs a break.
-    pub(crate) fn interrupt(&mut self) -> Step {
+    pub(crate) fn interrupt(&mut self) -> bool {
         self.push_address(self.start.wrapping_add(2));
         let status = self.registers.status();
         self.push(status);
-        self.registers.interrupt = V::of(1);
+        self.registers.flags[INTERRUPT] = V::of(1);
         if self.is_cmos {
-            self.registers.decimal = V::of(0);
+            self.registers.flags[DECIMAL] = V::of(0);
         }
         let low = self.bus.read(Some(BREAK));
         let high = self.bus.read(Some(BREAK + 1));

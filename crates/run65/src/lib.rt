@@ -19,7 +19,7 @@ mod value;
 mod work;
 
 pub use bus::{Bus, Purpose, Word};
-pub use machine::{Machine, Step};
+pub use machine::Machine;
 pub use operation::Operation;
-pub use registers::Registers;
+pub use registers::{DECIMAL, Registers};
 pub use value::Value;

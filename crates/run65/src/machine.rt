@@ -3,18 +3,7 @@
 use crate::bus::Bus;
 use crate::registers::Registers;
 use crate::value::Value;
-use isa65::{Cpu, DecodeTable, Mnemonic, Mode, Op, OpcodeSet};
-
-/// What has become of an instruction.
-#[derive(Clone, Copy, Debug, PartialEq, Eq)]
-pub enum Step {
-    /// It has run.
-    Done,
-    /// Its opcode is undefined. Nothing has changed.
-    Undefined,
-    /// It has run, and nobody knows where code goes on.
-    Lost,
-}
+use isa65::{Cpu, DecodeTable, Mnemonic, Mode, OpcodeSet};
 
 /// A CPU with its registers and its bus.
 #[derive(Drop)]
@@ -40,35 +29,29 @@ impl<V: Value, B: Bus<V>> Machine<V, B> {
         }
     }
 
-    /// Runs the instruction at the program counter.
-    pub fn step(&mut self) -> Step {
+    /// Runs the instruction at the program counter. Returns whether it has run, and it is known where code goes on; nothing has changed if its
+    /// opcode is undefined.
+    pub fn step(&mut self) -> bool {
         self.start = self.registers.pc;
         let opcode = self.byte_at(0).byte();
         let Some(op) = self.table.decode(opcode) else {
-            return Step::Undefined;
+            return false;
         };
         self.registers.pc = self.start.wrapping_add(u16::from(op.mode.len()));
+        match op.mnemonic {
+            Mnemonic::Jmp => return self.jump(op.mode),
+            Mnemonic::Jsr => return self.call(),
+            Mnemonic::Rts => return self.come_back(),
+            Mnemonic::Rti => return self.end_interrupt(),
+            Mnemonic::Brk => return self.interrupt(),
+            _ => {}
+        }
         match op.mode {
-            Mode::Rel => self.branch(op.mnemonic),
+            Mode::Rel => self.branch(opcode),
             Mode::Zprel => self.branch_by_bit(opcode),
             Mode::Zp if opcode % 16 == 7 => self.set_bit(opcode),
-            _ => return self.run(op),
+            _ => self.work(op),
         }
-        Step::Done
-    }
-
-    /// Runs an instruction that is no branch and has no number of a bit.
-    fn run(&mut self, op: Op) -> Step {
-        match op.mnemonic {
-            Mnemonic::Jmp => self.jump(op.mode),
-            Mnemonic::Jsr => self.call(),
-            Mnemonic::Rts => self.come_back(),
-            Mnemonic::Rti => self.end_interrupt(),
-            Mnemonic::Brk => self.interrupt(),
-            _ => {
-                self.work(op);
-                Step::Done
-            }
-        }
+        true
     }
 }

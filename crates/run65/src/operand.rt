@@ -2,36 +2,17 @@
 
 use crate::bus::{Bus, Purpose, Word};
 use crate::machine::Machine;
-use crate::operation::Operation;
-use crate::sums::more;
+use crate::registers::Registers;
 use crate::value::Value;
-use isa65::{Mnemonic, Mode};
+use isa65::Mode;
 
 /// The operand of an instruction.
 #[derive(Clone, Copy)]
-pub enum Operand<V> {
+pub enum Operand {
     /// There is none, or it is the accumulator.
     Accumulator,
-    /// A value of the instruction itself.
-    Immediate(V),
-    /// What is at a place.
+    /// What is at a place. An immediate one stands behind the opcode.
     Place(Option<u16>),
-}
-
-/// What an instruction does with what is at the address of its operand.
-pub fn purpose_of(mnemonic: Mnemonic) -> Purpose {
-    match mnemonic {
-        Mnemonic::Sta | Mnemonic::Stx | Mnemonic::Sty | Mnemonic::Stz => Purpose::Write,
-        Mnemonic::Inc
-        | Mnemonic::Dec
-        | Mnemonic::Asl
-        | Mnemonic::Lsr
-        | Mnemonic::Rol
-        | Mnemonic::Ror
-        | Mnemonic::Tsb
-        | Mnemonic::Trb => Purpose::Change,
-        _ => Purpose::Read,
-    }
 }
 
 impl<V: Value, B: Bus<V>> Machine<V, B> {
@@ -47,22 +28,10 @@ impl<V: Value, B: Bus<V>> Machine<V, B> {
         Word { low, high }
     }
 
-    /// The place in the zero page at the byte after the opcode and an index.
-    fn in_zero_page(&mut self, index: V, purpose: Purpose) -> Option<u16> {
-        let low = self.byte_at(1);
-        let sum = V::apply(Operation::Sum, low, index, V::of(0));
-        self.bus.zero_page(sum, purpose)
-    }
-
-    /// The word in the zero page at the byte after the opcode and an index.
-    fn pointer(&mut self, index: V) -> Word<V> {
-        let base = self.byte_at(1);
-        let at = V::apply(Operation::Sum, base, index, V::of(0));
-        let low_place = self.bus.zero_page(at, Purpose::Read);
-        let high_place = self.bus.zero_page(more(at), Purpose::Read);
-        let low = self.bus.read(low_place);
-        let high = self.bus.read(high_place);
-        Word { low, high }
+    /// The place in the zero page that has this byte as its address.
+    pub(crate) fn in_zero_page(&mut self, low: V, purpose: Purpose) -> Option<u16> {
+        let zero = V::of(0);
+        self.bus.place(Word { low, high: zero }, zero, purpose)
     }
 
     /// The place at the word after the opcode and an index.
@@ -71,47 +40,48 @@ impl<V: Value, B: Bus<V>> Machine<V, B> {
         self.bus.place(word, index, purpose)
     }
 
-    /// The place at the pointer in the zero page, indexed before or after it is read.
-    fn at_pointer(&mut self, before: V, after: V, purpose: Purpose) -> Option<u16> {
-        let word = self.pointer(before);
-        self.bus.place(word, after, purpose)
+    /// The place at a pointer in the zero page and an index.
+    fn at_pointer(&mut self, at: V, index: V, purpose: Purpose) -> Option<u16> {
+        let low_place = self.in_zero_page(at, Purpose::Read);
+        let low = self.bus.read(low_place);
+        let high_place = self.in_zero_page(at.plus(V::of(1)), Purpose::Read);
+        let high = self.bus.read(high_place);
+        self.bus.place(Word { low, high }, index, purpose)
     }
 
     /// The operand in this mode. Only jumps and branches have other modes than these.
-    pub(crate) fn operand(&mut self, mode: Mode, purpose: Purpose) -> Operand<V> {
+    pub(crate) fn operand(&mut self, mode: Mode, purpose: Purpose) -> Operand {
         let zero = V::of(0);
-        let x = self.registers.x;
-        let y = self.registers.y;
+        let Registers { x, y, .. } = self.registers;
+        let base = self.byte_at(1);
         let place = match mode {
-            Mode::Imm => return Operand::Immediate(self.byte_at(1)),
-            Mode::Zp => self.in_zero_page(zero, purpose),
-            Mode::Zpx => self.in_zero_page(x, purpose),
-            Mode::Zpy => self.in_zero_page(y, purpose),
+            Mode::Imm => Some(self.start.wrapping_add(1)),
+            Mode::Zp => self.in_zero_page(base, purpose),
+            Mode::Zpx => self.in_zero_page(base.plus(x), purpose),
+            Mode::Zpy => self.in_zero_page(base.plus(y), purpose),
             Mode::Abs => self.at_word(zero, purpose),
             Mode::Absx => self.at_word(x, purpose),
             Mode::Absy => self.at_word(y, purpose),
-            Mode::Indx => self.at_pointer(x, zero, purpose),
-            Mode::Indy => self.at_pointer(zero, y, purpose),
-            Mode::Zpind => self.at_pointer(zero, zero, purpose),
+            Mode::Indx => self.at_pointer(base.plus(x), zero, purpose),
+            Mode::Indy => self.at_pointer(base, y, purpose),
+            Mode::Zpind => self.at_pointer(base, zero, purpose),
             _ => return Operand::Accumulator,
         };
         Operand::Place(place)
     }
 
     /// The value of an operand.
-    pub(crate) fn load(&mut self, operand: Operand<V>) -> V {
+    pub(crate) fn load(&mut self, operand: Operand) -> V {
         match operand {
             Operand::Accumulator => self.registers.a,
-            Operand::Immediate(value) => value,
             Operand::Place(place) => self.bus.read(place),
         }
     }
 
     /// Writes a value to where the operand is.
-    pub(crate) fn store(&mut self, operand: Operand<V>, value: V) {
+    pub(crate) fn store(&mut self, operand: Operand, value: V) {
         match operand {
             Operand::Accumulator => self.registers.a = value,
-            Operand::Immediate(_) => {}
             Operand::Place(place) => self.bus.write(place, value),
         }
     }

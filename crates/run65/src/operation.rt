@@ -35,10 +35,8 @@ pub enum Operation {
     DecimalNegative,
     /// Whether that sum is no signed byte.
     DecimalOverflow,
-    /// a - b - 1 + c in decimal digits, as the 6502 has it.
-    DecimalDifference,
-    /// a - b - 1 + c in decimal digits, as the later CPUs have it.
-    DecimalDifferenceCmos,
+    /// a - b - 1 + c in decimal digits, as the later CPUs have it or as the 6502 has it.
+    DecimalDifference { is_cmos: bool },
 }
 
 /// Whether the sum of two bytes is no signed byte.
@@ -56,15 +54,6 @@ fn plain_sum(a: u8, b: u8, c: u8) -> u16 {
     u16::from(a) + u16::from(b) + u16::from(c)
 }
 
-/// The bit of this number.
-fn bit_at(a: u8, number: u8) -> u8 {
-    let mut rest = a;
-    for _ in 0..number % 8 {
-        rest /= 2;
-    }
-    rest % 2
-}
-
 impl Operation {
     /// What the operation makes of three bytes.
     pub fn result(self, a: u8, b: u8, c: u8) -> u8 {
@@ -77,8 +66,8 @@ impl Operation {
             Operation::SumCarry => bit_of(0xFF < plain_sum(a, b, c)),
             Operation::SumOverflow => bit_of(overflows(a, b, low(plain_sum(a, b, c)))),
             Operation::ShiftLeft => low(u16::from(a) * 2) | c,
-            Operation::ShiftRight => a / 2 | if c == 0 { 0 } else { 0x80 },
-            Operation::Bit(number) => bit_at(a, number),
+            Operation::ShiftRight => a / 2 | low(u16::from(c) * 0x80),
+            Operation::Bit(number) => (a >> (number % 8)) & 1,
             Operation::IsZero => bit_of(a == 0),
             _ => self.decimal_result(a, b, c),
         }
@@ -89,11 +78,10 @@ impl Operation {
         let Digits { result, carry, raw } = sum(a, b, c);
         match self {
             Operation::DecimalSum => result,
-            Operation::DecimalCarry => bit_of(carry),
             Operation::DecimalNegative => raw / 128,
             Operation::DecimalOverflow => bit_of(overflows(a, b, raw)),
-            Operation::DecimalDifference => difference(a, b, c, false),
-            _ => difference(a, b, c, true),
+            Operation::DecimalDifference { is_cmos } => difference(a, b, c, is_cmos),
+            _ => bit_of(carry),
         }
     }
 }

@@ -3,7 +3,28 @@
 use crate::operation::Operation;
 use crate::value::Value;
 
-/// The registers of a CPU. The bits of the status register are values of their own, each 0 or 1.
+/// The flags, by their bits in the status register: the last result was negative.
+pub const NEGATIVE: usize = 7;
+
+/// The last sum had an overflow.
+pub const OVERFLOW: usize = 6;
+
+/// Sums are those of decimal digits.
+pub const DECIMAL: usize = 3;
+
+/// Interrupts are off.
+pub const INTERRUPT: usize = 2;
+
+/// The last result was zero.
+pub const ZERO: usize = 1;
+
+/// The last sum had a carry.
+pub const CARRY: usize = 0;
+
+/// The bits of the status register that are no flags. They are set.
+const UNUSED: u8 = 0x30;
+
+/// The registers of a CPU.
 #[derive(Clone, Copy, Debug)]
 pub struct Registers<V> {
     /// The accumulator.
@@ -16,28 +37,8 @@ pub struct Registers<V> {
     pub s: V,
     /// The program counter.
     pub pc: u16,
-    /// The last result was negative.
-    pub negative: V,
-    /// The last sum had an overflow.
-    pub overflow: V,
-    /// Sums are those of decimal digits.
-    pub decimal: V,
-    /// Interrupts are off.
-    pub interrupt: V,
-    /// The last result was zero.
-    pub zero: V,
-    /// The last sum had a carry.
-    pub carry: V,
-}
-
-/// The value with its bits moved up by one, and this bit below them.
-fn with_bit<V: Value>(value: V, bit: V) -> V {
-    V::apply(Operation::ShiftLeft, value, value, bit)
-}
-
-/// The bit of this number.
-fn bit<V: Value>(value: V, number: u8) -> V {
-    V::apply(Operation::Bit(number), value, value, value)
+    /// The bits of the status register, each 0 or 1.
+    pub flags: [V; 8],
 }
 
 impl<V: Value> Registers<V> {
@@ -50,36 +51,43 @@ impl<V: Value> Registers<V> {
             y: zero,
             s: zero,
             pc,
-            negative: zero,
-            overflow: zero,
-            decimal: zero,
-            interrupt: zero,
-            zero,
-            carry: zero,
+            flags: [zero; 8],
         }
     }
 
     /// The status register as `php` and `brk` push it: NV11DIZC.
     pub fn status(&self) -> V {
-        let one = V::of(1);
-        let upper = with_bit(with_bit(with_bit(self.negative, self.overflow), one), one);
-        let middle = with_bit(with_bit(upper, self.decimal), self.interrupt);
-        with_bit(with_bit(middle, self.zero), self.carry)
+        let mut status = V::of(0);
+        for &flag in self.flags.iter().rev() {
+            status = V::apply(Operation::ShiftLeft, status, status, flag);
+        }
+        status.with(Operation::Or, V::of(UNUSED))
     }
 
     /// Sets the flags as `plp` and `rti` pull them.
     pub fn set_status(&mut self, status: V) {
-        self.negative = bit(status, 7);
-        self.overflow = bit(status, 6);
-        self.decimal = bit(status, 3);
-        self.interrupt = bit(status, 2);
-        self.zero = bit(status, 1);
-        self.carry = bit(status, 0);
+        let mut number = 0u8;
+        for flag in self.flags.iter_mut() {
+            *flag = status.alone(Operation::Bit(number));
+            number = number.wrapping_add(1);
+        }
     }
 
     /// Sets N and Z by a result: whether it is negative, and whether it is zero.
     pub fn set_result(&mut self, value: V) {
-        self.negative = bit(value, 7);
-        self.zero = V::apply(Operation::IsZero, value, value, value);
+        self.flags[NEGATIVE] = value.alone(Operation::Bit(7));
+        self.flags[ZERO] = value.alone(Operation::IsZero);
+    }
+
+    /// The flag that the branch with this opcode asks for, and whether it has to be set. Bits 6 and 7 say which one, and bit 5 whether.
+    pub fn asked_by(&self, opcode: u8) -> Option<(V, bool)> {
+        let number = match opcode & 0xDF {
+            0x10 => NEGATIVE,
+            0x50 => OVERFLOW,
+            0x90 => CARRY,
+            0xD0 => ZERO,
+            _ => return None,
+        };
+        Some((self.flags[number], opcode & 0x20 != 0))
     }
 }

@@ -12,6 +12,21 @@ pub trait Value: Copy {
 
     /// What the operation makes of three values. What it does to bytes is [`Operation::result`].
     fn apply(operation: Operation, a: Self, b: Self, c: Self) -> Self;
+
+    /// What an operation makes of this value alone.
+    fn alone(self, operation: Operation) -> Self {
+        Self::apply(operation, self, self, self)
+    }
+
+    /// What an operation makes of this value and another one.
+    fn with(self, operation: Operation, other: Self) -> Self {
+        Self::apply(operation, self, other, self)
+    }
+
+    /// The sum of both values.
+    fn plus(self, other: Self) -> Self {
+        Self::apply(Operation::Sum, self, other, Self::of(0))
+    }
 }
 
 impl Value for u8 {

@@ -25,10 +25,6 @@ impl Bus<u8> for Ram {
         Some(u16::from_le_bytes([word.low, word.high]).wrapping_add(u16::from(index)))
     }
 
-    fn zero_page(&mut self, low: u8, _purpose: Purpose) -> Option<u16> {
-        Some(u16::from(low))
-    }
-
     fn read(&mut self, place: Option<u16>) -> u8 {
         let Some(address) = place else {
             return 0;

@@ -1,7 +1,7 @@
 //! A state before an instruction, and what is reported of the one after it.
 
 use crate::ram::Ram;
-use run65::{Bus, Machine, Step};
+use run65::{Bus, Machine};
 use std::alloc::AllocError;
 
 /// How many bytes a state has.
@@ -46,7 +46,7 @@ pub fn put_result(
     state: &[u8],
 ) -> Result<(), AllocError> {
     load(machine, state);
-    if machine.step() != Step::Done {
+    if !machine.step() {
         machine.registers.pc = 0xFFFF;
     }
     results.push(machine.registers.a)?;
