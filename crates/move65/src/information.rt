@@ -4,15 +4,11 @@ ghost use Rattle.std.specs.Prelude.{◌≡◌, ◌++◌, [], ◌∷◌, IfOk, Ok
 ghost use Rattle.info65.specs.Words.{information};
 
 use crate::failure::{Failure, Refused};
-use info65::{
-    Info, InfoFault, InfoFaultKind, Options, Settings, Tag, read_info, read_tags, without_numbers,
-};
+use files65::{information_of, tags_of};
+use info65::{Info, Options, Settings, Tag, without_numbers};
 use isa65::Cpu;
 use map65::Marks;
 use std::alloc::Global;
-
-/// The most that an information file may have: 1 MiB.
-const LIMIT: usize = 1_048_576;
 
 /// What the program needs of an information file.
 #[derive(Drop)]
@@ -24,13 +20,22 @@ pub struct Information {
     pub named: Marks,
 }
 
-/// The groups of the lines `#: ..`, without the halves that count for nothing.
-fn tags(alloc: Global, bytes: &[u8]) -> Result<Vec<Tag>, Failure> {
-    if LIMIT < bytes.len() {
-        return Ok(Vec::new(alloc));
+impl Information {
+    /// What the file of these bytes says under the options, without the halves that count for nothing.
+    pub fn of(alloc: Global, options: &Options, bytes: &[u8]) -> Result<Information, Failure> {
+        let info: Info = information_of(alloc, options, bytes)?;
+        let settings: &Settings = info.settings();
+        let mut named = Marks::none(alloc)?;
+        for index in 0..info.given_count() {
+            named.set(info.given(index).address);
+        }
+        Ok(Information {
+            start: settings.start,
+            cpu: settings.cpu,
+            tags: without_numbers(alloc, &tags_of(alloc, bytes)?)?,
+            named,
+        })
     }
-    let tags = read_tags(alloc, bytes)?;
-    Ok(without_numbers(alloc, &tags)?)
 }
 
 /// The options of da65 with this start and CPU, and no others.
@@ -41,32 +46,13 @@ pub fn options_with(start: Option<u16>, cpu: Option<Cpu>) -> Options {
     options
 }
 
-/// What the file of these bytes says under the options. Refuses a file that da65 refuses.
-pub fn information_of(
-    alloc: Global,
-    options: &Options,
-    bytes: &[u8],
-) -> Result<Information, Failure> {
-    let info = read_info(alloc, options, bytes)?;
-    let settings: &Settings = info.settings();
-    let mut named = Marks::none(alloc)?;
-    for index in 0..info.given_count() {
-        named.set(info.given(index).address);
-    }
-    Ok(Information {
-        start: settings.start,
-        cpu: settings.cpu,
-        tags: tags(alloc, bytes)?,
-        named,
-    })
-}
-
-/// The failure for a fault of the file with what is found.
-fn failure_of(fault: InfoFault) -> Failure {
-    if fault.kind == InfoFaultKind::Memory {
-        Failure::Memory
-    } else {
-        Failure::Own(Refused::Text(fault))
+/// A fault of the file with what is found, as what this program gives up for.
+fn refused(failure: Failure) -> Failure {
+    match failure {
+        Failure::Info(fault) | Failure::NamedTwice(fault, _, _) => {
+            Failure::Own(Refused::Text(fault))
+        }
+        other => other,
     }
 }
 
@@ -74,16 +60,14 @@ fn failure_of(fault: InfoFault) -> Failure {
 fn accepted(alloc: Global, options: &Options, bytes: &[u8]) -> Result<Info, Failure>
     ensures { IfOk result (λ info. information options.now bytes.now ≡ Ok info) }
 {
-    let info = match read_info(alloc, options, bytes) {
+    let info = match information_of(alloc, options, bytes) {
         Ok(info) => info,
-        Err(fault) => return Err(failure_of(fault)),
+        Err(failure) => return Err(refused(failure)),
     };
-    if bytes.len() <= LIMIT
-        && let Err(fault) = read_tags(alloc, bytes)
-    {
-        return Err(failure_of(fault));
+    match tags_of(alloc, bytes) {
+        Ok(_) => Ok(info),
+        Err(failure) => Err(refused(failure)),
     }
-    Ok(info)
 }
 
 /// Reads the information file with the text behind it. Fails with the fault that it would be refused for.

@@ -22,13 +22,11 @@ mod variables;
 mod world;
 
 use failure::Failure;
-use files65::{
-    Output, Placeholders, keep_apart, keep_inputs, read_information, read_listing, say, write_text,
-};
+use files65::{Output, Placeholders, keep_files, read_information, read_listing, say, write_text};
 use moving::{Moved, text_of};
 use request::{Moving, request_of};
 use std::process::ExitCode;
-use usage65::{Names, Request, words_of};
+use usage65::{Request, words_of};
 
 /// What is found of the listing.
 fn found(rt: &HostRuntime, moving: &Moving) -> Result<Moved, Failure> {
@@ -41,13 +39,6 @@ fn found(rt: &HostRuntime, moving: &Moving) -> Result<Moved, Failure> {
 fn write(rt: &HostRuntime, name: Option<String>, text: &[u8]) -> Result<(), Failure> {
     let mut output = Output::create_new(rt, name)?;
     Ok(write_text(&mut output, text)?)
-}
-
-/// Refuses an output that is an input, and a stream that is two inputs.
-fn keep_files(rt: &HostRuntime, names: &Names) -> Result<(), Failure> {
-    let inputs = [names.info.as_deref(), Some(names.listing.as_str())];
-    keep_inputs(rt, names.output.as_deref(), &inputs)?;
-    Ok(keep_apart(rt, &inputs)?)
 }
 
 /// Reads the listing, and writes what is found. Returns whether something parts.

@@ -1,7 +1,7 @@
 //! Assembles a listing here and later, runs both, and judges what is seen.
 
 use crate::failure::{Failure, Refused};
-use crate::information::{Information, information_of, options_with, read_back};
+use crate::information::{Information, options_with, read_back};
 use crate::judge::Findings;
 use crate::lines::Lines;
 pub use crate::report::Moved;
@@ -11,6 +11,7 @@ use crate::runs::{Both, run_all};
 use crate::scene::Scene;
 use crate::variables::move_variables;
 use crate::world::World;
+use files65::{layout_of, repair, start_or_end};
 use info65::{Tag, TagKind};
 use map65::Marks;
 use run65::{Machine, Registers};
@@ -22,13 +23,6 @@ use stmt65::{
 
 /// How often what is found is moved, and both images run again.
 const ROUNDS: usize = 8;
-
-/// The start from which the last byte of a text is at $FFFF.
-fn start_at_end(alloc: Global, source: &Source<'_, '_, '_>) -> Result<u16, AllocError> {
-    let ends = line_addresses(alloc, source)?;
-    let len = ends.last().copied().unwrap_or(0);
-    Ok(u16::try_from(65_536u64.saturating_sub(len)).unwrap_or(0))
-}
 
 /// How much later the second image lies: so much, or so much less if it would end behind $FFFF.
 fn distance(start: u16, len: usize, by: u16) -> Result<u16, Failure> {
@@ -175,19 +169,10 @@ pub fn text_of(
     text: &[u8],
 ) -> Result<Moved, Failure> {
     let options = options_with(moving.start, moving.cpu);
-    let info = information_of(alloc, &options, bytes)?;
-    let layout = Layout::new(alloc, 0)?;
-    let mut source = Source {
-        language: Language::Repair,
-        layout: &layout,
-        start: 0,
-        text,
-    };
-    source.start = match info.start {
-        Some(start) => start,
-        None => start_at_end(alloc, &source)?,
-    };
-    let moved = written(alloc, moving, &info, &source)?;
+    let info = Information::of(alloc, &options, bytes)?;
+    let layout = layout_of(alloc, &[], None)?;
+    let start = start_or_end(alloc, info.start, &layout, text)?;
+    let moved = written(alloc, moving, &info, &repair(&layout, start, text))?;
     let _ = read_back(alloc, &options, bytes, &moved.text)?;
     Ok(moved)
 }
