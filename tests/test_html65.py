@@ -212,10 +212,21 @@ def test_tables(page_of):
         "print|$1015|1 call, 1 branch, 1 table, 1 half", "text|$101D|1 table, 3 half, 1 value|the length",
         "end|$1021|1 table, 1 value",
         "vec|$1023|1 pointer", "out|$FFD2|1 jump"]
-    assert rows_of(page, "Addresses without a name")[0] == '$0012|change 1015 LABEL { ADDR $0012; NAME ""; };'
+    group = 'LABEL { ADDR $0012; NAME ""; };'
+    rows = rows_of(page, "Addresses without a name")
+    assert rows[0] == f"$0012|change 1015 {group}" and rows[-1] == f" 1 groups to copy{group}"
     assert rows_of(page, "Calls") == ["start|calls print", "print|calls out|called by start"]
-    assert "none" in page_of("L: nop\nM: jmp L\n").decode()
+    assert "<td><em>none</em>\n" in page_of("L: nop\nM: jmp L\n").decode()
+    inside = page_of("start: jsr in\n rts\nin := *+1\n bit $01A9\n rts\n")
+    assert rows_of(inside, "Calls") == ["start|calls in", "in||called by start"]
     assert rows_of(page_of("L: nop\nM: jmp L\n"), "Names") == ["L|$1000|1 jump", "M|$1001|none"]
+
+
+def test_styles(page_of):
+    """The page loads nothing, has a dark theme and one for paper, and what it adds to the listing is not selected."""
+    styles = page_of("nop").decode()
+    assert "default-src 'none'" in styles and "@media (prefers-color-scheme:dark){" in styles
+    assert "@media print{" in styles and re.search(r"pre i\{[^}]*;user-select:none\}", styles)
 
 
 def test_folded(page_of, whole):

@@ -1,14 +1,13 @@
 //! The calls of a page: whom each routine calls, and who calls it.
 
-use crate::kind::Kind;
 use crate::markup::{Link, Put, Result, put};
-use crate::survey::{Named, Survey};
+use crate::survey::{Named, Reference, Survey};
 use crate::tables::{TABLE, TABLE_END};
 use crate::way::Way;
 use std::alloc::Global;
 
-/// Two places among the names, of which one calls the other.
-type Pair = (usize, usize);
+/// A place among the names, whether the other one calls it or it the other one, and the place of the other one.
+type Call = (usize, bool, usize);
 
 /// Whether a name is a routine: a label of code that something calls, or that only tables and halves refer to, or nothing. It ends
 /// where the next one begins.
@@ -18,26 +17,27 @@ fn is_routine(survey: &Survey<'_, '_>, named: &Named<'_>) -> bool {
     let is_entry = uses
         .iter()
         .all(|one| matches!(one.way, Way::Table | Way::Half));
-    let is_code = !named.is_constant && survey.kind_at(named.value) == Some(Kind::Code);
-    is_code && (is_called || is_entry)
+    !named.definition.constant && survey.is_code(named.definition.value) && (is_called || is_entry)
 }
 
 /// Who calls whom, in order and each once: by `jsr`, or by a jump to another routine or to a constant.
-fn calls_of(alloc: Global, survey: &Survey<'_, '_>, routines: &[Named<'_>]) -> Result<Vec<Pair>> {
+fn calls_of(alloc: Global, survey: &Survey<'_, '_>, routines: &[Named<'_>]) -> Result<Vec<Call>> {
     let mut calls = Vec::new(alloc);
-    for reference in &survey.to_names {
-        let (to, way) = (reference.to, reference.way);
-        let begun = routines.partition_point(|named| named.line <= reference.line);
-        let Some(caller) = routines.get(begun.wrapping_sub(1)) else {
+    for Reference { to, way, line, .. } in &survey.to_names {
+        let begun = routines.partition_point(|named| named.line <= *line);
+        let (Some(from), Some(named)) = (routines.get(begun.wrapping_sub(1)), survey.names.get(*to))
+        else {
             continue;
         };
-        let is_constant = survey.names.get(to).is_some_and(|named| named.is_constant);
-        let is_routine = routines
-            .binary_search_by_key(&to, |named| named.place)
-            .is_ok();
-        let leaves = to != caller.place && (is_constant || is_routine);
-        if way == Way::Call || way == Way::Jump && leaves {
-            calls.push((caller.place, to))?;
+        let is_call = match way {
+            Way::Call => true,
+            Way::Jump if from.place == *to => false,
+            Way::Jump => named.definition.constant || is_routine(survey, named),
+            _ => false,
+        };
+        if is_call {
+            calls.push((from.place, false, *to))?;
+            calls.push((*to, true, from.place))?;
         }
     }
     calls.sort()?;
@@ -45,20 +45,21 @@ fn calls_of(alloc: Global, survey: &Survey<'_, '_>, routines: &[Named<'_>]) -> R
     Ok(calls)
 }
 
-/// Appends the second ones of the pairs that begin with a place, as links.
-fn put_pairs(
+/// Appends the other ones of the calls of a place, as links.
+fn put_others(
     out: &mut Vec<u8>,
     survey: &Survey<'_, '_>,
-    pairs: &[Pair],
-    place: usize,
-    text: &str,
+    calls: &[Call],
+    (place, is_called): (usize, bool),
 ) -> Result<()> {
-    let from = pairs.partition_point(|pair| pair.0 < place);
-    let to = pairs.partition_point(|pair| pair.0 <= place);
+    let key = (place, is_called);
+    let from = calls.partition_point(|call| (call.0, call.1) < key);
+    let to = calls.partition_point(|call| (call.0, call.1) <= key);
+    let text = if is_called { "called by" } else { "calls" };
     put!(out; "<td>", if from < to { text } else { "" });
-    for pair in pairs.get(from..to).unwrap_or(&[]) {
-        if let Some(named) = survey.names.get(pair.1) {
-            put!(out; " ", Link(named.line, named.name));
+    for (_, _, other) in calls.get(from..to).unwrap_or(&[]) {
+        if let Some(named) = survey.names.get(*other) {
+            put!(out; " ", Link(named.line, named.definition.name));
         }
     }
     Ok(())
@@ -75,17 +76,12 @@ pub fn put_calls(alloc: Global, out: &mut Vec<u8>, survey: &Survey<'_, '_>) -> R
     if routines.is_empty() {
         return Ok(());
     }
-    let to = calls_of(alloc, survey, &routines)?;
-    let mut from = Vec::new(alloc);
-    for (caller, called) in &to {
-        from.push((*called, *caller))?;
-    }
-    from.sort()?;
+    let calls = calls_of(alloc, survey, &routines)?;
     put!(out; "<details><summary>Calls (", routines.len(), TABLE);
     for named in &routines {
-        put!(out; "<tr><td>", Link(named.line, named.name));
-        put_pairs(out, survey, &to, named.place, "calls")?;
-        put_pairs(out, survey, &from, named.place, "called by")?;
+        put!(out; "<tr><td>", Link(named.line, named.definition.name));
+        put_others(out, survey, &calls, (named.place, false))?;
+        put_others(out, survey, &calls, (named.place, true))?;
         put!(out; "\n");
     }
     put!(out; TABLE_END);

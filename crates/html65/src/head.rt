@@ -45,14 +45,14 @@ pub fn put_head(out: &mut Vec<u8>, name: &[u8], survey: &Survey<'_, '_>) -> Resu
     let count = survey.bytes.len();
     let last = start.saturating_add(count).saturating_sub(1);
     put!(out; BEGIN, name, STYLES, name, "</h1> $", Address(start), " to $", Address(last), ", ", count, " bytes");
-    for kind in KINDS {
-        let runs = survey.runs.iter().filter(|run| run.kind == kind);
-        let count = runs.fold(
-            0,
-            |sum: usize, run| sum.saturating_add(run.end.saturating_sub(run.at)),
-        );
+    let mut counts: [usize; 6] = [0; 6];
+    for run in &survey.runs {
+        let count = &mut counts[run.kind as usize];
+        *count = count.saturating_add(run.end.saturating_sub(run.at));
+    }
+    for (kind, count) in KINDS.iter().zip(counts) {
         if 0 < count {
-            put!(out; " <span class=\"", kind.text(), "\">", kind.text(), " ", count, "</span>");
+            put!(out; " <span class=\"", *kind, "\">", *kind, " ", count, "</span>");
         }
     }
     put!(out; "</header>\n<main>\n<nav>\n");

@@ -2,7 +2,7 @@
 
 use crate::way::Word;
 
-/// What the bytes of a line are.
+/// What the bytes of a line are, in the order in which a page shows them.
 #[derive(Clone, Copy, PartialEq, Eq)]
 pub enum Kind {
     Code,
@@ -15,15 +15,8 @@ pub enum Kind {
     Filler,
 }
 
-/// All kinds, in the order in which a page shows them.
-pub const KINDS: [Kind; 6] = [
-    Kind::Code,
-    Kind::Text,
-    Kind::Bytes,
-    Kind::Words,
-    Kind::Addresses,
-    Kind::Filler,
-];
+/// What a page calls each kind, in their order.
+pub const KINDS: [&str; 6] = ["code", "text", "bytes", "words", "addresses", "filler"];
 
 /// From how many bytes of one value on a line is filler.
 const FILLER: usize = 8;
@@ -31,14 +24,7 @@ const FILLER: usize = 8;
 impl Kind {
     /// What a page calls it.
     pub fn text(self) -> &'static str {
-        match self {
-            Kind::Code => "code",
-            Kind::Text => "text",
-            Kind::Bytes => "bytes",
-            Kind::Words => "words",
-            Kind::Addresses => "addresses",
-            Kind::Filler => "filler",
-        }
+        KINDS[self as usize]
     }
 
     /// That of a line which gives these bytes, by its mnemonic or directive and what its first operand that is no number shows: a

@@ -11,8 +11,7 @@ pub struct Line<'t> {
     pub number: usize,
     /// Without its line feed.
     pub text: &'t [u8],
-    /// How many bytes of the listing stand before it, and what stands after it.
-    pub from: usize,
+    /// What stands after it.
     rest: &'t [u8],
     /// The address of its first byte, and the one after its last.
     pub at: usize,
@@ -25,25 +24,23 @@ impl<'t> Line<'t> {
         Line {
             number: 0,
             text: &[],
-            from: 0,
             rest: listing,
             at: 0,
             end: usize::from(start),
         }
     }
 
-    /// The next line of this listing, by the address after each.
-    pub fn next(self, listing: &[u8], ends: &[u64]) -> Option<Line<'t>> {
-        let (text, rest) = first_line(self.rest)?;
+    /// The next line, by the address after each.
+    pub fn next(self, ends: &[u64]) -> Line<'t> {
+        let (text, rest) = first_line(self.rest).unwrap_or((&[], &[]));
         let end = ends.get(self.number).copied().unwrap_or(0);
-        Some(Line {
+        Line {
             number: self.number.saturating_add(1),
             text,
-            from: listing.len().saturating_sub(self.rest.len()),
             rest,
             at: self.end,
             end: end.min(65_536) as usize,
-        })
+        }
     }
 
     /// It refers to something.

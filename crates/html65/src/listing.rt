@@ -40,13 +40,15 @@ fn put_text<'m>(
     line: Line<'_>,
     marks: &'m [Mark],
 ) -> Result<&'m [Mark]> {
-    let mut from = line.from;
-    let to = from.saturating_add(line.text.len());
-    let count = marks.iter().take_while(|mark| mark.from < to).count();
-    for mark in marks.get(..count).unwrap_or(&[]) {
-        let text = part_of(survey.text, mark.from, mark.to);
-        put!(out; part_of(survey.text, from, mark.from));
-        match mark.shown {
+    let mut from = 0;
+    let count = marks
+        .iter()
+        .take_while(|mark| mark.0 == line.number)
+        .count();
+    for Mark(_, shown, span) in marks.get(..count).unwrap_or(&[]) {
+        let text = part_of(line.text, span.from, span.to);
+        put!(out; part_of(line.text, from, span.from));
+        match *shown {
             Shown::Definition => put!(out; "<span class=\"n\">", text, "</span>"),
             Shown::Text => put!(out; "<span class=\"t\">", text, "</span>"),
             Shown::Remark => put!(out; "<span class=\"c\">", text, "</span>"),
@@ -55,9 +57,9 @@ fn put_text<'m>(
                 put!(out; Link(named.map_or(0, |named| named.line), text));
             }
         }
-        from = mark.to;
+        from = span.to;
     }
-    put!(out; part_of(survey.text, from, to));
+    put!(out; part_of(line.text, from, line.text.len()));
     Ok(marks.get(count..).unwrap_or(&[]))
 }
 
@@ -69,8 +71,9 @@ pub fn put_listing(alloc: Global, out: &mut Vec<u8>, survey: &Survey<'_, '_>) ->
     let mut runs = survey.runs.iter().peekable();
     put!(out; "<pre id=\"listing\">");
     for _ in survey.ends {
-        line = line.next(survey.text, survey.ends).unwrap_or(line);
-        put!(out; "<span id=\"l", line.number, "\">");
+        put!(out; if line.number == 0 { "<span id=\"l" } else { "\n<span id=\"l" });
+        line = line.next(survey.ends);
+        put!(out; line.number, "\">");
         put_left(out, line.at, survey.between(line.at, line.end))?;
         marks = put_text(out, survey, line, marks)?;
         if let Some(named) = names.next_if(|named| named.line == line.number) {
@@ -89,9 +92,8 @@ pub fn put_listing(alloc: Global, out: &mut Vec<u8>, survey: &Survey<'_, '_>) ->
                 put!(out; FOLD_END, "</i>");
             }
         }
-        let is_ended = line.from.saturating_add(line.text.len()) < survey.text.len();
-        put!(out; if is_ended { "</span>\n" } else { "</span>" });
+        put!(out; "</span>");
     }
-    put!(out; "</pre>\n");
+    put!(out; if survey.text.last() == Some(&b'\n') { "\n</pre>\n" } else { "</pre>\n" });
     Ok(())
 }

@@ -44,7 +44,7 @@ pub fn put_map(out: &mut Vec<u8>, survey: &Survey<'_, '_>) -> Result<()> {
         put!(out; "<a href=\"#l", run.line, "\"><title>$", Address(at), " to $", Address(end.saturating_sub(1)));
         put!(out; " ", run.kind.text());
         if let Some(named) = survey.label_at(run.at) {
-            put!(out; " ", named.name);
+            put!(out; " ", named.definition.name);
         }
         put!(out; ", ", end.saturating_sub(at), " bytes</title><path class=\"", run.kind.text(), "\" d=\"");
         put_shape(

@@ -82,8 +82,7 @@ impl<P: Put + Drop> Put for Link<P> {
 }
 
 /// Appends references by their ways; the one before them was of a way.
-fn put_some(out: &mut Vec<u8>, references: &[Reference], before: Option<Way>) -> Result<()> {
-    let mut before = before;
+fn put_some(out: &mut Vec<u8>, references: &[Reference], mut before: Option<Way>) -> Result<()> {
     for reference in references {
         if before != Some(reference.way) {
             put!(out; if before.is_some() { "; " } else { "" }, reference.way.text());

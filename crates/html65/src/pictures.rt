@@ -1,7 +1,6 @@
 //! Bytes as pixels of one bit: pictures in the format BMP, each in a `data:` address.
 
 use crate::markup::{Put, Result, put};
-use crate::survey::part_of;
 use base64::engine::general_purpose::STANDARD;
 use std::alloc::Global;
 
@@ -11,51 +10,44 @@ pub const LEAST: usize = 16;
 /// How many bytes the head of a picture has.
 const HEAD: usize = 62;
 
-/// How bytes are laid out: in columns of rows, one column beside the other, and one band of columns below the other.
+/// How bytes are laid out: in columns of rows, one column beside the other, and one band of columns below the other. How many bytes a
+/// row of a column has, how many rows a column, and how many columns a band at most; how many bytes it is from one column to the next,
+/// of which one is blank, or none; and the title.
 #[derive(Clone, Copy)]
-struct Layout {
-    /// How many bytes a row of a column has, and how many rows a column.
-    wide: usize,
-    high: usize,
-    /// How many columns a band has at most, and how many bytes it is from one to the next: one is blank between them, or none.
-    across: usize,
-    step: usize,
-}
+struct Layout(usize, usize, usize, usize, &'static str);
 
-/// Cells as character sets have them, and rows of 1, 2, 3 and 40 bytes: in the order of the fields of a layout.
-const LAYOUTS: [(usize, usize, usize, usize, &str); 5] = [
-    (1, 8, 32, 1, "cells of 8 by 8"),
-    (1, 64, 20, 2, "rows of 1 byte"),
-    (2, 63, 13, 3, "rows of 2 bytes"),
-    (3, 63, 10, 4, "rows of 3 bytes"),
-    (40, 200, 1, 40, "rows of 40 bytes"),
+/// Cells as character sets have them, and rows of 1, 2, 3 and 40 bytes.
+const LAYOUTS: [Layout; 5] = [
+    Layout(1, 8, 32, 1, "cells of 8 by 8"),
+    Layout(1, 64, 20, 2, "rows of 1 byte"),
+    Layout(2, 63, 13, 3, "rows of 2 bytes"),
+    Layout(3, 63, 10, 4, "rows of 3 bytes"),
+    Layout(40, 200, 1, 40, "rows of 40 bytes"),
 ];
 
 impl Layout {
     /// How many bytes a row of the picture of so many bytes has, and how many rows there are.
     fn size(self, count: usize) -> (usize, usize) {
-        let rows = count.div_ceil(self.wide.max(1));
-        let columns = rows.div_ceil(self.high.max(1));
-        let bands = columns.div_ceil(self.across.max(1));
-        let gap = self.step.saturating_sub(self.wide);
-        let wide = columns
-            .min(self.across)
-            .saturating_mul(self.step)
-            .saturating_sub(gap);
-        (wide, rows.min(bands.saturating_mul(self.high)))
+        let Layout(wide, high, across, step, _) = self;
+        let rows = count.div_ceil(wide.max(1));
+        let columns = rows.div_ceil(high.max(1));
+        let bands = columns.div_ceil(across.max(1));
+        let all = columns.min(across).saturating_mul(step);
+        let gap = step.saturating_sub(wide);
+        (
+            all.saturating_sub(gap),
+            rows.min(bands.saturating_mul(high)),
+        )
     }
 
-    /// The byte at a place of a row of the picture; none between columns and after the last byte.
-    fn byte_at(self, bytes: &[u8], row: usize, place: usize) -> u8 {
-        let (high, step) = (self.high.max(1), self.step.max(1));
-        let (band, y, column, x) = (row / high, row % high, place / step, place % step);
-        let column = band.saturating_mul(self.across).saturating_add(column);
-        let row = column.saturating_mul(high).saturating_add(y);
-        let index = row.saturating_mul(self.wide).saturating_add(x);
-        match bytes.get(index) {
-            Some(byte) if x < self.wide => *byte,
-            _ => 0,
-        }
+    /// The row of the picture in which the byte of an index stands, and its place there.
+    fn place_of(self, index: usize) -> (usize, usize) {
+        let Layout(wide, high, across, step, _) = self;
+        let (row, x) = (index / wide.max(1), index % wide.max(1));
+        let (column, y) = (row / high.max(1), row % high.max(1));
+        let (band, column) = (column / across.max(1), column % across.max(1));
+        let place = column.saturating_mul(step).saturating_add(x);
+        (band.saturating_mul(high).saturating_add(y), place)
     }
 
     /// Bytes in the format BMP, which begins with the lowest row. Each row has a multiple of four bytes.
@@ -68,11 +60,16 @@ impl Layout {
         put_numbers(&mut out, &[HEAD.saturating_add(size), 0, HEAD, 40])?;
         put_numbers(&mut out, &[wide.saturating_mul(8), high, 0x0001_0001])?;
         put_numbers(&mut out, &[0, size, 0, 0, 2, 2, 0x00FF_FFFF, 0x0020_2020])?;
-        for row in (0..high).rev() {
-            for place in 0..wide {
-                out.push(self.byte_at(bytes, row, place))?;
+        out.resize(HEAD.saturating_add(size), 0)?;
+        for (index, byte) in bytes.iter().enumerate() {
+            let (row, place) = self.place_of(index);
+            let before = high
+                .saturating_sub(row)
+                .saturating_sub(1)
+                .saturating_mul(padded);
+            if let Some(pixels) = out.get_mut(HEAD.saturating_add(before).saturating_add(place)) {
+                *pixels = *byte;
             }
-            out.extend_from_slice(part_of(&[0; 3], 0, padded.saturating_sub(wide)))?;
         }
         Ok(out)
     }
@@ -89,17 +86,11 @@ fn put_numbers(out: &mut Vec<u8>, numbers: &[usize]) -> Result<()> {
 
 /// Appends bytes as pictures.
 pub fn put_pictures(alloc: Global, out: &mut Vec<u8>, bytes: &[u8]) -> Result<()> {
-    for (wide, high, across, step, title) in LAYOUTS {
-        let layout = Layout {
-            wide,
-            high,
-            across,
-            step,
-        };
+    for layout in LAYOUTS {
         let (wide, high) = layout.size(bytes.len());
         let text = STANDARD.encode(alloc, &layout.bitmap(alloc, bytes)?)?;
         put!(out; "<img src=\"data:image/bmp;base64,", text.as_str(), "\" width=\"", wide.saturating_mul(8));
-        put!(out; "\" height=\"", high, "\" alt=\"", title, "\" title=\"", title, "\"> ");
+        put!(out; "\" height=\"", high, "\" alt=\"", layout.4, "\" title=\"", layout.4, "\"> ");
     }
     Ok(())
 }

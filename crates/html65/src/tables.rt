@@ -27,8 +27,8 @@ fn put_counts(out: &mut Vec<u8>, references: &[Reference]) -> Result<()> {
 pub fn put_names(out: &mut Vec<u8>, survey: &Survey<'_, '_>) -> Result<()> {
     put!(out; "<details open><summary>Names (", survey.names.len(), TABLE);
     for named in &survey.by_value {
-        let value = named.value as usize;
-        put!(out; "<tr><td>", Link(named.line, named.name), "<td>");
+        let value = named.definition.value as usize;
+        put!(out; "<tr><td>", Link(named.line, named.definition.name), "<td>");
         if value < 65_536 {
             put!(out; "$", Address(value));
         } else {
@@ -45,37 +45,35 @@ pub fn put_names(out: &mut Vec<u8>, survey: &Survey<'_, '_>) -> Result<()> {
     Ok(())
 }
 
-/// Appends a group that names an address.
-fn put_group(out: &mut Vec<u8>, address: usize) -> Result<()> {
-    put!(out; "LABEL { ADDR $", Address(address), "; NAME \"\"; };");
-    Ok(())
+/// A group that names an address.
+#[derive(Clone, Copy)]
+struct Group(usize);
+
+impl Put for Group {
+    fn put(self, out: &mut Vec<u8>) -> Result<()> {
+        put!(out; "LABEL { ADDR $", Address(self.0), "; NAME \"\"; };");
+        Ok(())
+    }
 }
 
 /// Appends the addresses that operands have as numbers, with who refers to them and the groups that name them.
 pub fn put_addresses(alloc: Global, out: &mut Vec<u8>, survey: &Survey<'_, '_>) -> Result<()> {
-    let mut addresses: Vec<(usize, &[Reference])> = Vec::new(alloc);
-    let all = &survey.to_addresses;
-    for references in all.chunk_by(|one, other| one.to == other.to) {
-        if let Some(first) = references.first() {
-            addresses.push((first.to, references))?;
-        }
-    }
-    if addresses.is_empty() {
+    let all = survey.to_addresses.as_slice();
+    let count = all.chunk_by(|one, other| one.to == other.to).count();
+    if count == 0 {
         return Ok(());
     }
-    put!(out; "<details open><summary>Addresses without a name (", addresses.len(), TABLE);
-    for (address, references) in &addresses {
-        put!(out; "<tr><td>$", Address(*address), "<td>");
+    let mut groups = Vec::new(alloc);
+    put!(out; "<details open><summary>Addresses without a name (", count, TABLE);
+    for references in all.chunk_by(|one, other| one.to == other.to) {
+        let address = references.first().map_or(0, |one| one.to);
+        put!(out; "<tr><td>$", Address(address), "<td>");
         put_references(out, references)?;
-        put!(out; " <code>");
-        put_group(out, *address)?;
-        put!(out; "</code>\n");
+        put!(out; " <code>", Group(address), "</code>\n");
+        put!(&mut groups; "<br>", Group(address));
     }
-    put!(out; "<tr><td colspan=\"2\">", FOLD, addresses.len(), " groups to copy<b>");
-    for (address, _) in &addresses {
-        put!(out; "<br>");
-        put_group(out, *address)?;
-    }
+    put!(out; "<tr><td colspan=\"2\">", FOLD, count, " groups to copy<b>");
+    out.extend_from_slice(&groups)?;
     put!(out; FOLD_END, TABLE_END);
     Ok(())
 }
