@@ -1,22 +1,16 @@
 -- What stands in a tag and in a page, step by step, and the numbers of ids.
-use Rattle.std.proofs.Common.{◌≡◌, ◌+◌, ◌-◌, ◌<◌, ℕ, Bool, Bor, cond, List, [], ◌∷◌, None, Some, drop, length, take, true, false, refl, sym, ap, arith, ◌&&◌, ◌∙◌, get_or, suc, zero, ◌≢◌, ◌++◌, append_assoc, Option}
+use Rattle.std.proofs.Common.{◌≡◌, ◌+◌, ◌-◌, ◌<◌, ℕ, Bool, Bor, cond, List, [], ◌∷◌, None, Some, drop, length, take, true, false, refl, sym, ap, arith, ◌&&◌, ◌∙◌, get_or, suc, zero, ◌≢◌, ◌++◌, append_assoc, Option, option_to_list, inl, inr}
 use Rattle.std.specs.Prelude.{nat_eq, not, ◌==◌}
 use Rattle.std.specs.List.{filter_map, prefix_len, slice_get, starts_with}
 use Rattle.std.specs.Str.{bytes_eq}
 use Rattle.std.proofs.lemmas.Slice.Eq.{bytes_eq-Decides}
-use Rattle.std.proofs.lemmas.Bool.{eq-eqb, eqb-true, ne_eqb}
+use Rattle.std.proofs.lemmas.Bool.{and_parts, eq-eqb, eqb-true, false_from_ne_true, ne_eqb}
+use Rattle.std.proofs.lemmas.Bool.Decides.{eqb_tells}
 use Rattle.std.proofs.lemmas.List.{append-nil, take-append-drop, take_rest}
-use Rattle.html65.specs.Links.{are_numbered, count_in, is_found, is_quoted, number_in, of_option, quoted_after, texts}
+use Rattle.html65.specs.Links.{are_numbered, count_in, is_found, number_in, quoted_after, texts}
 use Rattle.html65.specs.PageText.{after_tag, kept, text_from}
-use Rattle.html65.specs.Pieces.{Piece, Tag, Text}
+use Rattle.html65.specs.Pieces.{Piece, Tag, Text, is_other}
 use Rattle.html65.specs.declared.faults.Place.{Place}
-
-bool_conflict : true ≡ false → ⊥
-bool_conflict is = cc (is)
-
-and_parts : (a b : Bool) → (a && b) ≡ true → (a ≡ true) × (b ≡ true)
-and_parts true b is = (refl, is)
-and_parts false b is = absurd (bool_conflict (sym is))
 
 pub quoted_none : (key tag : List ℕ) → length tag ≡ 0 → None ≡ quoted_after key tag
 unfolding quoted_after
@@ -24,7 +18,7 @@ quoted_none key [] none = refl
 quoted_none key (b ∷ bs) none = absurd (omega arith)
 
 pub quoted_here : (first : ℕ) (more tag found : List ℕ) (len : ℕ) → 0 < length tag → get_or tag 0 0 ≡ first → starts_with nat_eq (take (length tag - 1) (drop 1 tag)) more ≡ true
-    → found ≡ take (length tag - (1 + length more)) (drop (1 + length more) tag) → len ≡ prefix_len is_quoted found → Some (take len found) ≡ quoted_after (first ∷ more) tag
+    → found ≡ take (length tag - (1 + length more)) (drop (1 + length more) tag) → len ≡ prefix_len (is_other 34) found → Some (take len found) ≡ quoted_after (first ∷ more) tag
 unfolding quoted_after
 quoted_here first more [] found len some is starts e f = absurd (omega arith)
 quoted_here first more (b ∷ bs) found len some is starts e f =
@@ -45,18 +39,38 @@ quoted_later first more (b ∷ bs) some is starts =
     let starts' = rw take_rest at starts in
     rw (is, eq-eqb first first refl, starts', take_rest) refl
 
+blank_first : (more tag : List ℕ) → quoted_after (32 ∷ more) (drop (prefix_len (is_other 32) tag) tag) ≡ quoted_after (32 ∷ more) tag
+unfolding quoted_after
+blank_first more [] = refl
+blank_first more (b ∷ bs) = elim (eqb_tells b 32) [
+  | inl is ↦ rw is.0 refl
+  | inr other ↦
+      let one : 1 + prefix_len (is_other 32) bs ≡ suc (prefix_len (is_other 32) bs) = omega arith in
+      rw (other.0, ne_eqb 32 b (λ same. other.1 (sym same)), one) (blank_first more bs)
+]
+
+-- nothing is found before the first blank
+pub quoted_from_blank : (more tag : List ℕ) (len : ℕ) → len ≡ prefix_len (is_other 32) tag → quoted_after (32 ∷ more) (take (length tag - len) (drop len tag)) ≡ quoted_after (32 ∷ more) tag
+quoted_from_blank more tag len is = rw (take_rest, is) (blank_first more tag)
+
+-- bytes that begin otherwise
+pub first_differs : (bytes more : List ℕ) → 0 < length bytes → 0 < length more → get_or bytes 0 0 ≢ get_or more 0 0 → false ≡ starts_with nat_eq bytes more
+first_differs [] more some any differs = absurd (omega arith)
+first_differs (b ∷ bs) [] some any differs = absurd (omega arith)
+first_differs (b ∷ bs) (m ∷ ms) some any differs = rw (ne_eqb m b (λ same. differs (sym same))) refl
+
 pub ruleset quoted_steps = (quoted_none, quoted_here, quoted_other, quoted_later)
 
 -- ---- what is taken down of the pieces
 
 taken_by : (f : Piece → Option (List ℕ)) (o : Option (List ℕ)) (taken new : List (List ℕ)) (left rest : List Piece) (p : Piece) (whole : List (List ℕ)) → f p ≡ o → left ≡ p ∷ rest
-    → new ≡ taken ++ of_option o → taken ++ filter_map f left ≡ whole → new ++ filter_map f rest ≡ whole
+    → new ≡ taken ++ option_to_list o → taken ++ filter_map f left ≡ whole → new ++ filter_map f rest ≡ whole
 taken_by f None taken new left rest p whole same step is before = rw (is, append-nil) (rw (step, same) at before)
 taken_by f (Some id) taken new left rest p whole same step is before = rw (is, append_assoc) (rw (step, same) at before)
 
 -- a piece, and what is left
 pub taken_more : (f : Piece → Option (List ℕ)) (taken new : List (List ℕ)) (left rest : List Piece) (p : Piece) (whole : List (List ℕ)) → left ≡ p ∷ rest
-    → new ≡ taken ++ of_option (f p) → taken ++ filter_map f left ≡ whole → new ++ filter_map f rest ≡ whole
+    → new ≡ taken ++ option_to_list (f p) → taken ++ filter_map f left ≡ whole → new ++ filter_map f rest ≡ whole
 taken_more f taken new left rest p whole step is before = taken_by f (f p) taken new left rest p whole refl step is before
 
 -- no piece is left
@@ -94,13 +108,9 @@ pub ruleset read_back = (taken_more, taken_whole, passed_on, passed_whole)
 
 -- ---- the numbers of ids
 
-is_false : (b : Bool) → (b ≡ true → ⊥) → b ≡ false
-is_false true apart = absurd (apart refl)
-is_false false apart = refl
-
 -- ids of two numbers differ
 differs : (id other : List ℕ) → number_in id ≢ number_in other → bytes_eq id other ≡ false
-differs id other apart = is_false _ (λ is. apart (ap number_in ((bytes_eq-Decides id other).0 is)))
+differs id other apart = false_from_ne_true _ (λ is. apart (ap number_in ((bytes_eq-Decides id other).0 is)))
 
 -- an id of a lower number is not among them
 lower : (id : List ℕ) (n : ℕ) (ids : List (List ℕ)) → are_numbered n ids ≡ true → number_in id < n → count_in id ids ≡ 0

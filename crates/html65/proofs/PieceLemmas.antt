@@ -4,7 +4,7 @@ use Rattle.std.specs.Prelude.{◌==◌}
 use Rattle.std.specs.List.{prefix_len}
 use Rattle.std.proofs.lemmas.Bool.{ne_eqb}
 use Rattle.std.proofs.lemmas.List.{take_rest, length-drop}
-use Rattle.html65.specs.Pieces.{Piece, Tag, Text, entity_at, in_tag, is_text, piece_at, pieces, pieces_after}
+use Rattle.html65.specs.Pieces.{Piece, Tag, Text, entity_at, is_other, is_text, piece_at, pieces, pieces_after}
 
 pub pieces_after-drop : (skip : ℕ) (bs : List ℕ) → pieces_after skip bs ≡ pieces (drop skip bs)
 unfolding pieces_after
@@ -30,7 +30,7 @@ stepped b bs p (suc len) is some =
 shorter : (b : ℕ) (bs : List ℕ) (len : ℕ) → 0 < len → length (drop len (b ∷ bs)) < length (b ∷ bs)
 shorter b bs len some = omega (arith, length-drop len (b ∷ bs))
 
-pub first_is_tag : (page rest : List ℕ) (len : ℕ) → 0 < length page → get_or page 0 0 ≡ 60 → len ≡ prefix_len in_tag (take (length page - 1) (drop 1 page)) → rest ≡ drop (len + 2) page
+pub first_is_tag : (page rest : List ℕ) (len : ℕ) → 0 < length page → get_or page 0 0 ≡ 60 → len ≡ prefix_len (is_other 62) (take (length page - 1) (drop 1 page)) → rest ≡ drop (len + 2) page
     → (pieces page ≡ Tag (take (len + 1 - 1) (drop 1 page)) ∷ pieces rest) × (length rest < length page)
 unfolding piece_at
 first_is_tag [] rest len some is e f = absurd (omega arith)

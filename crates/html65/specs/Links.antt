@@ -1,18 +1,14 @@
 -- The links within a page.
-use Rattle.std.specs.Prelude.{◌++◌, map, true, IsTrue, ◌≡◌, ℕ, suc, Bool, cond, ◌&&◌, ◌+◌, ◌-◌, ◌*◌, ◌%◌, List, [], ◌∷◌, Option, None, Some, codes, drop, fold, length, nat_eq, take, not, ◌==◌, if◌then◌else◌}
+use Rattle.std.specs.Prelude.{◌++◌, map, true, IsTrue, ◌≡◌, ℕ, suc, Bool, cond, ◌&&◌, ◌+◌, ◌-◌, ◌*◌, ◌%◌, List, [], ◌∷◌, Option, option_to_list, None, Some, codes, drop, fold, length, nat_eq, take, not, ◌==◌, if◌then◌else◌}
 use Rattle.std.specs.Char.{is_ascii_digit}
 use Rattle.std.specs.List.{filter_map, list_all, prefix_len, starts_with}
 use Rattle.std.specs.Str.{bytes_eq}
 use Rattle.std.specs.Borrow.{Bor}
-use Rattle.html65.specs.Pieces.{Piece, Tag, Text, pieces}
-
--- any byte but `"`
-abbrev pub is_quoted : ℕ → Bool
-is_quoted b = not (b == 34)
+use Rattle.html65.specs.Pieces.{Piece, Tag, Text, is_other, pieces}
 
 -- the bytes before the next `"`
 abbrev pub before_quote : List ℕ → List ℕ
-before_quote bytes = take (prefix_len is_quoted bytes) bytes
+before_quote bytes = take (prefix_len (is_other 34) bytes) bytes
 
 -- what stands in a tag between these bytes and the next `"`
 unfoldable pub quoted_after : List ℕ → List ℕ → Option (List ℕ)
@@ -63,10 +59,6 @@ are_numbered n (id ∷ ids) = number_in id == n && are_numbered (suc n) ids
 abbrev pub texts : List (Bor (List ℕ)) → List (List ℕ)
 texts found = map (λ k. k.now) found
 
-abbrev pub of_option : Option (List ℕ) → List (List ℕ)
-of_option None = []
-of_option (Some id) = id ∷ []
-
 -- what stands there after an id, if there is one, was added
 abbrev pub Adds : List (Bor (List ℕ)) → List (Bor (List ℕ)) → Option (List ℕ) → Type 0
-Adds old new id = texts new ≡ texts old ++ of_option id
+Adds old new id = texts new ≡ texts old ++ option_to_list id

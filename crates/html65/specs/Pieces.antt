@@ -9,9 +9,9 @@ pub data Piece : Type 0 where
   Tag : List ℕ → Piece
   Text : List ℕ → Piece
 
--- any byte but `>`
-abbrev pub in_tag : ℕ → Bool
-in_tag b = not (b == 62)
+-- any byte but this one
+abbrev pub is_other : ℕ → ℕ → Bool
+is_other byte b = not (b == byte)
 
 -- any byte but `<` and `&`
 abbrev pub is_text : ℕ → Bool
@@ -28,7 +28,7 @@ entity_at bytes =
 -- the piece that begins with the first byte, and its length
 unfoldable pub piece_at : ℕ → List ℕ → Piece × ℕ
 piece_at b bs =
-    if b == 60 then (Tag (take (prefix_len in_tag bs) bs), prefix_len in_tag bs + 2)
+    if b == 60 then (Tag (take (prefix_len (is_other 62) bs) bs), prefix_len (is_other 62) bs + 2)
     else (if b == 38 then (Text (entity_at (b ∷ bs)).0, (entity_at (b ∷ bs)).1)
     else (Text (take (prefix_len is_text (b ∷ bs)) (b ∷ bs)), prefix_len is_text (b ∷ bs)))
 

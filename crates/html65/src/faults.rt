@@ -1,14 +1,14 @@
 //! Reads a page back: whether its text is that of the listing, and each link within it leads to one element.
 
-ghost use Rattle.std.specs.Prelude.{◌≡◌, ◌++◌, ◌∷◌, ◌≤◌, List, None, IfOk, IfSome, IsTrue, OnOk, length, true};
-ghost use Rattle.std.specs.List.{list_all, prefix_len};
+ghost use Rattle.std.specs.Prelude.{◌≡◌, ◌++◌, ◌∷◌, List, None, IfOk, IfSome, IsTrue, OnOk, codes, nat_eq, true};
+ghost use Rattle.std.specs.List.{list_all, starts_with};
 ghost use Rattle.std.specs.Option.{option_copied};
-ghost use Rattle.html65.specs.Links.{Adds, AreLinksWhole, are_numbered, found_in, is_found, is_quoted, number_in, quoted_after, texts, with_digit};
+ghost use Rattle.html65.specs.Links.{Adds, AreLinksWhole, are_numbered, found_in, is_found, number_in, quoted_after, texts, with_digit};
 ghost use Rattle.html65.specs.PageText.{after_tag, kept, text_from, text_of};
 ghost use Rattle.html65.specs.Pieces.{Piece as APiece};
 ghost use Rattle.html65.specs.Views.{piece_of};
 
-use crate::pieces::{Piece, first_piece};
+use crate::pieces::{Piece, first_piece, len_before};
 use std::alloc::{AllocError, Global};
 
 /// What a page has not that it promises.
@@ -70,12 +70,15 @@ fn passed<'t>(place: Place, left: &'t [u8], piece: Piece<'_>) -> Option<(Place, 
     }
 }
 
-/// How many bytes come before the next `"`.
-fn quoted_len(bytes: &[u8]) -> usize
-    ensures value { result ≡ prefix_len is_quoted bytes.now }
-    ensures fits { result ≤ length bytes.now }
+/// Whether bytes begin with others. Mostly the first byte tells.
+#[tactic(auto, using(crate::proofs::LinkLemmas::first_differs))]
+fn begin_with(bytes: &[u8], more: &[u8]) -> bool
+    ensures { result ≡ starts_with nat_eq bytes.now more.now }
 {
-    bytes.iter().take_while(|byte| **byte != b'"').count()
+    if !bytes.is_empty() && !more.is_empty() && bytes[0] != more[0] {
+        return false;
+    }
+    bytes.starts_with(more)
 }
 
 /// What stands in a tag between a blank with these bytes and the next `"`.
@@ -85,24 +88,42 @@ fn quoted_after<'a>(more: &[u8], tag: &'a [u8]) -> Option<&'a [u8]>
 {
     let mut rest = tag;
     'rests: while !rest.is_empty() {
-        if rest[0] == b' ' && rest[1..].starts_with(more) {
+        if rest[0] == b' ' && begin_with(&rest[1..], more) {
             let after = &rest[1 + more.len()..];
-            return Some(&after[..quoted_len(after)]);
+            return Some(&after[..len_before(b'"', after)]);
         }
         rest = &rest[1..];
     }
     None
 }
 
-/// Takes down what stands so in a piece, if it is a tag that has it.
-fn take<'p>(found: &mut Vec<&'p [u8]>, more: &[u8], piece: Piece<'p>) -> Result<(), AllocError>
+/// Takes down what stands so in a tag, if it has it.
+fn take<'p>(found: &mut Vec<&'p [u8]>, more: &[u8], tag: &'p [u8]) -> Result<(), AllocError>
     ensures { OnOk result (Adds found.old.items found.new.items
-        (found_in (32 ∷ more.now) (piece_of piece.entry))) }
+        (quoted_after (32 ∷ more.now) tag.now)) }
+{
+    if let Some(id) = quoted_after(more, tag) {
+        found.push(id)?;
+    }
+    Ok(())
+}
+
+/// Takes down the id and the target of a piece, if it is a tag that has them. Neither stands before its first blank.
+#[tactic(auto, using(crate::proofs::LinkLemmas::quoted_from_blank))]
+fn take_both<'p>(
+    ids: &mut Vec<&'p [u8]>,
+    targets: &mut Vec<&'p [u8]>,
+    piece: Piece<'p>,
+) -> Result<(), AllocError>
+    ensures ids { OnOk result (Adds ids.old.items ids.new.items
+        (found_in (codes " id=\"") (piece_of piece.entry))) }
+    ensures targets { OnOk result (Adds targets.old.items targets.new.items
+        (found_in (codes " href=\"#") (piece_of piece.entry))) }
 {
     if let Piece::Tag(tag) = piece {
-        if let Some(id) = quoted_after(more, tag) {
-            found.push(id)?;
-        }
+        let tag = &tag[len_before(b' ', tag)..];
+        take(ids, b"id=\"", tag)?;
+        take(targets, b"href=\"#", tag)?;
     }
     Ok(())
 }
@@ -184,8 +205,7 @@ pub fn fault_in(alloc: Global, page: &[u8], listing: &[u8]) -> Result<Option<Fau
     let mut left = listing;
     let mut rest = page;
     'pieces: while let Some((piece, after)) = first_piece(rest) {
-        take(&mut ids, b"id=\"", piece)?;
-        take(&mut targets, b"href=\"#", piece)?;
+        take_both(&mut ids, &mut targets, piece)?;
         let Some(found) = passed(place, left, piece) else {
             return Ok(Some(Fault::Text));
         };

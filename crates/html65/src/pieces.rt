@@ -2,7 +2,7 @@
 
 ghost use Rattle.std.specs.Prelude.{◌≡◌, ◌<◌, ◌+◌, ◌≤◌, [], codes, drop, length, take, true, IsTrue, MatchOption};
 ghost use Rattle.std.specs.List.{prefix_len};
-ghost use Rattle.html65.specs.Pieces.{Text, entity_at, in_tag, is_text, pieces};
+ghost use Rattle.html65.specs.Pieces.{Text, entity_at, is_other, is_text, pieces};
 ghost use Rattle.html65.specs.Views.{BeginsWith};
 
 /// A piece of a page.
@@ -14,12 +14,12 @@ pub enum Piece<'a> {
     Text(&'a [u8]),
 }
 
-/// How many bytes come before the first `>`.
-fn tag_len(bytes: &[u8]) -> usize
-    ensures value { result ≡ prefix_len in_tag bytes.now }
+/// How many bytes come before the first one that is this byte.
+pub fn len_before(byte: u8, bytes: &[u8]) -> usize
+    ensures value { result ≡ prefix_len (is_other byte) bytes.now }
     ensures fits { result ≤ length bytes.now }
 {
-    bytes.iter().take_while(|byte| **byte != b'>').count()
+    bytes.iter().take_while(|one| **one != byte).count()
 }
 
 /// How many bytes come before the first `<` or `&`.
@@ -73,7 +73,7 @@ pub fn first_piece(page: &[u8]) -> Option<(Piece<'_>, &[u8])>
     }
     let first = page[0];
     if first == b'<' {
-        let len = tag_len(&page[1..]);
+        let len = len_before(b'>', &page[1..]);
         return Some((Piece::Tag(&page[1..len + 1]), after(page, len + 2)));
     }
     if first == b'&' {
