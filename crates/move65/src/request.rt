@@ -5,7 +5,7 @@ use clap::ArgMatches;
 use isa65::Cpu;
 use std::alloc::Global;
 use usage65::{
-    Names, Request, RequestFault, UsageFault, address_in, address_of, cpu_of, info_named,
+    Names, Request, RequestFault, UsageFault, address_of, addresses_of, cpu_of, info_named,
     input_named, names_apart, output_named, text_of,
 };
 
@@ -35,23 +35,11 @@ pub fn request_of(alloc: Global, words: &[String]) -> Result<Request<Moving>, Re
     }
 }
 
-/// The addresses of a text, with commas between them.
-fn addresses_of(alloc: Global, text: Option<&str>) -> Result<Vec<u16>, UsageFault> {
-    let mut found = Vec::new(alloc);
-    if let Some(text) = text {
-        let parts: Vec<&str> = text.split(',').collect(alloc)?;
-        for part in &parts {
-            found.push(address_in(part.as_bytes())?)?;
-        }
-    }
-    Ok(found)
-}
-
 /// The run that the matches ask for.
 fn moving_in(alloc: Global, matches: &ArgMatches) -> Result<Moving, RequestFault> {
     let start = address_of(matches, "start")?;
     let cpu = cpu_of(matches, "cpu")?;
-    let entries = addresses_of(alloc, text_of(matches, "entry"))?;
+    let entries = addresses_of(alloc, matches, "entry")?;
     let by = address_of(matches, "by")?.unwrap_or(BY);
     if by == 0 {
         return Err(RequestFault::Usage(UsageFault::OutOfRange));

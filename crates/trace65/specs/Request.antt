@@ -1,12 +1,10 @@
 -- What a command line asks for.
-use Rattle.std.specs.Prelude.{◌==◌, ℕ, Bool, false, List, [], ◌∷◌, Option, Some, None, Result, Ok, Err, codes, if◌then◌else◌, option_map}
-use Rattle.std.specs.List.{slice_split}
+use Rattle.std.specs.Prelude.{ℕ, Bool, false, List, Option, Some, None, Result, Ok, Err, codes, if◌then◌else◌, option_map}
 use Rattle.std.specs.String.{string_bytes}
 use Rattle.clap.specs.Words.{Row, Text, first_of}
 use Rattle.info65.specs.Words.{OptionsView, no_options}
 use Rattle.isa65.specs.declared.cpu.Cpu.{Cpu}
-use Rattle.usage65.specs.Words.{Refusal, TwoOfStandardInput, address_in, cpu_in, given, info_named, is_set, is_taken, or_refused, output_named, ◌>>=◌}
-use Rattle.usage65.specs.declared.fault.UsageFault.{UsageFault}
+use Rattle.usage65.specs.Words.{Refusal, TwoOfStandardInput, address_in, addresses_given, cpu_in, given, info_named, is_set, is_taken, or_refused, output_named, ◌>>=◌}
 use Rattle.trace65.specs.declared.request.Tracing.{Tracing}
 
 -- what is asked for: the options of da65 that say what the image is, the entries, whether no more is followed, whether the information file
@@ -20,28 +18,6 @@ pub record TracingView : Type 0 where
 
 abbrev pub tracing_of : Tracing → TracingView
 tracing_of t = record { options = t.options; entries = t.entries.items; plain = t.plain; whole = t.whole; output = option_map string_bytes t.output }
-
--- ---- the values
-
--- the address of each text, or the first fault
-abbrev pub addresses_in : List Text → Result (List ℕ) UsageFault
-addresses_in [] = Ok []
-addresses_in (text ∷ texts) = address_in text >>= λ a. addresses_in texts >>= λ later. Ok (a ∷ later)
-
--- the texts between the commas
-abbrev pub parts_of : Text → List Text
-parts_of text = slice_split (λ b. b == 44) text
-
--- addresses with commas between them
-unfoldable pub entries_in : Text → Result (List ℕ) UsageFault
-entries_in text = addresses_in (parts_of text)
-
--- without the option there are none
-abbrev pub entries_given : Option Text → Result (List ℕ) UsageFault
-entries_given None = Ok []
-entries_given (Some text) = entries_in text
-
--- ---- the words
 
 -- the options of da65 that have these values, and no others
 abbrev pub options_with : Option Text → Option Text → Option ℕ → Option Cpu → OptionsView
@@ -72,5 +48,5 @@ unfoldable pub traced_in : List Row → Result TracingView Refusal
 traced_in rows =
     or_refused (given address_in (first_of (codes "start") rows)) >>= λ start.
     or_refused (given cpu_in (first_of (codes "cpu") rows)) >>= λ cpu.
-    or_refused (entries_given (first_of (codes "entry") rows)) >>= λ entries.
+    or_refused (addresses_given (first_of (codes "entry") rows)) >>= λ entries.
     traced_with rows start cpu entries

@@ -10,7 +10,6 @@
 mod advice;
 mod check;
 mod command;
-mod entries;
 mod failure;
 mod information;
 mod report;

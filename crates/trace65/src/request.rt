@@ -8,14 +8,13 @@ ghost use Rattle.usage65.specs.Words.{asked, asked_of, text_seen, texts_seen};
 ghost use Rattle.trace65.specs.Words.{is_twice, options_with, this_program, traced_in, tracing_of};
 
 use crate::command::this_program;
-use crate::entries::entries_given;
 use clap::ArgMatches;
 use info65::Options;
 use isa65::Cpu;
 use std::alloc::Global;
 use usage65::{
-    Request, RequestFault, address_of, cpu_of, info_named, is_set, is_taken, output_named, owned,
-    text_of,
+    Request, RequestFault, address_of, addresses_of, cpu_of, info_named, is_set, is_taken,
+    output_named, owned, text_of,
 };
 
 /// What is reached is to be written.
@@ -87,7 +86,7 @@ fn traced_in(alloc: Global, matches: &ArgMatches) -> Result<Tracing, RequestFaul
 {
     let start = address_of(matches, "start")?;
     let cpu = cpu_of(matches, "cpu")?;
-    let entries = entries_given(alloc, text_of(matches, "entry"))?;
+    let entries = addresses_of(alloc, matches, "entry")?;
     let info = info_named(text_of(matches, "info"));
     let image = info_named(text_of(matches, "image"));
     if is_twice(info, image) {

@@ -4,6 +4,7 @@ pub mod Command
 pub mod Help
 pub mod Number
 pub mod Values
+pub mod Addresses
 pub mod FileNames
 pub mod Requests
 pub mod Words

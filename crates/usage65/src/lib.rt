@@ -3,6 +3,7 @@
 //! that they are apart, and why a command line is refused.
 #![tactic(auto)]
 
+mod addresses;
 mod choice;
 mod choices;
 mod fault;
@@ -15,6 +16,7 @@ mod request_fault;
 mod value;
 mod words;
 
+pub use addresses::addresses_of;
 pub use choice::Choice;
 pub use choices::{CPU, ENTRY, FILL, HELP, INFO, NEW_OUTPUT, OUTPUT, START, VERSION};
 pub use fault::UsageFault;

@@ -1,12 +1,15 @@
 //! The addresses of an option, with commas between them.
 
 ghost use Rattle.std.specs.Prelude.{◌≡◌, IfOk, map, vec_items};
+ghost use Rattle.clap.specs.Words.{first_of, found_of, rows_of};
 ghost use Rattle.usage65.specs.Values.{Gives};
-ghost use Rattle.usage65.specs.Words.{text_seen};
-ghost use Rattle.trace65.specs.Words.{addresses_in, entries_given, entries_in, parts_of};
+ghost use Rattle.usage65.specs.Words.{addresses_between, addresses_given, addresses_in, parts_of};
 
+use crate::fault::UsageFault;
+use crate::number::address_in;
+use crate::value::text_of;
+use clap::ArgMatches;
 use std::alloc::{AllocError, Global};
-use usage65::{UsageFault, address_in};
 
 /// The texts between the commas of a text.
 fn parts_of(alloc: Global, text: &str) -> Result<Vec<&str>, AllocError>
@@ -27,19 +30,21 @@ fn addresses_in(alloc: Global, texts: &[&str]) -> Result<Vec<u16>, UsageFault>
 }
 
 /// The addresses of a text, with commas between them.
-#[tactic(auto, unfolding(crate::specs::Request::entries_in))]
-fn entries_in(alloc: Global, text: &str) -> Result<Vec<u16>, UsageFault>
-    ensures { Gives vec_items result (entries_in text.now) }
+#[tactic(auto, unfolding(crate::specs::Addresses::addresses_between))]
+fn addresses_between(alloc: Global, text: &str) -> Result<Vec<u16>, UsageFault>
+    ensures { Gives vec_items result (addresses_between text.now) }
 {
     addresses_in(alloc, &parts_of(alloc, text)?)
 }
 
-/// Returns the addresses that are given as entries, if any are.
-pub fn entries_given(alloc: Global, text: Option<&str>) -> Result<Vec<u16>, UsageFault>
-    ensures { Gives vec_items result (entries_given (text_seen text.entry)) }
+/// Returns the addresses that an option has, with commas between them; none if it is not given. Fails as `address_in` does for the first
+/// that is none.
+pub fn addresses_of(alloc: Global, matches: &ArgMatches, id: &str) -> Result<Vec<u16>, UsageFault>
+    ensures { Gives vec_items result
+        (addresses_given (first_of id.now (rows_of (found_of matches.now)))) }
 {
-    match text {
-        Some(text) => entries_in(alloc, text),
+    match text_of(matches, id) {
+        Some(text) => addresses_between(alloc, text),
         None => Ok(Vec::new(alloc)),
     }
 }

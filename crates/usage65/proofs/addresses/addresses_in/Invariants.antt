@@ -1,8 +1,7 @@
 use Rattle.std.proofs.Common.{◌≡◌, ◌++◌, drop, map}
 use Rattle.std.specs.Prelude.{Ok}
-use Rattle.usage65.specs.Words.{◌>>=◌}
-use Rattle.trace65.specs.Words.{addresses_in}
-use Rattle.trace65.proofs.entries.addresses_in.Given as goal
+use Rattle.usage65.specs.Words.{addresses_in, ◌>>=◌}
+use Rattle.usage65.proofs.addresses.addresses_in.Given as goal
 
 -- the addresses so far, and then those of the texts that are left
 abbrev pub invariant-texts : goal.invariant-texts
