@@ -59,15 +59,11 @@ impl Lines {
             let Some((line, after)) = first_line(rest) else {
                 break;
             };
-            let read = read_line(alloc, Language::Repair, line)?;
-            if let Some(SourceLine::Statement { label, operation }) = read
-                && at < end
+            if at < end
                 && let Ok(address) = u16::try_from(at)
             {
-                if !goes_on && label.is_some() && matches!(operation, Operation::Instr(_, _)) {
-                    lines.routines.set(address);
-                }
-                goes_on = lines.take(scene, address, end.saturating_sub(at), &operation);
+                let len = end.saturating_sub(at);
+                goes_on = lines.take_line(alloc, scene, (address, len), line, goes_on)?;
             }
             at = end;
             rest = after;
@@ -78,6 +74,26 @@ impl Lines {
     /// Whether the byte at a place stays and is a number of its own.
     pub fn is_open(&self, scene: &Scene, place: u16) -> bool {
         self.numbers.get(place) && scene.stays(place)
+    }
+
+    /// Takes a line of so many bytes at an address, behind code that goes on or not. Returns whether code goes on behind it.
+    fn take_line(
+        &mut self,
+        alloc: Global,
+        scene: &Scene,
+        (at, len): (u16, u64),
+        line: &[u8],
+        goes_on: bool,
+    ) -> Result<bool, AllocError> {
+        match read_line(alloc, Language::Repair, line)? {
+            Some(SourceLine::Statement { label, operation }) => {
+                if !goes_on && label.is_some() && matches!(operation, Operation::Instr(_, _)) {
+                    self.routines.set(at);
+                }
+                Ok(self.take(scene, at, len, &operation))
+            }
+            _ => Ok(goes_on),
+        }
     }
 
     /// Takes an operation of so many bytes. Returns whether code goes on behind it.

@@ -16,10 +16,7 @@ use info65::{Tag, TagKind};
 use map65::Marks;
 use run65::{Machine, Registers};
 use std::alloc::{AllocError, Global};
-use stmt65::{
-    AsmFault, AsmFaultKind, Language, Layout, Source, assemble_lines, assemble_source,
-    line_addresses,
-};
+use stmt65::{AsmFault, AsmFaultKind, Assembly, Source, assemble_lines, assemble_source};
 
 /// How often what is found is moved, and both images run again.
 const ROUNDS: usize = 8;
@@ -132,6 +129,53 @@ fn find(
     Ok(found)
 }
 
+/// What the listing of this name means.
+fn assembled<'t, 'b>(
+    alloc: &'b Global,
+    name: &str,
+    source: &Source<'t, '_, '_>,
+) -> Result<Assembly<'t, 'b, Global>, Failure> {
+    match assemble_lines(alloc, source) {
+        Ok(assembly) => Ok(assembly),
+        Err(fault) => {
+            let name = String::from_str(*alloc, name)?;
+            Err(failure_for(fault, Refused::Line(name, fault)))
+        }
+    }
+}
+
+/// Runs both images from these entries, and returns what is written of them.
+fn study(
+    alloc: Global,
+    machine: &mut Both,
+    lines: &Lines,
+    entries: &[u16],
+    tags: &[Tag],
+) -> Result<Moved, AllocError> {
+    let found = find(alloc, machine, lines, entries, tags)?;
+    let report = Report {
+        world: &machine.bus,
+        lines,
+        found: &found,
+    };
+    report.text(alloc)
+}
+
+/// What is written of these lines and both images.
+fn moved(
+    alloc: Global,
+    moving: &Moving,
+    info: &Information,
+    lines: &Lines,
+    scene: Scene,
+) -> Result<Moved, AllocError> {
+    let entries = entries_of(alloc, &moving.entries, &info.tags, &scene)?;
+    let registers = Registers::at(scene.start);
+    let world = World::new(alloc, scene)?;
+    let mut machine = Machine::new(info.cpu, registers, world);
+    study(alloc, &mut machine, lines, &entries, &info.tags)
+}
+
 /// What is written of a listing.
 fn written(
     alloc: Global,
@@ -139,26 +183,10 @@ fn written(
     info: &Information,
     source: &Source<'_, '_, '_>,
 ) -> Result<Moved, Failure> {
-    let assembly = match assemble_lines(&alloc, source) {
-        Ok(assembly) => assembly,
-        Err(fault) => {
-            let name = String::from_str(alloc, moving.names.listing.as_str())?;
-            return Err(failure_for(fault, Refused::Line(name, fault)));
-        }
-    };
-    let tags: &[Tag] = &info.tags;
-    let scene = scene_of(alloc, source, &assembly.bytes, moving.by, tags)?;
+    let assembly = assembled(&alloc, moving.names.listing.as_str(), source)?;
+    let scene = scene_of(alloc, source, &assembly.bytes, moving.by, &info.tags)?;
     let lines = Lines::of(alloc, &scene, source.text, &assembly, &info.named)?;
-    let entries = entries_of(alloc, &moving.entries, tags, &scene)?;
-    let world = World::new(alloc, scene)?;
-    let mut machine = Machine::new(info.cpu, Registers::at(source.start), world);
-    let found = find(alloc, &mut machine, &lines, &entries, tags)?;
-    let report = Report {
-        world: &machine.bus,
-        lines: &lines,
-        found: &found,
-    };
-    Ok(report.text(alloc)?)
+    Ok(moved(alloc, moving, info, &lines, scene)?)
 }
 
 /// What is written of a listing, and of the information file of these bytes.
