@@ -75,14 +75,5 @@ steps_all f k steps all was = record {
 
 -- what the table has at an index
 pub step_here : (f : FlowView) (steps : List (Option Step)) (a i : ℕ) (s : Option Step) → AreSteps f steps → f.map.image.start ≤ a → i ≡ a - f.map.image.start
-    → i < length steps → s ≡ get_or steps i s → IsStep f a s
-step_here f steps a i s are low at within is =
-    let found : slice_get steps (a - f.map.image.start) ≡ Some s = rw (sym at) (slice_get_read steps (length steps) i s refl within is) in
-    subst (IsStep f a) (ap (λ o. unwrap_or o None) found) (are.each a low)
-
--- and past its end
-pub step_past : (f : FlowView) (steps : List (Option Step)) (a i : ℕ) → AreSteps f steps → f.map.image.start ≤ a → i ≡ a - f.map.image.start
-    → length steps ≤ i → IsStep f a None
-step_past f steps a i are low at past =
-    let found : slice_get steps (a - f.map.image.start) ≡ None = rw (sym at) (slice_get_past steps i past) in
-    subst (IsStep f a) (ap (λ o. unwrap_or o None) found) (are.each a low)
+    → s ≡ unwrap_or (slice_get steps i) None → IsStep f a s
+step_here f steps a i s are low at is = rw (is, at) (are.each a low)

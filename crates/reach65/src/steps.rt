@@ -1,6 +1,6 @@
 //! The instructions of an image, each read once.
 
-ghost use Rattle.std.specs.Prelude.{◌≡◌, ◌+◌, ◌≤◌, IfOk, IfSome, length, option_and_then, option_copied};
+ghost use Rattle.std.specs.Prelude.{◌≡◌, ◌+◌, ◌≤◌, IfOk, IfSome, None, length, option_and_then, option_copied, slice_get, unwrap_or};
 ghost use Rattle.isa65.specs.Words.{len_of};
 ghost use Rattle.map65.specs.Words.{only_inside};
 ghost use Rattle.reach65.specs.Words.{AreSteps, IsStep, instruction_at, next_by};
@@ -113,6 +113,13 @@ fn steps_of(alloc: Global, flow: &Flow<'_, '_>) -> Result<Vec<Option<Step>>, All
     Ok(steps)
 }
 
+/// The instruction at an index of the table, if it has one.
+fn entry_of(steps: &[Option<Step>], index: usize) -> Option<&Step>
+    ensures { option_copied result ≡ unwrap_or (slice_get steps.now index) None }
+{
+    steps.get(index)?.as_ref()
+}
+
 /// The instructions of the image of a map, each read once, with the groups `#: ..` of its information file.
 #[derive(Drop)]
 pub struct Steps<'f, 'm> {
@@ -164,6 +171,7 @@ impl<'f, 'm> Steps<'f, 'm> {
     }
 
     /// Returns the instruction that begins at the address, if one does.
+    #[tactic(auto, using(crate::proofs::StepsLemmas::step_here))]
     pub fn at(&self, address: u16) -> Option<&Step>
         /// The instruction leads to the address after it, unless it is `jmp`, `bra`, `rts`, `rti` or `brk`, and to
         /// the target of a branch, or of `jmp` or `jsr` with an absolute address. Each must lie in the image. If a
@@ -174,10 +182,7 @@ impl<'f, 'm> Steps<'f, 'm> {
         if address < start {
             return None;
         }
-        match self.steps.get(usize::from(address - start)) {
-            Some(step) => step.as_ref(),
-            None => None,
-        }
+        entry_of(&self.steps, usize::from(address - start))
     }
 
     /// Returns what begins at the address, if an instruction does.

@@ -15,7 +15,7 @@ use reach65::rules::loads::mark_loaded;
 use reach65::rules::obstacles::Stops;
 use reach65::rules::orphans::mark_orphans;
 use reach65::rules::pointers::mark_pointers;
-use reach65::rules::readers::Table;
+use reach65::rules::readers::{Table, tables_of};
 use reach65::rules::rows::{mark_rows, words_of};
 use reach65::rules::step::Steps;
 use reach65::rules::survey::Survey;
@@ -179,9 +179,7 @@ impl<'a, 'f, 'm: 'a> Advice<'a, 'f, 'm> {
     ) -> Result<Advice<'a, 'f, 'm>, AllocError> {
         let survey = Survey::of(alloc, steps, reach.reached, reach.code)?;
         let said = said_places(alloc, steps.tags())?;
-        let tables = survey
-            .readers
-            .tables(alloc, steps, reach.reached, reach.code)?;
+        let tables = tables_of(alloc, steps, reach.reached, reach.code)?;
         let declared = declared_of(alloc, steps, &tables)?;
         let (mut ground, splits) = ground_of(alloc, steps, &survey, reach, &said, &tables)?;
         let words = words_of(alloc, &ground, &survey, steps.map().info())?;

@@ -4,6 +4,7 @@ use crate::rules::bytes::{address, ends};
 use crate::rules::step::{Step, Steps};
 use crate::rules::survey::{Survey, writes};
 use info65::TagKind;
+use isa65::Mode;
 use std::alloc::{AllocError, Global};
 
 /// How far a table may lie behind the operand that is counted from it.
@@ -22,19 +23,18 @@ fn base_of(steps: &Steps<'_, '_>, survey: &Survey<'_>, reader: u16, step: &Step)
     let operand = step.operand?;
     let from = usize::from(operand);
     let (_, end) = ends(steps.image());
-    if writes(step.op.mnemonic) || !survey.code.get_at(from) {
+    if !matches!(step.op.mode, Mode::Absx | Mode::Absy)
+        || writes(step.op.mnemonic)
+        || !survey.code.get_at(from)
+    {
         return None;
     }
-    for at in from..end.min(from.saturating_add(FAR)) {
-        if !survey.code.get_at(at) {
-            return Some(Base {
-                reader,
-                operand,
-                table: address(at)?,
-            });
-        }
-    }
-    None
+    let table = (from..end.min(from.saturating_add(FAR))).find(|at| !survey.code.get_at(*at))?;
+    Some(Base {
+        reader,
+        operand,
+        table: address(table)?,
+    })
 }
 
 /// Returns the operands with an index that are likely counted from a table behind them, but for those of groups BASE. Fails only if an allocation
@@ -45,7 +45,7 @@ pub fn bases_of(
     survey: &Survey<'_>,
 ) -> Result<Vec<Base>, AllocError> {
     let mut found = Vec::new(alloc);
-    for &reader in &survey.indexed {
+    for &reader in &survey.places {
         if let Some(step) = steps.at(reader)
             && let Some(base) = base_of(steps, survey, reader, step)
             && !steps.tags().iter().any(|tag| tag.kind == TagKind::Base

@@ -16,12 +16,7 @@ fn table_of(steps: &Steps<'_, '_>, tables: &[Table], low: u16, high: u16) -> Tab
     {
         return table;
     }
-    let mut table = Table {
-        low,
-        high,
-        less: 0,
-        is_code: true,
-    };
+    let mut table = Table::of_code(low, high, 0);
     let info = steps.map().info();
     if let Some(address) = table.entry(steps.image(), 0)
         && info.covering(address).is_none()

@@ -1,11 +1,11 @@
 //! Where reading begins.
 
-use crate::rules::bytes::{ends, word};
+use crate::rules::bytes::{addresses, ends, word};
 use crate::rules::growth::LEAST;
 use crate::rules::sound::reads_on;
 use crate::rules::step::Steps;
 use info65::{Entry, RangeType};
-use map65::{Image, Map, return_target};
+use map65::{Image, Map};
 use std::alloc::{AllocError, Global};
 
 /// Returns whether the image has the bytes at $FFFA to $FFFF, where the vectors of the CPU are.
@@ -15,15 +15,15 @@ pub fn has_vectors(image: &Image) -> bool {
 }
 
 /// The address that the entry of a table refers to that begins at the address, if it is one of addresses or of returns.
-fn pointer_at(map: &Map<'_>, at: usize) -> Option<u16> {
-    let address = u16::try_from(at).ok()?;
+fn pointer_at(map: &Map<'_>, address: u16) -> Option<u16> {
     let role = map.role(address)?;
     if map.item_len(address) != 2 {
         return None;
     }
+    let word = word(map.image(), usize::from(address))?;
     match role.layout().entry {
-        Entry::Address => word(map.image(), at),
-        Entry::Return => return_target(word(map.image(), at)?),
+        Entry::Address => Some(word),
+        Entry::Return => word.checked_add(1),
         _ => None,
     }
 }
@@ -35,8 +35,7 @@ pub fn pointers_of(alloc: Global, map: &Map<'_>) -> Result<Vec<u16>, AllocError>
     if map.info().ranges().is_empty() {
         return Ok(found);
     }
-    let (start, end) = ends(map.image());
-    for at in start..end {
+    for at in addresses(map.image()) {
         if let Some(address) = pointer_at(map, at) {
             found.push(address)?;
         }

@@ -1,6 +1,6 @@
 //! The addresses of an image that nothing speaks for, and the words among them that are addresses.
 
-use crate::rules::bytes::{address, ends, word};
+use crate::rules::bytes::{addresses, word};
 use map65::{ADDRESSES, Image, Marks, is_inside};
 use std::alloc::{AllocError, Global};
 
@@ -40,12 +40,8 @@ impl<'i> Ground<'i> {
         texts: Marks,
     ) -> Result<Ground<'i>, AllocError> {
         let mut plain = Marks::none(alloc)?;
-        let (start, end) = ends(image);
-        for at in start..end {
-            if let Some(at) = address(at)
-                && !taken.get(at)
-                && !numbers.get(at)
-            {
+        for at in addresses(image) {
+            if !taken.get(at) && !numbers.get(at) {
                 plain.set(at);
             }
         }

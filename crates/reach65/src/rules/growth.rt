@@ -3,10 +3,10 @@
 use crate::rules::bytes::address;
 use crate::rules::declared::{addresses_of, declared_of};
 use crate::rules::entries::pointers_of;
-use crate::rules::halves::{is_first, pairs_at};
+use crate::rules::halves::pairs_at;
 use crate::rules::jumps::join_jumps;
 use crate::rules::obstacles::{Stops, worst_of};
-use crate::rules::readers::Table;
+use crate::rules::readers::{Table, tables_of};
 use crate::rules::search::{Least, Search};
 use crate::rules::step::Steps;
 use crate::rules::words::Words;
@@ -27,24 +27,7 @@ const SCANS: usize = 8;
 const PIECES: usize = 8;
 
 /// An address that may begin code, and whether it is one right behind what is known.
-#[derive(Clone, Copy, PartialEq, Eq, PartialOrd, Ord)]
-struct Candidate {
-    address: u16,
-    behind: bool,
-}
-
-/// Adds an address that may begin code, unless a reached instruction has it: it would share a byte with that.
-fn put_candidate(
-    found: &mut Vec<Candidate>,
-    search: &Search<'_, '_, '_>,
-    address: u16,
-    behind: bool,
-) -> Result<(), AllocError> {
-    if !search.code.get(address) && !search.marks.get(address) {
-        found.push(Candidate { address, behind })?;
-    }
-    Ok(())
-}
+type Candidate = (u16, bool);
 
 /// Adds the addresses that a reached instruction gives: the one behind it and its text, and those that it begins to load in halves.
 fn put_candidates_of(
@@ -55,19 +38,17 @@ fn put_candidates_of(
     let Some(placed) = search.steps.marked(&search.marks, reason) else {
         return Ok(());
     };
-    if is_first(placed.step.op) {
-        for pair in pairs_at(search.steps, &search.marks, placed) {
-            if let Some(pair) = pair
-                && search.steps.image().start() <= pair.address
-                && pair.is_plausible()
-                && let Some(meant) = address(pair.meant())
-            {
-                put_candidate(found, search, meant, false)?;
-            }
+    for pair in pairs_at(search.steps, &search.marks, placed) {
+        if let Some(pair) = pair
+            && search.steps.image().start() <= pair.address
+            && pair.is_plausible()
+            && let Some(meant) = address(pair.meant())
+        {
+            found.push((meant, false))?;
         }
     }
     if let Some(end) = placed.step.end {
-        put_candidate(found, search, end, true)?;
+        found.push((end, true))?;
     }
     Ok(())
 }
@@ -119,9 +100,8 @@ fn chain_of(
 fn join_candidate(
     alloc: Global,
     search: &mut Search<'_, '_, '_>,
-    candidate: Candidate,
+    (address, behind): Candidate,
 ) -> Result<(), AllocError> {
-    let Candidate { address, behind } = candidate;
     if search.marks.get(address) || search.is_tired() {
         return Ok(());
     }
@@ -135,7 +115,8 @@ fn join_candidate(
     Ok(())
 }
 
-/// Lets the sound beginnings join that these reached instructions give, and those right behind rows, in the order of their addresses.
+/// Lets the sound beginnings join that these reached instructions give, and those right behind rows, in the order of their addresses; but none that a
+/// reached instruction has: it would share a byte with that.
 fn join_candidates(
     alloc: Global,
     search: &mut Search<'_, '_, '_>,
@@ -147,8 +128,9 @@ fn join_candidates(
         put_candidates_of(&mut candidates, search, reason)?;
     }
     for &address in behind {
-        put_candidate(&mut candidates, search, address, true)?;
+        candidates.push((address, true))?;
     }
+    candidates.retain(|candidate| !search.code.get(candidate.0) && !search.marks.get(candidate.0));
     candidates.sort()?;
     for &candidate in &candidates {
         join_candidate(alloc, search, candidate)?;
@@ -201,9 +183,7 @@ fn join_table(search: &mut Search<'_, '_, '_>, table: Table) -> Result<(), Alloc
 /// halves.
 fn join_tables(alloc: Global, search: &mut Search<'_, '_, '_>) -> Result<(), AllocError> {
     let steps = search.steps;
-    let tables = search
-        .readers
-        .tables(alloc, steps, &search.marks, &search.code)?;
+    let tables = tables_of(alloc, steps, &search.marks, &search.code)?;
     for &table in &tables {
         if table.is_code {
             join_table(search, table)?;

@@ -13,6 +13,9 @@ const BETWEEN: usize = 8;
 /// The rank of bytes that are pushed.
 const PUSHED: u8 = 9;
 
+/// Where the first of two stores through a pointer goes, as if the pointer were known.
+const PLACE: u16 = 0x80;
+
 /// Two immediates that form an address.
 #[derive(Clone, Copy, Debug, PartialEq, Eq)]
 pub struct Pair {
@@ -29,24 +32,40 @@ pub struct Pair {
     rank: u8,
 }
 
-/// An immediate that may be half of an address, and the instruction that loads or adds it.
-#[derive(Clone, Copy)]
-struct Half {
-    place: u16,
-    byte: u8,
-    by: Mnemonic,
-}
-
 impl Pair {
-    /// The pair of these halves.
-    fn of(rank: u8, low: Half, high: Half) -> Pair {
-        Pair {
-            low: low.place,
-            high: high.place,
-            address: u16::from_le_bytes([low.byte, high.byte]),
+    /// The pair of the immediates of these instructions.
+    fn of(rank: u8, low: Placed<'_>, high: Placed<'_>) -> Option<Pair> {
+        Some(Pair {
+            low: low.at.checked_add(1)?,
+            high: high.at.checked_add(1)?,
+            address: u16::from_le_bytes([low.step.byte?, high.step.byte?]),
             less: u16::from(rank == PUSHED),
             rank,
+        })
+    }
+
+    /// The pair of the immediates that are stored to these places, if those are neighbours.
+    fn of_neighbours(rank: u8, one: (Placed<'_>, u16), two: (Placed<'_>, u16)) -> Option<Pair> {
+        if one.1.checked_add(1) == Some(two.1) {
+            Pair::of(rank, one.0, two.0)
+        } else if two.1.checked_add(1) == Some(one.1) {
+            Pair::of(rank, two.0, one.0)
+        } else {
+            None
         }
+    }
+
+    /// The pair of two loads of different registers. Its rank is that of the registers.
+    fn of_loads(low: Placed<'_>, high: Placed<'_>) -> Option<Pair> {
+        let rank = match (low.step.op.mnemonic, high.step.op.mnemonic) {
+            (Mnemonic::Lda, Mnemonic::Ldx) => 1,
+            (Mnemonic::Ldx, Mnemonic::Ldy) => 2,
+            (Mnemonic::Lda, _) => 3,
+            (Mnemonic::Ldx, _) => 4,
+            (_, Mnemonic::Lda) => 5,
+            _ => 6,
+        };
+        Pair::of(rank, low, high)
     }
 
     /// Returns the address that is meant.
@@ -65,37 +84,14 @@ impl Pair {
     }
 }
 
-/// Returns whether the instruction may be the first of a pair: it loads an immediate, or is `clc`.
-pub fn is_first(op: Op) -> bool {
-    op.mode == Mode::Imm || op.mnemonic == Mnemonic::Clc
+/// Whether the instruction loads an immediate into a register.
+fn is_load(op: Op) -> bool {
+    op.mode == Mode::Imm && matches!(op.mnemonic, Mnemonic::Lda | Mnemonic::Ldx | Mnemonic::Ldy)
 }
 
-/// The immediate of the instruction, if it has one.
-fn half_of(placed: Placed<'_>) -> Option<Half> {
-    if placed.step.op.mode != Mode::Imm {
-        return None;
-    }
-    Some(Half {
-        place: placed.at.checked_add(1)?,
-        byte: placed.step.byte?,
-        by: placed.step.op.mnemonic,
-    })
-}
-
-/// The immediate that the instruction loads into a register, if it does.
-fn load_of(placed: Placed<'_>) -> Option<Half> {
-    match placed.step.op.mnemonic {
-        Mnemonic::Lda | Mnemonic::Ldx | Mnemonic::Ldy => half_of(placed),
-        _ => None,
-    }
-}
-
-/// The immediate that the instruction adds, if it does.
-fn added_by(placed: Placed<'_>) -> Option<Half> {
-    match placed.step.op.mnemonic {
-        Mnemonic::Adc => half_of(placed),
-        _ => None,
-    }
+/// Whether it adds an immediate.
+fn is_sum(op: Op) -> bool {
+    op.mode == Mode::Imm && op.mnemonic == Mnemonic::Adc
 }
 
 /// Returns the address to which the instruction stores a register, if it does.
@@ -104,43 +100,6 @@ pub fn stored_to(step: &Step) -> Option<u16> {
         (Mnemonic::Sta | Mnemonic::Stx | Mnemonic::Sty, Mode::Abs) => step.operand,
         (Mnemonic::Sta | Mnemonic::Stx | Mnemonic::Sty, Mode::Zp) => step.byte.map(u16::from),
         _ => None,
-    }
-}
-
-/// Whether the first instruction stores the register that the second one loads.
-fn stores_what(stores: Mnemonic, loads: Mnemonic) -> bool {
-    match loads {
-        Mnemonic::Lda => stores == Mnemonic::Sta,
-        Mnemonic::Ldx => stores == Mnemonic::Stx,
-        _ => stores == Mnemonic::Sty,
-    }
-}
-
-/// The pair of two loads of different registers, the low half first. Its rank is that of the registers.
-fn loaded(low: Half, high: Half) -> Pair {
-    let rank = match (low.by, high.by) {
-        (Mnemonic::Lda, Mnemonic::Ldx) => 1,
-        (Mnemonic::Ldx, Mnemonic::Ldy) => 2,
-        (Mnemonic::Lda, _) => 3,
-        (Mnemonic::Ldx, _) => 4,
-        (_, Mnemonic::Lda) => 5,
-        _ => 6,
-    };
-    Pair::of(rank, low, high)
-}
-
-/// The pair of two loads of a register that these instructions store to neighbours.
-fn stored(then: &Step, last: &Step, one: Half, two: Half) -> Option<Pair> {
-    let to = stored_to(then)?;
-    let other = stored_to(last)?;
-    if !stores_what(then.op.mnemonic, one.by) || then.op.mnemonic != last.op.mnemonic {
-        None
-    } else if to.checked_add(1) == Some(other) {
-        Some(Pair::of(0, one, two))
-    } else if other.checked_add(1) == Some(to) {
-        Some(Pair::of(0, two, one))
-    } else {
-        None
     }
 }
 
@@ -157,50 +116,46 @@ impl<'a, 'f, 'm> Code<'a, 'f, 'm> {
         self.steps.behind(self.marks, placed)
     }
 
-    /// The pair of a load and what keeps it, and the same again of the same register: two stores to neighbours, or `pha` for `rts`, where the high
-    /// half comes first.
-    fn kept_twice(&self, one: Half, then: Placed<'a>) -> Option<Pair> {
-        let second = self.behind(then)?;
-        let two = load_of(second)?;
-        if two.by != one.by {
+    /// The pair of two loads of one register, each with what keeps it: two stores to neighbours, or `pha` for `rts`, where the high half comes
+    /// first.
+    fn kept_twice(&self, one: Placed<'a>, then: Placed<'a>) -> Option<Pair> {
+        let two = self.behind(then)?;
+        let last = self.behind(two)?;
+        let keeps = then.step.op.mnemonic;
+        if two.step.op != one.step.op || last.step.op.mnemonic != keeps {
             return None;
         }
-        let last = self.behind(second)?;
-        if then.step.op.mnemonic != Mnemonic::Pha {
-            stored(then.step, last.step, one, two)
-        } else if one.by == Mnemonic::Lda && last.step.op.mnemonic == Mnemonic::Pha {
-            Some(Pair::of(PUSHED, two, one))
-        } else {
-            None
+        match (one.step.op.mnemonic, keeps) {
+            (Mnemonic::Lda, Mnemonic::Pha) => Pair::of(PUSHED, two, one),
+            (Mnemonic::Lda, Mnemonic::Sta)
+            | (Mnemonic::Ldx, Mnemonic::Stx)
+            | (Mnemonic::Ldy, Mnemonic::Sty) => {
+                let to = stored_to(then.step)?;
+                Pair::of_neighbours(0, (one, to), (two, stored_to(last.step)?))
+            }
+            _ => None,
         }
     }
 
     /// The pair that is stored through a pointer: `lda #`, `sta (p),y` here, and the same again after one `iny` or `dey`, with other
     /// instructions between them.
-    fn stored_twice(&self, one: Half, store: Placed<'a>) -> Option<Pair> {
+    fn stored_twice(&self, one: Placed<'a>, store: Placed<'a>) -> Option<Pair> {
         let pointer = stored_through(store.step)?;
-        if one.by != Mnemonic::Lda {
+        if one.step.op.mnemonic != Mnemonic::Lda {
             return None;
         }
         let mut then = self.behind(store)?;
-        let (mut up, mut down) = (0u8, 0u8);
+        let mut to = PLACE;
         for _ in 0..BETWEEN {
             match then.step.op.mnemonic {
-                Mnemonic::Iny => up = up.saturating_add(1),
-                Mnemonic::Dey => down = down.saturating_add(1),
+                Mnemonic::Iny => to = to.saturating_add(1),
+                Mnemonic::Dey => to = to.saturating_sub(1),
                 Mnemonic::Jsr => return None,
                 Mnemonic::Lda if then.step.op.mode == Mode::Imm => {
-                    let two = half_of(then)?;
-                    let again = self.behind(then)?;
-                    return if stored_through(again.step)? != pointer {
-                        None
-                    } else if up == down.saturating_add(1) {
-                        Some(Pair::of(7, one, two))
-                    } else if down == up.saturating_add(1) {
-                        Some(Pair::of(7, two, one))
-                    } else {
-                        None
-                    };
+                    if stored_through(self.behind(then)?.step)? != pointer {
+                        return None;
+                    }
+                    return Pair::of_neighbours(7, (one, PLACE), (then, to));
                 }
                 _ => {}
             }
@@ -215,39 +170,38 @@ impl<'a, 'f, 'm> Code<'a, 'f, 'm> {
         if first.step.op.mnemonic != Mnemonic::Clc {
             return None;
         }
-        let second = self.behind(first)?;
-        let low = added_by(second)?;
-        let takes = self.behind(second)?;
+        let low = self.behind(first)?;
+        let takes = self.behind(low)?;
         let brings = self.behind(takes)?;
-        if !keeps_carry(takes.step.op) || !keeps_carry(brings.step.op) {
-            return None;
+        let high = self.behind(brings)?;
+        let keeps = keeps_carry(takes.step.op) && keeps_carry(brings.step.op);
+        if keeps && is_sum(low.step.op) && is_sum(high.step.op) {
+            Pair::of(8, low, high)
+        } else {
+            None
         }
-        let high = added_by(self.behind(brings)?)?;
-        Some(Pair::of(8, low, high))
     }
 
     /// The pairs of which this instruction is the first.
-    fn pairs_of(&self, first: Placed<'a>) -> [Option<Pair>; 3] {
-        let Some(one) = load_of(first) else {
-            return [self.added_twice(first), None, None];
-        };
-        let Some(then) = self.behind(first) else {
+    fn pairs_of(&self, one: Placed<'a>) -> [Option<Pair>; 3] {
+        if !is_load(one.step.op) {
+            return [self.added_twice(one), None, None];
+        }
+        let Some(two) = self.behind(one) else {
             return [None; 3];
         };
-        let Some(two) = load_of(then) else {
-            return match self.kept_twice(one, then) {
-                None => [self.stored_twice(one, then), None, None],
-                kept => [kept, None, None],
-            };
-        };
-        if one.by == two.by {
+        if !is_load(two.step.op) {
+            let kept = self.kept_twice(one, two);
+            return [kept.or(self.stored_twice(one, two)), None, None];
+        }
+        if one.step.op == two.step.op {
             return [None; 3];
         }
-        let through = match self.behind(then) {
-            Some(store) if two.by == Mnemonic::Ldy => self.stored_twice(one, store),
+        let through = match self.behind(two) {
+            Some(store) if two.step.op.mnemonic == Mnemonic::Ldy => self.stored_twice(one, store),
             _ => None,
         };
-        [Some(loaded(one, two)), Some(loaded(two, one)), through]
+        [Pair::of_loads(one, two), Pair::of_loads(two, one), through]
     }
 }
 
@@ -308,16 +262,18 @@ pub struct Halves {
     pub likely: Vec<Pair>,
 }
 
-/// The pairs of immediates in reached code that may be an address from the start of the image to before `limit`, from the lowest rank on.
+/// The pairs of immediates in reached code that may be an address from the start of the image to before `limit`, and whether each is only likely. The
+/// sure ones come first, and of these and of the others those of lower ranks.
 fn pairs_of(
     alloc: Global,
     steps: &Steps<'_, '_>,
     survey: &Survey<'_>,
+    items: &Marks,
     limit: usize,
-) -> Result<Vec<Pair>, AllocError> {
+) -> Result<Vec<(bool, Pair)>, AllocError> {
     let start = steps.image().start();
     let mut pairs = Vec::new(alloc);
-    for &at in &survey.firsts {
+    for &at in &survey.places {
         let Some(first) = steps.marked(survey.reached, at) else {
             continue;
         };
@@ -328,22 +284,12 @@ fn pairs_of(
                 && (pair.less == 0 && survey.is_likely(pair.address)
                     || survey.is_routine(pair.meant()))
             {
-                pairs.push(pair)?;
+                pairs.push((!is_sure(steps, survey, items, pair), pair))?;
             }
         }
     }
-    pairs.sort_by_key(|pair| pair.rank)?;
+    pairs.sort_by_key(|(is_likely, pair)| (*is_likely, pair.rank))?;
     Ok(pairs)
-}
-
-/// Keeps the pair, unless another one has one of its bytes.
-fn keep(found: &mut Vec<Pair>, used: &mut Marks, pair: Pair) -> Result<(), AllocError> {
-    if !used.get(pair.low) && !used.get(pair.high) {
-        used.set(pair.low);
-        used.set(pair.high);
-        found.push(pair)?;
-    }
-    Ok(())
 }
 
 /// Returns each pair of immediates in reached code that is an address, by the places of their low bytes: no reached instruction has that
@@ -357,22 +303,24 @@ pub fn halves_of(
     said: Marks,
     limit: usize,
 ) -> Result<Halves, AllocError> {
-    let pairs = pairs_of(alloc, steps, survey, limit)?;
     let mut used = said;
-    let mut sure = Vec::new(alloc);
-    let mut others = Vec::new(alloc);
-    for &pair in pairs.as_slice() {
-        if is_sure(steps, survey, items, pair) {
-            keep(&mut sure, &mut used, pair)?;
+    let mut found = Halves {
+        sure: Vec::new(alloc),
+        likely: Vec::new(alloc),
+    };
+    for &(is_likely, pair) in &pairs_of(alloc, steps, survey, items, limit)? {
+        if used.get(pair.low) || used.get(pair.high) {
+            continue;
+        }
+        used.set(pair.low);
+        used.set(pair.high);
+        if is_likely {
+            found.likely.push(pair)?;
         } else {
-            others.push(pair)?;
+            found.sure.push(pair)?;
         }
     }
-    let mut likely = Vec::new(alloc);
-    for &pair in others.as_slice() {
-        keep(&mut likely, &mut used, pair)?;
-    }
-    sure.sort_by_key(|pair| pair.low)?;
-    likely.sort_by_key(|pair| pair.low)?;
-    Ok(Halves { sure, likely })
+    found.sure.sort_by_key(|pair| pair.low)?;
+    found.likely.sort_by_key(|pair| pair.low)?;
+    Ok(found)
 }

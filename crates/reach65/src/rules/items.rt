@@ -1,6 +1,6 @@
 //! Which instructions are listed as such.
 
-use crate::rules::bytes::{address, ends};
+use crate::rules::bytes::{address, addresses};
 use crate::rules::step::Steps;
 use map65::{Map, Marks};
 use std::alloc::{AllocError, Global};
@@ -21,26 +21,17 @@ pub fn items_of(alloc: Global, steps: &Steps<'_, '_>, taken: &Marks) -> Result<M
     }
     borders.sort()?;
     let mut items = Marks::none(alloc)?;
-    let (start, end) = ends(steps.image());
-    let mut next = start;
-    for at in start..end {
-        let Some(first) = address(at) else {
-            continue;
-        };
-        if at < next || !taken.get(first) {
-            continue;
-        }
-        let Some(step) = steps.at(first) else {
-            continue;
-        };
-        let after = at.saturating_add(step.len());
-        let mut is_whole = true;
-        for inner in at.saturating_add(1)..after {
-            if !is_code(map, taken, inner) || borders.binary_search(&inner).is_ok() {
-                is_whole = false;
-            }
-        }
-        if is_whole {
+    let mut next = 0;
+    for first in addresses(steps.image()) {
+        let at = usize::from(first);
+        let after = at.saturating_add(steps.len_at(first));
+        if next <= at
+            && at < after
+            && taken.get(first)
+            && (at.saturating_add(1)..after).all(|inner| {
+                is_code(map, taken, inner) && borders.binary_search(&inner).is_err()
+            })
+        {
             items.set(first);
             next = after;
         }

@@ -25,14 +25,8 @@ fn target(steps: &Steps<'_, '_>, at: usize) -> Option<u16> {
 
 /// How many jumps stand at the address and behind it.
 fn count_at(steps: &Steps<'_, '_>, from: usize, end: usize) -> usize {
-    let mut count = 0usize;
-    for at in (from..end).step_by(JUMP) {
-        if target(steps, at).is_none() {
-            break;
-        }
-        count = count.saturating_add(1);
-    }
-    count
+    let places = (from..end).step_by(JUMP);
+    places.take_while(|at| target(steps, *at).is_some()).count()
 }
 
 /// Whether three quarters of the jumps of a row lead to code, and one at least is not reached.

@@ -60,17 +60,14 @@ pub fn obstacle_of(steps: &Steps<'_, '_>, address: u16) -> u16 {
 /// Returns those of the obstacles that keep the most bytes from being code, three at most, from the worst on. Fails only if an allocation
 /// failed.
 pub fn worst_of(alloc: Global, obstacles: &[Obstacle]) -> Result<Vec<Obstacle>, AllocError> {
-    let mut by_address = Vec::from_slice(alloc, obstacles)?;
-    by_address.sort_by_key(|obstacle| (obstacle.address, Reverse(obstacle.bytes)))?;
-    let mut found = Vec::new(alloc);
-    let mut last = None;
-    for &obstacle in &by_address {
-        if last != Some(obstacle.address) && LEAST <= obstacle.bytes {
+    let mut sorted = Vec::from_slice(alloc, obstacles)?;
+    sorted.sort_by_key(|obstacle| (Reverse(obstacle.bytes), obstacle.address))?;
+    let mut found: Vec<Obstacle> = Vec::new(alloc);
+    for &obstacle in &sorted {
+        let is_new = !found.iter().any(|other| other.address == obstacle.address);
+        if found.len() < MOST && LEAST <= obstacle.bytes && is_new {
             found.push(obstacle)?;
         }
-        last = Some(obstacle.address);
     }
-    found.sort_by_key(|obstacle| (Reverse(obstacle.bytes), obstacle.address))?;
-    found.truncate(MOST);
     Ok(found)
 }

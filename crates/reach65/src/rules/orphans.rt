@@ -12,8 +12,7 @@ const MOST: usize = 2;
 
 /// Marks the address, and the one after it.
 fn set_two(marks: &mut Marks, address: u16) {
-    marks.set(address);
-    marks.set(address.saturating_add(1));
+    marks.set_span(usize::from(address), usize::from(address) + 2);
 }
 
 /// The addresses to which an operand, a half, or a word of a row refers.

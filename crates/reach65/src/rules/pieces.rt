@@ -5,6 +5,7 @@ use crate::rules::ground::Ground;
 use crate::rules::texts::{ALPHABETS, Alphabet, Chars};
 use info65::RangeType;
 use std::alloc::{AllocError, Global};
+use std::ops::Range;
 
 /// The least number of equal bytes that are filler.
 const FILLER: u32 = 16;
@@ -63,20 +64,18 @@ fn begins_backward(alloc: Global, ground: &Ground<'_>) -> Result<Vec<Begins>, Al
             1
         };
         after = here;
-        let Some(byte) = here else {
-            tails = [Chars::none(); 3];
-            found.push(Begins::Nothing)?;
-            continue;
+        let count = match here {
+            Some(byte) if run < FILLER => longest_with(&mut tails, byte),
+            _ => {
+                tails = [Chars::none(); 3];
+                0
+            }
         };
-        if FILLER <= run {
-            tails = [Chars::none(); 3];
-            found.push(Begins::Filler)?;
-        } else {
-            found.push(match longest_with(&mut tails, byte) {
-                0 => Begins::Nothing,
-                count => Begins::Text(count),
-            })?;
-        }
+        found.push(match count {
+            0 if FILLER <= run => Begins::Filler,
+            0 => Begins::Nothing,
+            count => Begins::Text(count),
+        })?;
     }
     found.reverse();
     Ok(found)
@@ -96,10 +95,8 @@ impl<'g, 'i> Pieces<'g, 'i> {
 
     /// What begins at the address.
     fn begins_at(&self, at: usize) -> Begins {
-        match self.begins.get(at.saturating_sub(self.start)) {
-            Some(begins) => *begins,
-            None => Begins::Nothing,
-        }
+        let begins = self.begins.get(at.saturating_sub(self.start)).copied();
+        begins.unwrap_or(Begins::Nothing)
     }
 
     /// The first address after this one that fails the test, or the end of the image.
@@ -114,28 +111,14 @@ impl<'g, 'i> Pieces<'g, 'i> {
         self.end
     }
 
-    /// Where a text that is known ends: after its zero byte.
-    fn known_end(&self, from: usize) -> usize {
-        for at in from..self.end {
-            if !self.ground.is_free(at) {
-                return at;
-            }
-            if byte(self.ground.image, at) == Some(0) {
-                return at.saturating_add(1);
-            }
+    /// The type of a text at these addresses.
+    fn text_type(&self, mut text: Range<usize>) -> RangeType {
+        let image = self.ground.image;
+        if text.all(|at| byte(image, at).is_some_and(|byte| Alphabet::Ascii.is_char(byte))) {
+            RangeType::TextTable
+        } else {
+            RangeType::ByteTable
         }
-        self.end
-    }
-
-    /// The type of a text of this many bytes.
-    fn text_type(&self, from: usize, count: usize) -> RangeType {
-        for at in from..from.saturating_add(count) {
-            match byte(self.ground.image, at) {
-                Some(byte) if Alphabet::Ascii.is_char(byte) => {}
-                _ => return RangeType::ByteTable,
-            }
-        }
-        RangeType::TextTable
     }
 
     /// Returns what is proposed for the address and those after it, and where that ends: an ADDRTABLE for words that are addresses, an
@@ -145,7 +128,10 @@ impl<'g, 'i> Pieces<'g, 'i> {
         let ground = self.ground;
         let at = usize::from(first);
         if ground.texts.get(first) {
-            return (RangeType::TextTable, self.known_end(at));
+            let end = self.end_of(at, |a| {
+                ground.is_free(a) && byte(ground.image, a.saturating_sub(1)) != Some(0)
+            });
+            return (RangeType::TextTable, end);
         }
         for (marks, role) in [
             (&ground.words, RangeType::AddrTable),
@@ -168,8 +154,8 @@ impl<'g, 'i> Pieces<'g, 'i> {
                 (RangeType::ByteTable, end)
             }
             Begins::Text(count) => {
-                let count = count as usize;
-                (self.text_type(at, count), at.saturating_add(count))
+                let end = at.saturating_add(count as usize);
+                (self.text_type(at..end), end)
             }
             Begins::Nothing => {
                 let end = self.end_of(at, |a| {

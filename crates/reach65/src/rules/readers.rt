@@ -1,6 +1,6 @@
 //! Tables by the instructions that read them.
 
-use crate::rules::bytes::{address, byte};
+use crate::rules::bytes::{address, addresses, byte};
 use crate::rules::growth::IN_TABLE;
 use crate::rules::halves::stored_to;
 use crate::rules::sound::reads_on;
@@ -23,6 +23,16 @@ pub struct Table {
 }
 
 impl Table {
+    /// Returns the table of addresses of code, less so much.
+    pub fn of_code(low: u16, high: u16, less: u16) -> Table {
+        Table {
+            low,
+            high,
+            less,
+            is_code: true,
+        }
+    }
+
     /// Returns whether the low and the high bytes stand in words, and not in two tables.
     pub fn has_words(&self) -> bool {
         usize::from(self.high) == usize::from(self.low) + 1
@@ -47,12 +57,10 @@ impl Table {
 
     /// Returns how many entries it may have: the two tables of halves do not meet.
     pub fn most(&self) -> usize {
-        let apart = usize::from(self.low.max(self.high) - self.low.min(self.high));
         if self.has_words() {
-            MOST
-        } else {
-            apart.min(MOST)
+            return MOST;
         }
+        usize::from(self.low.abs_diff(self.high)).min(MOST)
     }
 
     /// Returns whether one of two tables of halves begins right behind the other: three quarters of the entries up to there lead to what reads as
@@ -62,16 +70,11 @@ impl Table {
             return false;
         }
         let count = self.most();
-        let mut bad = 0usize;
-        for index in 0..count {
-            if !reads_on(steps, self.entry(steps.image(), index), IN_TABLE) {
-                bad = bad.saturating_add(1);
-            }
-            if count / 4 < bad {
-                return false;
-            }
-        }
-        1 < count
+        let bad = (0..count)
+            .filter(|index| !reads_on(steps, self.entry(steps.image(), *index), IN_TABLE))
+            .take(count / 4 + 1)
+            .count();
+        1 < count && bad <= count / 4
     }
 
     /// Returns the tables of halves without the entries that code has, if it has the first one: an index may begin at another number than 0.
@@ -97,33 +100,20 @@ fn indexed(step: &Step) -> Option<u16> {
     }
 }
 
-/// The instructions of reached code that read tables, and what code does with pointers.
+/// What reached code does with pointers.
 #[derive(Drop)]
-pub struct Readers {
-    /// Where those begin that have an index, or jump through a table.
-    at: Vec<u16>,
-    /// Code jumps through the pointer.
+struct Pointers {
+    /// It jumps through the pointer. The operand of a jump or a call is one too: other code may store to it.
     jumps: Marks,
-    /// It loads or stores through it.
+    /// It loads or stores through the pointer.
     others: Marks,
 }
 
-impl Readers {
-    /// Returns none. Fails only if an allocation failed.
-    pub fn none(alloc: Global) -> Result<Readers, AllocError> {
-        Ok(Readers {
-            at: Vec::new(alloc),
-            jumps: Marks::none(alloc)?,
-            others: Marks::none(alloc)?,
-        })
-    }
-
-    /// Adds what the instruction does. The operand of a jump or a call is a pointer too: other code may store to it. Fails only if an allocation
-    /// failed.
-    pub fn put(&mut self, placed: Placed<'_>) -> Result<(), AllocError> {
+impl Pointers {
+    /// Adds what the instruction does.
+    fn put(&mut self, placed: Placed<'_>) {
         let Placed { at, step } = placed;
         match (step.op.mode, step.operand, step.byte) {
-            (Mode::Absx | Mode::Absy | Mode::Absindx, _, _) => self.at.push(at)?,
             (Mode::Ind, Some(pointer), _) => self.jumps.set(pointer),
             (Mode::Indx | Mode::Indy | Mode::Zpind, _, Some(pointer)) => {
                 self.others.set(u16::from(pointer));
@@ -131,7 +121,6 @@ impl Readers {
             (Mode::Abs, Some(_), _) if step.to.is_some() => self.jumps.set(at.saturating_add(1)),
             _ => {}
         }
-        Ok(())
     }
 
     /// The table that this instruction and those behind it read: two loads with an index, each pushed or stored to one byte of a pointer.
@@ -139,12 +128,7 @@ impl Readers {
         let first = steps.marked(reached, at)?;
         if first.step.op.mode == Mode::Absindx {
             let low = first.step.operand?;
-            return Some(Table {
-                low,
-                high: low.checked_add(1)?,
-                less: 0,
-                is_code: true,
-            });
+            return Some(Table::of_code(low, low.checked_add(1)?, 0));
         }
         let one = indexed(first.step)?;
         let keeps = steps.behind(reached, first)?;
@@ -152,12 +136,7 @@ impl Readers {
         let other = indexed(second.step)?;
         let last = steps.behind(reached, second)?;
         if keeps.step.op.mnemonic == Mnemonic::Pha && last.step.op.mnemonic == Mnemonic::Pha {
-            return Some(Table {
-                low: other,
-                high: one,
-                less: 1,
-                is_code: true,
-            });
+            return Some(Table::of_code(other, one, 1));
         }
         let to = stored_to(keeps.step)?;
         let other_to = stored_to(last.step)?;
@@ -166,37 +145,42 @@ impl Readers {
         if to.max(other_to) - pointer != 1 || !is_code && !self.others.get(pointer) {
             return None;
         }
-        let (low, high) = if to < other_to {
-            (one, other)
+        let table = if to < other_to {
+            Table::of_code(one, other, 0)
         } else {
-            (other, one)
+            Table::of_code(other, one, 0)
         };
-        Some(Table {
-            low,
-            high,
-            less: 0,
-            is_code,
-        })
+        Some(Table { is_code, ..table })
     }
+}
 
-    /// Returns the tables that reached code reads, which has these bytes, in the order of the instructions. Fails only if an allocation failed.
-    pub fn tables(
-        &self,
-        alloc: Global,
-        steps: &Steps<'_, '_>,
-        reached: &Marks,
-        code: &Marks,
-    ) -> Result<Vec<Table>, AllocError> {
-        let mut readers = Vec::from_slice(alloc, &self.at)?;
-        readers.sort()?;
-        let mut found = Vec::new(alloc);
-        for &at in &readers {
-            if let Some(table) = self.table_at(steps, reached, at) {
-                let behind = table.behind(code);
-                let is_better = behind.low != table.low && behind.is_whole(steps);
-                found.push(if is_better { behind } else { table })?;
+/// Returns the tables that reached code reads, which has these bytes, in the order of the instructions. Fails only if an allocation failed.
+pub fn tables_of(
+    alloc: Global,
+    steps: &Steps<'_, '_>,
+    reached: &Marks,
+    code: &Marks,
+) -> Result<Vec<Table>, AllocError> {
+    let mut pointers = Pointers {
+        jumps: Marks::none(alloc)?,
+        others: Marks::none(alloc)?,
+    };
+    let mut readers = Vec::new(alloc);
+    for at in addresses(steps.image()) {
+        if let Some(placed) = steps.marked(reached, at) {
+            pointers.put(placed);
+            if matches!(placed.step.op.mode, Mode::Absx | Mode::Absy | Mode::Absindx) {
+                readers.push(at)?;
             }
         }
-        Ok(found)
     }
+    let mut found = Vec::new(alloc);
+    for &at in &readers {
+        if let Some(table) = pointers.table_at(steps, reached, at) {
+            let behind = table.behind(code);
+            let is_better = behind.low != table.low && behind.is_whole(steps);
+            found.push(if is_better { behind } else { table })?;
+        }
+    }
+    Ok(found)
 }

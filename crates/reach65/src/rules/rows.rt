@@ -1,6 +1,6 @@
 //! Rows of words that are addresses of routines.
 
-use crate::rules::bytes::{address, ends};
+use crate::rules::bytes::{addresses, ends};
 use crate::rules::ground::Ground;
 use crate::rules::survey::Survey;
 use crate::rules::words::ROW;
@@ -15,24 +15,17 @@ fn leads(ground: &Ground<'_>, survey: &Survey<'_>, less: u16, at: usize) -> bool
     )))
 }
 
-/// How far a row reaches that begins with such a word, which has three words at least, and first two different ones: each word, and this much more, is the address of a
-/// routine.
-fn row_end(ground: &Ground<'_>, survey: &Survey<'_>, less: u16, from: usize, end: usize) -> usize {
-    if ground.word(from) == ground.word(from.saturating_add(2)) {
-        return from;
+/// How many words a row has that begins at the address: each, and this much more, is the address of a routine, there are three at least, and the first
+/// two are different.
+fn row_len(ground: &Ground<'_>, survey: &Survey<'_>, less: u16, from: usize, end: usize) -> usize {
+    let words = (from..end).step_by(2);
+    let count = words
+        .take_while(|at| leads(ground, survey, less, *at))
+        .count();
+    if count < ROW || ground.word(from) == ground.word(from.saturating_add(2)) {
+        return 0;
     }
-    let mut at = from.saturating_add(2);
-    for _ in from..end {
-        if !leads(ground, survey, less, at) {
-            break;
-        }
-        at = at.saturating_add(2);
-    }
-    if from.saturating_add(2 * ROW) <= at {
-        at
-    } else {
-        from
-    }
+    count
 }
 
 /// Returns where words begin that may be an address of a routine, or less one, or that of a name. Fails only if an allocation failed.
@@ -47,13 +40,11 @@ pub fn words_of(
         named.set(info.given(k).address);
     }
     let mut found = Vec::new(alloc);
-    let (start, end) = ends(ground.image);
-    for at in start..end {
-        if let Some(word) = ground.word(at)
+    for at in addresses(ground.image) {
+        if let Some(word) = ground.word(usize::from(at))
             && (named.get(word)
                 || survey.is_routine(usize::from(word))
                 || survey.is_routine(usize::from(word).saturating_add(1)))
-            && let Some(at) = address(at)
         {
             found.push(at)?;
         }
@@ -66,14 +57,9 @@ pub fn mark_rows(ground: &mut Ground<'_>, survey: &Survey<'_>, words: &[u16]) {
     let (_, end) = ends(ground.image);
     for &first in words {
         let at = usize::from(first);
-        let Some(word) = ground.word(at) else {
-            continue;
-        };
         for less in [0u16, 1] {
-            if survey.is_routine(usize::from(word).saturating_add(usize::from(less))) {
-                let row = row_end(ground, survey, less, at, end);
-                ground.put_words(less, at, row);
-            }
+            let len = row_len(ground, survey, less, at, end);
+            ground.put_words(less, at, at.saturating_add(len.saturating_mul(2)));
         }
     }
 }

@@ -1,7 +1,6 @@
 //! The search for code, with trials: an entry joins if all that is reached from it reads as code, else all is as before.
 
 use crate::rules::obstacles::{Obstacle, obstacle_of};
-use crate::rules::readers::Readers;
 use crate::rules::sound::{is_apart, is_fine};
 use crate::rules::step::Steps;
 use crate::rules::texts::{ALPHABETS, text_len};
@@ -55,8 +54,6 @@ pub struct Search<'a, 'f, 'm> {
     pub obstacles: Vec<Obstacle>,
     /// The calls that they had read.
     pub calls: Marks,
-    /// The instructions that have joined and read tables.
-    pub readers: Readers,
 }
 
 /// Marks the addresses that instructions store to, if the bytes of the image are instructions.
@@ -96,7 +93,6 @@ impl<'a, 'f, 'm> Search<'a, 'f, 'm> {
             stopped: None,
             obstacles: Vec::new(alloc),
             calls: Marks::none(alloc)?,
-            readers: Readers::none(alloc)?,
         };
         for &entry in entries {
             search.put_entry(entry)?;
@@ -171,14 +167,8 @@ impl<'a, 'f, 'm> Search<'a, 'f, 'm> {
 
     /// Whether what was added has so many bytes at least.
     fn has_bytes(&self, least: usize) -> bool {
-        let mut count = 0usize;
-        for &address in self.added.as_slice() {
-            count = count.saturating_add(self.steps.len_at(address));
-            if least <= count {
-                return true;
-            }
-        }
-        false
+        let lens = self.added.iter().map(|address| self.steps.len_at(*address));
+        least <= lens.fold(0usize, |sum, len| sum.saturating_add(len))
     }
 
     /// Whether no more was added than a jump to $0000, which is filled in at run time.
@@ -207,8 +197,11 @@ impl<'a, 'f, 'm> Search<'a, 'f, 'm> {
         })
     }
 
-    /// Begins a trial of an address: returns whether it is a sound beginning.
-    fn tries(&mut self, address: u16, least: Least) -> Result<bool, AllocError> {
+    /// Tries an address: returns whether it is a sound beginning of so many instructions at least. Keeps what was added, if it is to.
+    fn tries(&mut self, address: u16, least: Least, keeps: bool) -> Result<bool, AllocError> {
+        if self.is_vain(address) {
+            return Ok(false);
+        }
         for &before in self.added.as_slice() {
             self.fresh.clear(before);
         }
@@ -216,7 +209,16 @@ impl<'a, 'f, 'm> Search<'a, 'f, 'm> {
         self.meets = false;
         self.stopped = None;
         self.put_entry(address)?;
-        Ok(self.run(true)? && self.is_sound(least) && !self.is_text(address))
+        let joins = self.run(true)? && self.is_sound(least) && !self.is_text(address);
+        if keeps && joins {
+            self.keep()?;
+            return Ok(true);
+        }
+        if keeps {
+            self.put_obstacle()?;
+        }
+        self.undo();
+        Ok(joins)
     }
 
     /// Whether a trial of the address is not worth while: none is left, or no instruction begins there that is not marked.
@@ -249,14 +251,12 @@ impl<'a, 'f, 'm> Search<'a, 'f, 'm> {
         Ok(())
     }
 
-    /// Marks what the instructions have that were added, and keeps those that read tables.
+    /// Marks what the instructions have that were added.
     fn keep(&mut self) -> Result<(), AllocError> {
         for &address in self.added.as_slice() {
-            if let Some(placed) = self.steps.marked(&self.marks, address) {
-                let at = usize::from(address);
-                self.code.set_span(at, at.saturating_add(placed.step.len()));
-                self.readers.put(placed)?;
-            }
+            let at = usize::from(address);
+            self.code
+                .set_span(at, at.saturating_add(self.steps.len_at(address)));
         }
         self.joined.extend_from_slice(self.added.as_slice())
     }
@@ -279,26 +279,11 @@ impl<'a, 'f, 'm> Search<'a, 'f, 'm> {
     /// Adds an address to the entries, with what is reached from it, if it is a sound beginning of so many instructions at least. Returns
     /// whether it is.
     pub fn join(&mut self, address: u16, least: Least) -> Result<bool, AllocError> {
-        if self.is_vain(address) {
-            return Ok(false);
-        }
-        let joins = self.tries(address, least)?;
-        if joins {
-            self.keep()?;
-        } else {
-            self.put_obstacle()?;
-            self.undo();
-        }
-        Ok(joins)
+        self.tries(address, least, true)
     }
 
     /// Returns whether the address is a sound beginning of so many instructions at least. The search is as before.
     pub fn would_join(&mut self, address: u16, least: Least) -> Result<bool, AllocError> {
-        if self.is_vain(address) {
-            return Ok(false);
-        }
-        let joins = self.tries(address, least)?;
-        self.undo();
-        Ok(joins)
+        self.tries(address, least, false)
     }
 }

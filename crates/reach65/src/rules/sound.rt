@@ -28,10 +28,10 @@ pub fn reads_on(steps: &Steps<'_, '_>, from: Option<u16>, count: usize) -> bool 
 
 /// Whether the instruction is a branch.
 fn is_branch(step: &Step) -> bool {
-    match step.op.mode.row() {
-        Row::One(_, OperandKind::Distance) | Row::Two(_, OperandKind::Distance) => true,
-        _ => false,
-    }
+    matches!(
+        step.op.mode.row(),
+        Row::One(_, OperandKind::Distance) | Row::Two(_, OperandKind::Distance)
+    )
 }
 
 /// Whether code may stand at an address below $0100 outside the image: it has a name, or the image stores to it.

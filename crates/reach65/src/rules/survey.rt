@@ -1,10 +1,8 @@
 //! What reached code does with addresses.
 
-use crate::rules::bytes::{address, ends};
-use crate::rules::halves::is_first;
-use crate::rules::readers::Readers;
-use crate::rules::step::{Placed, Step, Steps};
-use isa65::{Mnemonic, Mode};
+use crate::rules::bytes::addresses;
+use crate::rules::step::{Placed, Steps};
+use isa65::Mnemonic;
 use map65::{Marks, is_jump};
 use std::alloc::{AllocError, Global};
 
@@ -29,16 +27,10 @@ pub struct Survey<'r> {
     pub written: Marks,
     /// A text behind a call begins there that ends with a zero byte.
     pub texts: Marks,
-    /// Where those begin that may be the first of a pair of halves.
-    pub firsts: Vec<u16>,
-    /// Where those begin that load an absolute address.
-    pub loads: Vec<u16>,
-    /// Where those begin that have an absolute operand with an index.
-    pub indexed: Vec<u16>,
+    /// Where the reached instructions begin, in order.
+    pub places: Vec<u16>,
     /// Where calls begin.
     pub calls: Vec<u16>,
-    /// Those that read tables.
-    pub readers: Readers,
 }
 
 /// Returns whether an instruction stores to its operand, or changes it.
@@ -85,31 +77,27 @@ impl<'r> Survey<'r> {
             operands: Marks::none(alloc)?,
             written: Marks::none(alloc)?,
             texts: Marks::none(alloc)?,
-            firsts: Vec::new(alloc),
-            loads: Vec::new(alloc),
-            indexed: Vec::new(alloc),
+            places: Vec::new(alloc),
             calls: Vec::new(alloc),
-            readers: Readers::none(alloc)?,
         };
-        let (start, end) = ends(steps.image());
-        for at in start..end {
-            if let Some(at) = address(at)
-                && let Some(placed) = steps.marked(reached, at)
-            {
-                survey.put(placed.step);
-                survey.put_place(placed)?;
+        for at in addresses(steps.image()) {
+            if let Some(placed) = steps.marked(reached, at) {
+                survey.put(placed)?;
             }
         }
-        for at in start..end {
-            if let Some(at) = address(at) {
-                survey.put_routine(at);
+        for at in addresses(steps.image()) {
+            let is_begun = survey.called.get(at) || !survey.gone_on.get(at);
+            if reached.get(at) && code.get(at) && is_begun {
+                survey.routines.set(at);
             }
         }
         Ok(survey)
     }
 
     /// Marks what the instruction does.
-    fn put(&mut self, step: &Step) {
+    fn put(&mut self, placed: Placed<'_>) -> Result<(), AllocError> {
+        let Placed { at, step } = placed;
+        self.places.push(at)?;
         set_some(&mut self.gone_on, step.next);
         set_some(&mut self.texts, step.text);
         if let Some(goal) = step.goal {
@@ -129,33 +117,10 @@ impl<'r> Survey<'r> {
                 self.written.set(operand);
             }
         }
-    }
-
-    /// Marks the address, if a routine begins there.
-    fn put_routine(&mut self, at: u16) {
-        if self.reached.get(at)
-            && self.code.get(at)
-            && (self.called.get(at) || !self.gone_on.get(at))
-        {
-            self.routines.set(at);
-        }
-    }
-
-    /// Keeps where the instruction begins, if that is asked for.
-    fn put_place(&mut self, placed: Placed<'_>) -> Result<(), AllocError> {
-        let Placed { at, step } = placed;
-        if is_first(step.op) {
-            self.firsts.push(at)?;
-        }
-        match step.op.mode {
-            Mode::Abs if step.to.is_none() => self.loads.push(at)?,
-            Mode::Absx | Mode::Absy => self.indexed.push(at)?,
-            _ => {}
-        }
         if step.op.mnemonic == Mnemonic::Jsr {
             self.calls.push(at)?;
         }
-        self.readers.put(placed)
+        Ok(())
     }
 
     /// Returns whether a routine begins at the address, which may lie past $FFFF.

@@ -1,10 +1,10 @@
 //! The words and halves of tables that reached code reads.
 
-use crate::rules::bytes::ends;
 use crate::rules::ground::Ground;
 use crate::rules::readers::Table;
 use crate::rules::step::Steps;
 use crate::rules::survey::Survey;
+use map65::is_inside;
 use std::alloc::{AllocError, Global};
 
 /// Two tables of halves: where the low and the high bytes begin, and how many there are of each.
@@ -16,17 +16,11 @@ pub struct Split {
 
 /// Whether the entry of the table is an address of the image: one where code begins, or, for a table of data, one that no code has.
 fn is_entry(ground: &Ground<'_>, survey: &Survey<'_>, table: Table, index: usize) -> bool {
-    let (start, end) = ends(ground.image);
-    let Some(address) = table.entry(ground.image, index) else {
-        return false;
-    };
-    let inside = start <= usize::from(address) && usize::from(address) < end;
-    let fits = if table.is_code {
-        survey.reached.get(address) && survey.code.get(address)
-    } else {
-        !survey.code.get(address)
-    };
-    inside && fits
+    table.entry(ground.image, index).is_some_and(|address| {
+        let is_led_to = survey.reached.get(address) && survey.code.get(address);
+        is_inside(ground.image, usize::from(address))
+            && (table.is_code && is_led_to || !table.is_code && !survey.code.get(address))
+    })
 }
 
 /// How many entries the table has: up to one that is none, unless it is whole, or at which another table begins.

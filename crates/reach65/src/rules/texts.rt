@@ -38,14 +38,10 @@ impl Alphabet {
 
     /// Returns whether the bytes are a text of this alphabet.
     pub fn is_text(self, bytes: &[u8]) -> bool {
-        let mut chars = Chars::none();
-        for &byte in bytes {
-            if !self.is_char(byte) {
-                return false;
-            }
-            chars = chars.with(self, byte);
-        }
-        chars.are_text(self)
+        let chars = bytes
+            .iter()
+            .fold(Chars::none(), |chars, byte| chars.with(self, *byte));
+        bytes.iter().all(|byte| self.is_char(*byte)) && chars.are_text(self)
     }
 
     /// Returns what a character is in ASCII.

@@ -1,7 +1,7 @@
 //! Words that stand in rows and lead to code.
 
 use crate::flow::is_last;
-use crate::rules::bytes::{address, byte, ends, word};
+use crate::rules::bytes::{addresses, ends, word};
 use crate::rules::growth::IN_TABLE;
 use crate::rules::search::{Least, Search};
 use crate::rules::step::{Step, Steps};
@@ -48,21 +48,18 @@ fn is_hopeful(marks: &Marks, address: u16, step: &Step) -> bool {
         && is_hopeful_after(marks, address, step.goal)
 }
 
-/// Whether a reached instruction, this many bytes before the address, goes on to it.
-fn goes_on_to(search: &Search<'_, '_, '_>, address: u16, distance: u16) -> bool {
-    let before = search
-        .steps
-        .marked(&search.marks, address.saturating_sub(distance));
-    before.is_some_and(|placed| placed.step.next == Some(address))
+/// Whether a reached instruction right before the address goes on to it.
+fn is_gone_on(search: &Search<'_, '_, '_>, address: u16) -> bool {
+    (1..=3u16).any(|distance| {
+        let before = address.saturating_sub(distance);
+        let placed = search.steps.marked(&search.marks, before);
+        placed.is_some_and(|placed| placed.step.next == Some(address))
+    })
 }
 
 /// Whether a reached instruction begins at the address. For a word that is one less, none right before it goes on to it, either.
 fn is_entered(search: &Search<'_, '_, '_>, less: u16, address: u16) -> bool {
-    search.steps.at(address).is_some()
-        && (less == 0
-            || !(goes_on_to(search, address, 1)
-                || goes_on_to(search, address, 2)
-                || goes_on_to(search, address, 3)))
+    search.steps.at(address).is_some() && (less == 0 || !is_gone_on(search, address))
 }
 
 /// Whether code begins at the address, of a word that is this much less.
@@ -89,24 +86,17 @@ impl<'i> Words<'i> {
             given.set_span(usize::from(range.first), usize::from(range.last) + 1);
         }
         let mut hopeful = Marks::none(alloc)?;
-        let (start, end) = ends(image);
-        for at in (start..end).rev() {
-            let Some(address) = address(at) else {
-                continue;
-            };
-            if reached.get(address)
-                || !search.code.get(address)
-                    && steps
-                        .at(address)
-                        .is_some_and(|step| is_hopeful(&hopeful, address, step))
+        for at in addresses(image).rev() {
+            let step = steps.at(at);
+            if reached.get(at)
+                || !search.code.get(at) && step.is_some_and(|step| is_hopeful(&hopeful, at, step))
             {
-                hopeful.set(address);
+                hopeful.set(at);
             }
         }
         let mut worth = Vec::new(alloc);
-        for at in start..end {
-            if let Some(at) = address(at)
-                && !reached.get(at)
+        for at in addresses(image) {
+            if !reached.get(at)
                 && !search.code.get(at)
                 && is_worth(image, &hopeful, usize::from(at))
             {
@@ -129,31 +119,15 @@ impl<'i> Words<'i> {
     /// The address to which the word at the address leads, if nothing speaks for its bytes and code may begin there.
     fn target(&self, search: &Search<'_, '_, '_>, less: u16, at: usize) -> Option<u16> {
         let to = word(self.image, at)?.checked_add(less)?;
-        if self.hopeful.get(to)
-            && self.is_open(search, at)
-            && self.is_open(search, at.saturating_add(1))
-        {
+        let is_open = self.is_open(search, at) && self.is_open(search, at.saturating_add(1));
+        if is_open && self.hopeful.get(to) {
             Some(to)
         } else {
             None
         }
     }
 
-    /// Whether a jump or a call may stand right before the word of the address, or has its first byte: then it is rather a part of that.
-    fn is_operand(&self, at: usize) -> bool {
-        for back in 0..3usize {
-            let place = at.saturating_sub(back);
-            if let Some(0x20 | 0x4C) = byte(self.image, place)
-                && let Some(to) = word(self.image, place.saturating_add(1))
-                && self.hopeful.get(to)
-            {
-                return true;
-            }
-        }
-        false
-    }
-
-    /// Whether a row begins at the address: three different words lead to code, and no jump or call has the first one.
+    /// Whether a row begins at the address: three different words lead to code.
     fn begins_row(
         &self,
         search: &mut Search<'_, '_, '_>,
@@ -166,7 +140,6 @@ impl<'i> Words<'i> {
             && let Some(three) = self.target(search, less, at.saturating_add(4))
             && one != three
             && two != three
-            && !self.is_operand(at)
         {
             return Ok(
                 begins_code(search, less, one)?
