@@ -24,10 +24,11 @@ pub fn items_of(alloc: Global, steps: &Steps<'_, '_>, taken: &Marks) -> Result<M
     let mut next = 0;
     for first in addresses(steps.image()) {
         let at = usize::from(first);
+        if at < next || !taken.get(first) {
+            continue;
+        }
         let after = at.saturating_add(steps.len_at(first));
-        if next <= at
-            && at < after
-            && taken.get(first)
+        if at < after
             && (at.saturating_add(1)..after).all(|inner| {
                 is_code(map, taken, inner) && borders.binary_search(&inner).is_err()
             })

@@ -64,18 +64,20 @@ fn begins_backward(alloc: Global, ground: &Ground<'_>) -> Result<Vec<Begins>, Al
             1
         };
         after = here;
-        let count = match here {
-            Some(byte) if run < FILLER => longest_with(&mut tails, byte),
-            _ => {
-                tails = [Chars::none(); 3];
-                0
-            }
+        let Some(byte) = here else {
+            tails = [Chars::none(); 3];
+            found.push(Begins::Nothing)?;
+            continue;
         };
-        found.push(match count {
-            0 if FILLER <= run => Begins::Filler,
-            0 => Begins::Nothing,
-            count => Begins::Text(count),
-        })?;
+        if FILLER <= run {
+            tails = [Chars::none(); 3];
+            found.push(Begins::Filler)?;
+        } else {
+            found.push(match longest_with(&mut tails, byte) {
+                0 => Begins::Nothing,
+                count => Begins::Text(count),
+            })?;
+        }
     }
     found.reverse();
     Ok(found)
@@ -95,8 +97,10 @@ impl<'g, 'i> Pieces<'g, 'i> {
 
     /// What begins at the address.
     fn begins_at(&self, at: usize) -> Begins {
-        let begins = self.begins.get(at.saturating_sub(self.start)).copied();
-        begins.unwrap_or(Begins::Nothing)
+        match self.begins.get(at.saturating_sub(self.start)) {
+            Some(begins) => *begins,
+            None => Begins::Nothing,
+        }
     }
 
     /// The first address after this one that fails the test, or the end of the image.

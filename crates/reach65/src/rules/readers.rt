@@ -167,7 +167,9 @@ pub fn tables_of(
     };
     let mut readers = Vec::new(alloc);
     for at in addresses(steps.image()) {
-        if let Some(placed) = steps.marked(reached, at) {
+        if reached.get(at)
+            && let Some(placed) = steps.marked(reached, at)
+        {
             pointers.put(placed);
             if matches!(placed.step.op.mode, Mode::Absx | Mode::Absy | Mode::Absindx) {
                 readers.push(at)?;

@@ -81,7 +81,9 @@ impl<'r> Survey<'r> {
             calls: Vec::new(alloc),
         };
         for at in addresses(steps.image()) {
-            if let Some(placed) = steps.marked(reached, at) {
+            if reached.get(at)
+                && let Some(placed) = steps.marked(reached, at)
+            {
                 survey.put(placed)?;
             }
         }
