@@ -1,5 +1,5 @@
-"""Large information files."""
-import functools, itertools
+"""Large information files and texts."""
+import bisect, functools, itertools
 from conftest import write
 
 
@@ -48,3 +48,27 @@ def colliding(count):
             text.append(f'LABEL {{ ADDR ${len(text):04X}; NAME "{start}{end}"; }};\n')
             if len(text) == count:
                 return "".join(text)
+
+
+SYMBOL_FACTOR, WORD = 0x9E3779B97F4A7C15, 1 << 50
+
+
+def symbol_hash(name):
+    return functools.reduce(lambda value, letter: (value + ord(letter)) * SYMBOL_FACTOR % WORD, name, 0)
+
+
+def sharing(count):
+    """A text that defines that many names, which share one of the 262,144 slots that as65 has for more than a MiB: bits
+    32 to 49 of the hash of each are 0."""
+    letters = "abcdefghijklmnopqrstuvwxyz"
+    words = ["".join(four) for four in itertools.product(letters, repeat=4)]
+    ends = sorted((symbol_hash(word), word) for word in words)
+    power, text = pow(SYMBOL_FACTOR, 4, WORD), []
+    for start in words:
+        low = -symbol_hash(start) * power % WORD
+        for at in range(bisect.bisect(ends, (low, "")), len(ends)):
+            if ends[at][0] >= low + (1 << 32):
+                break
+            text.append(f"{start}{ends[at][1]} := 0\n")
+        if len(text) >= count:
+            return f"; {'':<{1 << 20}}\n nop\n" + "".join(text[:count])

@@ -6,7 +6,7 @@ the figures."""
 import random, re, shutil
 import pytest
 from conftest import ROOT, Program, listed, read, same, tables, write
-from large import groups, information
+from large import groups, information, sharing
 
 pytestmark = [pytest.mark.valgrind, pytest.mark.ca65]
 draw = random.Random(1)
@@ -142,6 +142,7 @@ def files(what, kind, count):
     return {"bytes": lambda: {"info": information(kind, count), "bin": count * b"\xea"},
             "jumps": lambda: {"info": groups(kind, count), "bin": jumps()},
             "definitions": lambda: {"s": groups("definitions", count) + " nop\n"},
+            "sharing": lambda: {"s": sharing(count)},
             "lines": lambda: {"s": count * " .byte 0,1\n", "bin": bytes(2 * count)},
             "used": lambda: {"s": "".join(f"n{n}: lda n{n * 7919 % count}\n" for n in range(count))},
             "values": lambda: {"s": "".join(f"n{n} := 4\n" for n in range(count)) + "".join(

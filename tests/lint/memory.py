@@ -46,7 +46,7 @@ name65 with_labels_first 2
 relist Failure::from 2
 step65 program 2
 stmt65 AsmFault::from 1
-stmt65 Symbols::define 2
+stmt65 Symbols::define 1
 trace65 failure_of 4
 usage65 RequestFault::from 3
 usage65 UsageFault::from 2

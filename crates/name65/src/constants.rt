@@ -47,7 +47,7 @@ pub fn names_after<'t, 'b>(
     if definitions.iter().all(|definition| matches!(becomes(plan, *definition), Fate::Kept)) {
         return Ok(None);
     }
-    let mut names = Symbols::new(alloc)?;
+    let mut names = Symbols::new(alloc, definitions.len())?;
     for definition in definitions {
         if matches!(becomes(plan, *definition), Fate::Kept) {
             names.define(*definition)?;

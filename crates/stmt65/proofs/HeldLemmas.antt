@@ -86,8 +86,6 @@ pub word_in-held : (ds : List Definition) (v : Value) → word_in (map held_defi
 unfolding word_in
 word_in-held ds v = value_in-held (below 65536) word_far ds v
 
-pub ruleset helds = (is_known-held, word_in-held)
-
 entry_in-held : (ds : List Definition) (d : Directive) (v : Value) → entry_in (map held_definition ds) d v ≡ entry_in ds d v
 unfolding entry_in
 entry_in-held ds d v = value_in-held (below (entry_limit d)) (entry_far d) ds v

@@ -1,28 +1,29 @@
 -- The table of names keeps its index.
 use Rattle.std.proofs.Common.{◌≡◌, ℕ, zero, suc, Bool, true, false, cond, ◌+◌, ◌<◌, ◌≤◌, List, [], ◌∷◌, ◌++◌, length, map, take, Option, Some, None, refl, sym, ap, ◌∙◌, arith, length-append, Bor}
-use Rattle.std.specs.Prelude.{is_some}
-use Rattle.std.specs.Option.{option_or}
+use Rattle.std.specs.Prelude.{◌≢◌, eqb, get_or, is_some}
 use Rattle.std.specs.List.{slice_get}
 use Rattle.std.specs.Str.{bytes_eq}
-use Rattle.std.specs.BTreeMap.{BTreeMap, get}
+use Rattle.std.specs.BTreeMap.{BTreeMap}
 use Rattle.std.specs.Map.{update}
-use Rattle.std.specs.declared.cmp.Ordering.{Ordering}
-use Rattle.std.specs.declared.cmp.Ordering.TheVariants.{Less, Equal, Greater}
-use Rattle.std.specs.Ordering.{is_eq, nat_cmp}
-use Rattle.std.proofs.lemmas.Cmp.{nat_cmp_total, tied_itself}
-use Rattle.std.proofs.lemmas.Map.Lookups.{exact_unsigned}
+use Rattle.std.proofs.lemmas.Bool.{eqb-false, eqb-true}
 use Rattle.std.proofs.lemmas.Slice.Eq.{bytes_eq-Decides}
 use Rattle.std.proofs.lemmas.List.{length-map, map-append}
 use Rattle.std.proofs.Math.Seq.{take-length}
-use Rattle.stmt65.specs.Words.{Definition, IsIndex, definition_of, find_name, first_at, if_named, is_named, place_of}
+use Rattle.stmt65.specs.Words.{Definition, definition_of, find_name, first_at}
 use Rattle.stmt65.specs.declared.assembling.symbols.Definition.{Definition as CodeDefinition}
-use Rattle.stmt65.specs.Code.SymbolViews.{number_of}
+use Rattle.stmt65.specs.Code.SymbolViews.{IsIndex, is_named, place_by, place_of, slot_of, taker_of}
 use Rattle.stmt65.proofs.Cases.{by_option, by_test}
 
 -- no names in no definitions
-pub index_empty : (ds : List CodeDefinition) (numbered : BTreeMap ℕ ℕ) (others : BTreeMap (Bor (List ℕ)) ℕ) → ds ≡ [] → numbered.entries ≡ [] → others.entries ≡ [] → IsIndex ds (get nat_cmp numbered) (place_of others)
+pub index_empty : (ds : List CodeDefinition) (slots : List ℕ) (others : BTreeMap (Bor (List ℕ)) ℕ) → ds ≡ [] → 0 < length slots → ((k : ℕ) → get_or slots k 0 ≡ 0) → others.entries ≡ []
+    → IsIndex ds (length slots) (taker_of slots) (place_of others)
 unfolding first_at
-index_empty ds numbered others e f g = rw (e, f, g) (record { within = λ n i h. cc; finds = λ q. refl })
+index_empty ds slots others e some free g = rw (e, g) (record {
+  some = some;
+  within = λ k. rw (free k) (omega arith);
+  free = λ q h. refl;
+  finds = λ q. rw (free (slot_of (length slots) q)) refl;
+})
 
 pub all_names : (ds : List CodeDefinition) (n : ℕ) → n ≡ length ds → take n (map definition_of ds) ≡ map definition_of ds
 all_names ds n e = rw (e, ← length-map ds definition_of) (take-length (map definition_of ds))
@@ -90,10 +91,10 @@ slice_get-last (x ∷ ds) d = slice_get-last ds d
 pushed : (q : List ℕ) (ds : List CodeDefinition) (d : CodeDefinition) → first_at q (map definition_of (ds ++ d ∷ [])) ≡ or_here (first_at q (map definition_of ds)) (bytes_eq d.name.now q) (length ds)
 pushed q ds d = rw (map-append, first_at-push, length-map) refl
 
--- what a number leads to, in more definitions
-stays : (q : List ℕ) (ds : List CodeDefinition) (d : CodeDefinition) (o : Option ℕ) → ((i : ℕ) → o ≡ Some i → i < length ds) → if_named q (ds ++ d ∷ []) o ≡ if_named q ds o
-stays q ds d None h = refl
-stays q ds d (Some i) h = ap (λ (x : Option CodeDefinition). cond (is_named q x) (Some i) None) (slice_get-front ds d i (h i refl))
+-- where a name stands by the taker of its slot, in more definitions
+stays : (q : List ℕ) (ds : List CodeDefinition) (d : CodeDefinition) (n : ℕ) (o : Option ℕ) → n ≤ length ds → place_by q (ds ++ d ∷ []) n o ≡ place_by q ds n o
+stays q ds d zero o h = refl
+stays q ds d (suc i) o h = ap (λ (x : Option CodeDefinition). cond (is_named q x) (Some i) o) (slice_get-front ds d i (omega arith))
 
 -- another name stands where it stood
 other : (o : Option ℕ) (n : ℕ) → o ≡ or_here o false n
@@ -104,52 +105,80 @@ none : (o : Option ℕ) → is_some o ≡ false → o ≡ None
 none None e = refl
 none (Some i) e = cc
 
-within_more : (ds : List CodeDefinition) (d : CodeDefinition) (i : ℕ) → i < length ds → i < length (ds ++ d ∷ [])
-within_more ds d i h = omega (arith, length-append ds (d ∷ []))
+within_more : (ds : List CodeDefinition) (d : CodeDefinition) (n : ℕ) → n ≤ length ds → n ≤ length (ds ++ d ∷ [])
+within_more ds d n h = omega (arith, h, length-append ds (d ∷ []))
 
 same_name : (d : CodeDefinition) (q : List ℕ) → bytes_eq d.name.now q ≡ true → d.name.now ≡ q
 same_name d q e = (bytes_eq-Decides d.name.now q).0 e
 
-pub index_known : (ds : List CodeDefinition) (numbered : ℕ → Option ℕ) (others : List ℕ → Option ℕ) (d : CodeDefinition) → IsIndex ds numbered others → is_some (first_at d.name.now (map definition_of ds)) ≡ true
-    → IsIndex (ds ++ d ∷ []) numbered others
-index_known ds numbered others d h known = record {
-  within = λ n i e. within_more ds d i (h.within n i e);
-  finds = grind (arith, Option, stays, by_test, by_option, same_name, other, pushed);
-}
+known_none : (q : List ℕ) (ds : List CodeDefinition) → is_some (first_at q (map definition_of ds)) ≡ false → first_at q (map definition_of ds) ≡ None
+known_none q ds e = none (first_at q (map definition_of ds)) e
 
-pub index_other : (ds : List CodeDefinition) (numbered : ℕ → Option ℕ) (others next : List ℕ → Option ℕ) (d : CodeDefinition) (n : ℕ) → IsIndex ds numbered others → is_some (first_at d.name.now (map definition_of ds)) ≡ false → n ≡ length ds
-    → ((q : List ℕ) → next q ≡ update bytes_eq others d.name.now (Some n) q) → IsIndex (ds ++ d ∷ []) numbered next
-index_other ds numbered others next d n h unknown is now = record {
-  within = λ m i e. within_more ds d i (h.within m i e);
-  finds = grind (arith, Option, stays, by_test, same_name, by_option, other, pushed);
-}
-
--- the number of a name, if it is that of no other
-pub index_numbered : (ds : List CodeDefinition) (numbered next : ℕ → Option ℕ) (others : List ℕ → Option ℕ) (d : CodeDefinition) (m n : ℕ) → IsIndex ds numbered others → is_some (first_at d.name.now (map definition_of ds)) ≡ false → n ≡ length ds
-    → m ≡ number_of d.name.now → is_some (numbered m) ≡ false → ((k : ℕ) → next k ≡ cond (is_eq (nat_cmp m k)) (Some n) (numbered k)) → IsIndex (ds ++ d ∷ []) next others
-index_numbered ds numbered next others d m n h unknown is number free now = record {
-  within = λ k i e. bound k i (is_eq (nat_cmp m k)) refl (sym (now k) ∙ e);
-  finds = λ q. go q (nat_cmp m (number_of q)) refl (bytes_eq d.name.now q) refl ∙ sym (pushed q ds d);
+pub index_known : (ds : List CodeDefinition) (count : ℕ) (taker : ℕ → ℕ) (others : List ℕ → Option ℕ) (d : CodeDefinition) → IsIndex ds count taker others → is_some (first_at d.name.now (map definition_of ds)) ≡ true
+    → IsIndex (ds ++ d ∷ []) count taker others
+index_known ds count taker others d h known = record {
+  some = h.some;
+  within = λ k. within_more ds d (taker k) (h.within k);
+  free = h.free;
+  finds = λ q. stays q ds d (taker (slot_of count q)) (others q) (h.within (slot_of count q)) ∙ h.finds q ∙ go q (bytes_eq d.name.now q) refl ∙ sym (pushed q ds d);
 }
   where
-    bound : (k i : ℕ) (b : Bool) → is_eq (nat_cmp m k) ≡ b → cond (is_eq (nat_cmp m k)) (Some n) (numbered k) ≡ Some i → i < length (ds ++ d ∷ [])
-    bound k i true e f = let f' = rw e at f in let same : n ≡ i = cc in omega (arith, length-append ds (d ∷ []))
-    bound k i false e f = let f' = rw e at f in within_more ds d i (h.within k i f')
+    here : (o : Option ℕ) (b : Bool) → is_some o ≡ true → o ≡ or_here o b (length ds)
+    here None b e = absurd cc
+    here (Some i) b e = refl
 
-    -- a name with another number
-    apart : (q : List ℕ) → is_eq (nat_cmp m (number_of q)) ≡ false → bytes_eq d.name.now q ≡ false → option_or (if_named q (ds ++ d ∷ []) (next (number_of q))) (others q) ≡ or_here (first_at q (map definition_of ds)) (bytes_eq d.name.now q) (length ds)
-    apart q e f = rw (now (number_of q), e, f) (ap (λ (o : Option ℕ). option_or o (others q)) (stays q ds d (numbered (number_of q)) (h.within (number_of q))) ∙ h.finds q ∙ other (first_at q (map definition_of ds)) (length ds))
+    go : (q : List ℕ) (b : Bool) → bytes_eq d.name.now q ≡ b → first_at q (map definition_of ds) ≡ or_here (first_at q (map definition_of ds)) (bytes_eq d.name.now q) (length ds)
+    go q true e = here (first_at q (map definition_of ds)) (bytes_eq d.name.now q) (ap (λ (w : List ℕ). is_some (first_at w (map definition_of ds))) (sym (same_name d q e)) ∙ known)
+    go q false e = other (first_at q (map definition_of ds)) (length ds) ∙ ap (λ (b : Bool). or_here (first_at q (map definition_of ds)) b (length ds)) (sym e)
 
-    differs : (q : List ℕ) (b : Bool) → bytes_eq d.name.now q ≡ b → is_eq (nat_cmp m (number_of q)) ≡ false → bytes_eq d.name.now q ≡ false
-    differs q true e f = absurd (let same = rw (number, same_name d q e, tied_itself nat_cmp_total (number_of q)) at f in cc)
-    differs q false e f = e
+-- a name whose slot is taken
+pub index_other : (ds : List CodeDefinition) (count : ℕ) (taker : ℕ → ℕ) (others next : List ℕ → Option ℕ) (d : CodeDefinition) (n : ℕ) → IsIndex ds count taker others → is_some (first_at d.name.now (map definition_of ds)) ≡ false → n ≡ length ds
+    → taker (slot_of count d.name.now) ≢ 0 → ((q : List ℕ) → next q ≡ update bytes_eq others d.name.now (Some n) q) → IsIndex (ds ++ d ∷ []) count taker next
+index_other ds count taker others next d n h unknown is taken now = record {
+  some = h.some;
+  within = λ k. within_more ds d (taker k) (h.within k);
+  free = λ q e. alone q e (bytes_eq d.name.now q) refl;
+  finds = λ q. stays q ds d (taker (slot_of count q)) (next q) (h.within (slot_of count q)) ∙ go q (taker (slot_of count q)) refl (bytes_eq d.name.now q) refl ∙ sym (pushed q ds d);
+}
+  where
+    alone : (q : List ℕ) → taker (slot_of count q) ≡ 0 → (b : Bool) → bytes_eq d.name.now q ≡ b → next q ≡ None
+    alone q e true f = absurd (taken (ap (λ (w : List ℕ). taker (slot_of count w)) (same_name d q f) ∙ e))
+    alone q e false f = now q ∙ rw f (h.free q e)
 
-    go : (q : List ℕ) (o : Ordering) → nat_cmp m (number_of q) ≡ o → (b : Bool) → bytes_eq d.name.now q ≡ b
-        → option_or (if_named q (ds ++ d ∷ []) (next (number_of q))) (others q) ≡ or_here (first_at q (map definition_of ds)) (bytes_eq d.name.now q) (length ds)
-    go q Less e b f = let k = ap is_eq e in apart q k (differs q b f k)
-    go q Greater e b f = let k = ap is_eq e in apart q k (differs q b f k)
-    go q Equal e true f = let k = none _ (rw (same_name d q f) at unknown) in rw (now (number_of q), e, is, slice_get-last, f, k) refl
-    go q Equal e false f =
-        let same : m ≡ number_of q = exact_unsigned m (number_of q) e in
-        let old = rw (none _ (rw same at free)) at (h.finds q) in
-        rw (now (number_of q), e, is, slice_get-last, f) (old ∙ other (first_at q (map definition_of ds)) (length ds))
+    new : (q : List ℕ) (i : ℕ) (b : Bool) → is_named q (slice_get ds i) ≡ b → cond (is_named q (slice_get ds i)) (Some i) (others q) ≡ None → cond (is_named q (slice_get ds i)) (Some i) (Some n) ≡ Some n
+    new q i true e f = let f' = rw e at f in absurd cc
+    new q i false e f = rw e refl
+
+    go : (q : List ℕ) (t : ℕ) → taker (slot_of count q) ≡ t → (b : Bool) → bytes_eq d.name.now q ≡ b → place_by q ds (taker (slot_of count q)) (next q) ≡ or_here (first_at q (map definition_of ds)) (bytes_eq d.name.now q) (length ds)
+    go q zero e true f = absurd (taken (ap (λ (w : List ℕ). taker (slot_of count w)) (same_name d q f) ∙ e))
+    go q (suc i) e true f =
+        let k = known_none q ds (ap (λ (w : List ℕ). is_some (first_at w (map definition_of ds))) (sym (same_name d q f)) ∙ unknown) in
+        let old = rw e at (h.finds q) in
+        rw (e, now q, f, k, ← is) (new q i (is_named q (slice_get ds i)) refl (old ∙ k))
+    go q t e false f = rw (now q, f) (h.finds q ∙ other (first_at q (map definition_of ds)) (length ds))
+
+-- a name whose slot is free
+pub index_taken : (ds : List CodeDefinition) (count more : ℕ) (taker next : ℕ → ℕ) (others : List ℕ → Option ℕ) (d : CodeDefinition) (n : ℕ) → IsIndex ds count taker others → is_some (first_at d.name.now (map definition_of ds)) ≡ false → n ≡ length ds
+    → more ≡ count → taker (slot_of count d.name.now) ≡ 0 → next (slot_of count d.name.now) ≡ suc n → ((k : ℕ) → k ≢ slot_of count d.name.now → next k ≡ taker k) → IsIndex (ds ++ d ∷ []) more next others
+index_taken ds count more taker next others d n h unknown is same free here now = rw same (record {
+  some = h.some;
+  within = λ k. by_test (eqb k (slot_of count d.name.now)) (λ e. bound k (eqb-true k (slot_of count d.name.now) e)) (λ e. rw (now k (eqb-false k (slot_of count d.name.now) e)) (within_more ds d (taker k) (h.within k)));
+  free = λ q e. by_test (eqb (slot_of count q) (slot_of count d.name.now)) (λ f. absurd (let g = eqb-true (slot_of count q) (slot_of count d.name.now) f in let e' = rw (g, here) at e in omega arith)) (λ f. h.free q (sym (now (slot_of count q) (eqb-false (slot_of count q) (slot_of count d.name.now) f)) ∙ e));
+  finds = λ q. by_test (eqb (slot_of count q) (slot_of count d.name.now)) (λ f. inside q (eqb-true (slot_of count q) (slot_of count d.name.now) f) (bytes_eq d.name.now q) refl ∙ sym (pushed q ds d))
+      (λ f. off q (eqb-false (slot_of count q) (slot_of count d.name.now) f) (bytes_eq d.name.now q) refl ∙ sym (pushed q ds d));
+})
+  where
+    bound : (k : ℕ) → k ≡ slot_of count d.name.now → next k ≤ length (ds ++ d ∷ [])
+    bound k e = rw (e, here, is) (omega (arith, length-append ds (d ∷ [])))
+
+    -- in the slot of the new name no name stood
+    empty : (q : List ℕ) → slot_of count q ≡ slot_of count d.name.now → first_at q (map definition_of ds) ≡ None
+    empty q e = let old = rw (e, free) at (h.finds q) in sym old
+
+    inside : (q : List ℕ) → slot_of count q ≡ slot_of count d.name.now → (b : Bool) → bytes_eq d.name.now q ≡ b → place_by q (ds ++ d ∷ []) (next (slot_of count q)) (others q) ≡ or_here (first_at q (map definition_of ds)) (bytes_eq d.name.now q) (length ds)
+    inside q e true f = rw (e, here, is, slice_get-last, f, empty q e) refl
+    inside q e false f = rw (e, here, is, slice_get-last, f, empty q e) (h.free q (ap taker e ∙ free))
+
+    off : (q : List ℕ) → slot_of count q ≢ slot_of count d.name.now → (b : Bool) → bytes_eq d.name.now q ≡ b → place_by q (ds ++ d ∷ []) (next (slot_of count q)) (others q) ≡ or_here (first_at q (map definition_of ds)) (bytes_eq d.name.now q) (length ds)
+    off q e true f = absurd (e (ap (slot_of count) (sym (same_name d q f))))
+    off q e false f = rw (now (slot_of count q) e, f) (stays q ds d (taker (slot_of count q)) (others q) (h.within (slot_of count q)) ∙ h.finds q ∙ other (first_at q (map definition_of ds)) (length ds))

@@ -13,7 +13,7 @@ pub use Rattle.stmt65.specs.Code.PartViews.{cut_by, part_of}
 pub use Rattle.stmt65.specs.Code.Shortens.{Shortens}
 pub use Rattle.stmt65.specs.Code.SourceLineViews.{datum_of, numeral_of, source_of, value_of}
 pub use Rattle.stmt65.specs.Code.StatementViews.{expr_seen, in_hex, operands_seen, remarks_seen, statement_seen, target_seen}
-pub use Rattle.stmt65.specs.Code.SymbolViews.{IsIndex, definition_of, if_named, is_named, place_of}
+pub use Rattle.stmt65.specs.Code.SymbolViews.{definition_of}
 unfoldable pub use Rattle.stmt65.specs.Code.SymbolViews.{first_at}
 pub use Rattle.stmt65.specs.Code.Widths.{AreBytes, AreWordWide, IsInWidth, IsWordWide}
 pub use Rattle.stmt65.specs.Coding.{Distance, Entry, Fill, Fixed, Fragment, HalfOf, Oversized, Single, State, Way, ZeroPage, are_known, byte_fragment, datum_fragments, distance, entry_bytes, entry_limit, first_way, fragment_len, gap, half_of, is_fragment_known, is_near, is_short, kind_fragment, low, modes_in, or_zero, way_in, word_operand, zero_page}

@@ -1,7 +1,7 @@
 -- What the table of names stands for.
 use denote.Ref.{Bor}
-use Rattle.std.specs.Prelude.{◌≡◌, ℕ, suc, ◌+◌, ◌*◌, ◌%◌, ◌<◌, Bool, false, List, [], ◌∷◌, length, map, fold, if◌then◌else◌, Option, Some, None}
-use Rattle.std.specs.Option.{option_map, option_or}
+use Rattle.std.specs.Prelude.{◌≡◌, ℕ, zero, suc, ◌+◌, ◌*◌, ◌/◌, ◌%◌, ◌<◌, ◌≤◌, Bool, false, List, [], ◌∷◌, get_or, length, map, fold, if◌then◌else◌, Option, Some, None}
+use Rattle.std.specs.Option.{option_map}
 use Rattle.std.specs.List.{slice_get}
 use Rattle.std.specs.Str.{bytes_eq}
 use Rattle.std.specs.BTreeMap.{BTreeMap, get_by}
@@ -18,24 +18,34 @@ unfoldable pub first_at : List ℕ → List Definition → Option ℕ
 first_at q [] = None
 first_at q (d ∷ ds) = if bytes_eq d.name q then Some 0 else option_map suc (first_at q ds)
 
--- a number of a name: its last eight bytes, high byte first
-unfoldable pub number_of : List ℕ → ℕ
-number_of = fold (λ n b. (n * 256 % 18446744073709551616 + b) % 18446744073709551616) 0
+-- a hash of a name
+unfoldable pub hash_of : List ℕ → ℕ
+hash_of = fold (λ n b. (n + b) % 18446744073709551616 * 11400714819323198485 % 18446744073709551616) 0
+
+-- the slot of a name, one of so many, by the upper bits of the hash
+abbrev pub slot_of : ℕ → List ℕ → ℕ
+slot_of count q = hash_of q / 4294967296 % count
 
 abbrev pub is_named : List ℕ → Option CodeDefinition → Bool
 is_named q None = false
 is_named q (Some d) = bytes_eq d.name.now q
 
--- a place, if the definition there has the name
-abbrev pub if_named : List ℕ → List CodeDefinition → Option ℕ → Option ℕ
-if_named q ds None = None
-if_named q ds (Some i) = if is_named q (slice_get ds i) then Some i else None
+-- where a name stands by the definition whose name took its slot, from 1, or else where the tree says
+abbrev pub place_by : List ℕ → List CodeDefinition → ℕ → Option ℕ → Option ℕ
+place_by q ds zero other = None
+place_by q ds (suc i) other = if is_named q (slice_get ds i) then Some i else other
 
--- where the index of names leads a name
+-- where the tree leads a name
 abbrev pub place_of : BTreeMap (Bor (List ℕ)) ℕ → List ℕ → Option ℕ
 place_of others q = get_by (λ k. slice_cmp nat_cmp q k.now) others
 
--- the number of a name leads to its first definition, or else the name does
-pub record IsIndex (ds : List CodeDefinition) (numbered : ℕ → Option ℕ) (others : List ℕ → Option ℕ) : Type 0 where
-  pub within : (n i : ℕ) → numbered n ≡ Some i → i < length ds
-  pub finds : (q : List ℕ) → option_or (if_named q ds (numbered (number_of q))) (others q) ≡ first_at q (map definition_of ds)
+-- which definition's name took a slot, from 1; 0 stands for none
+abbrev pub taker_of : List ℕ → ℕ → ℕ
+taker_of slots k = get_or slots k 0
+
+-- The slot of a name leads to its first definition, or else the tree does; the tree has no name whose slot is free.
+pub record IsIndex (ds : List CodeDefinition) (count : ℕ) (taker : ℕ → ℕ) (others : List ℕ → Option ℕ) : Type 0 where
+  pub some : 0 < count
+  pub within : (k : ℕ) → taker k ≤ length ds
+  pub free : (q : List ℕ) → taker (slot_of count q) ≡ 0 → others q ≡ None
+  pub finds : (q : List ℕ) → place_by q ds (taker (slot_of count q)) (others q) ≡ first_at q (map definition_of ds)

@@ -17,6 +17,9 @@ use crate::source_line::SourceLine;
 use std::alloc::{AllocError, Allocator, Global};
 use text65::first_line;
 
+/// A line that defines a name mostly has more bytes than so many.
+const BYTES_OF_A_NAME: usize = 8;
+
 /// A text, the language in which it is read, and where it and its segments begin.
 #[derive(Clone, Copy)]
 pub struct Source<'t, 'l, 'n, L: Allocator = Global> {
@@ -119,7 +122,7 @@ fn begin<'a, 'b, 'l, 'n, L: Allocator, A: Allocator>(
 {
     Ok(Pass {
         state: first_state(source.layout, source.start),
-        names: Symbols::new(alloc)?,
+        names: Symbols::new(alloc, source.text.len() / BYTES_OF_A_NAME)?,
         work: idle(alloc)?,
     })
 }

@@ -30,7 +30,7 @@ impl<'a, A: Allocator + Clone> Layout<'a, A> {
         /// A layout has the byte that fills gaps, and no segment; or memory ran out.
         ensures { IfOk result (λ l. l ≡ record { starts = []; fill = fill }) }
     {
-        let starts = Symbols::new(alloc)?;
+        let starts = Symbols::new(alloc, 0)?;
         Ok(Layout { starts, fill })
     }
 

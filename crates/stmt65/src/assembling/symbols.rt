@@ -1,16 +1,24 @@
 //! The names that a text defines.
 
-ghost use Rattle.std.specs.Prelude.{◌≡◌, ◌<◌, ◌++◌, [], ◌∷◌, Some, IfOk, OnOk, length, map, take};
-ghost use Rattle.std.specs.BTreeMap.{get};
+ghost use Rattle.std.specs.Prelude.{◌≡◌, ◌<◌, ◌++◌, ℕ, [], ◌∷◌, IfOk, OnOk, get_or, length, map, take};
 ghost use Rattle.std.specs.List.{slice_get};
 ghost use Rattle.std.specs.Option.{option_map};
-ghost use Rattle.std.specs.Ordering.{nat_cmp};
-ghost use Rattle.stmt65.specs.Words.{address_of, definition_of, find_name, first_at, if_named};
-ghost use Rattle.stmt65.specs.Code.SymbolViews.{number_of};
+ghost use Rattle.stmt65.specs.Words.{address_of, definition_of, find_name, first_at};
+ghost use Rattle.stmt65.specs.Code.SymbolViews.{hash_of, is_named, slot_of};
 
 use std::alloc::{AllocError, Allocator, Global};
 use std::collections::BTreeMap;
 use std::marker::Model;
+
+/// How many slots there are at least and at most.
+const FEWEST: usize = 16;
+
+const MOST: usize = 0x4_0000;
+
+const HASHES_OF_A_SLOT: u64 = 0x1_0000_0000;
+
+/// An odd number whose multiples have high bits that differ much.
+const FACTOR: u64 = 0x9E37_79B9_7F4A_7C15;
 
 /// A name, its value, and whether a line `name := number` gives it.
 #[derive(Clone, Copy)]
@@ -34,79 +42,92 @@ impl Definition<'_> {
     }
 }
 
-/// Definitions in their order, and the first one of each name. Mostly a number tells a name from all others, and numbers are compared
-/// faster than names.
+/// Definitions in their order, and the first one of each name. The first name that has a slot takes it. The names whose slot was taken
+/// before stand in a tree, so names that share a slot on purpose cost no more than a look-up in the tree.
 #[derive(Drop)]
 pub struct Symbols<'a, A: Allocator = Global> {
     definitions: Vec<Definition<'a>, A>,
-    /// Where the first definition stands whose name has a number.
-    numbered: BTreeMap<u64, usize, A>,
+    /// For each slot which definition's name took it, from 1; 0 stands for none.
+    slots: Vec<usize, A>,
     /// Where each other name's first definition stands.
     others: BTreeMap<&'a [u8], usize, A>,
 }
 
 impl<'a, A: Allocator> Model for Symbols<'a, A> {
-    ghost use Rattle.std.specs.Prelude.{List, map};
-    ghost use Rattle.std.specs.BTreeMap.{get};
-    ghost use Rattle.std.specs.Ordering.{nat_cmp};
+    ghost use Rattle.std.specs.Prelude.{List, length, map};
     ghost use Rattle.stmt65.specs.Symbols.{Definition};
-    ghost use Rattle.stmt65.specs.Code.SymbolViews.{definition_of, IsIndex, place_of};
+    ghost use Rattle.stmt65.specs.Code.SymbolViews.{definition_of, IsIndex, place_of, taker_of};
 
     ghost Value = { List Definition };
 
     ghost view = { λ s. map definition_of s.definitions.items };
 
-    ghost invariant = { λ s. IsIndex s.definitions.items (get nat_cmp s.numbered) (place_of s.others) };
+    ghost invariant = { λ s. IsIndex s.definitions.items (length s.slots.items) (taker_of s.slots.items) (place_of s.others) };
 }
 
-/// A number of a name, which its last eight bytes make.
-#[tactic(auto, using(std::proofs::lemmas::List::Sums::fold_more), unfolding(crate::specs::Code::SymbolViews::number_of))]
-fn number_of(name: &[u8]) -> u64
-    ensures { result ≡ number_of name.now }
+/// A hash of a name.
+#[tactic(auto, using(std::proofs::lemmas::List::Sums::fold_more), unfolding(crate::specs::Code::SymbolViews::hash_of))]
+fn hash_of(name: &[u8]) -> u64
+    ensures { result ≡ hash_of name.now }
 {
-    let mut number: u64 = 0;
+    let mut hash: u64 = 0;
     'bytes: for byte in name {
-        number = number.wrapping_mul(256).wrapping_add(u64::from(*byte));
+        hash = hash.wrapping_add(u64::from(*byte)).wrapping_mul(FACTOR);
     }
-    number
+    hash
 }
 
-/// Where the definition stands to which the number of the name leads, if it has the name.
-fn named_place<A: Allocator>(
-    definitions: &[Definition<'_>],
-    numbered: &BTreeMap<u64, usize, A>,
-    name: &[u8],
-) -> Option<usize>
-    ensures { result ≡ if_named name.now definitions.now (get nat_cmp numbered.now (number_of name.now)) }
+/// The slot of a name, one of so many.
+fn slot_of(count: usize, name: &[u8]) -> usize
+    requires { 0 < count }
+    ensures slot { result ≡ slot_of count name.now }
+    ensures within { result < count }
 {
-    let place = *numbered.get(&number_of(name))?;
-    if definitions.get(place)?.name == name {
-        Some(place)
-    } else {
-        None
+    (hash_of(name) / HASHES_OF_A_SLOT) as usize % count
+}
+
+/// Slots for about so many names, none of which is taken.
+fn free_slots<A: Allocator>(alloc: A, count: usize) -> Result<Vec<usize, A>, AllocError>
+    ensures some { IfOk result (λ slots. 0 < length slots.items) }
+    ensures free { IfOk result (λ slots. (k : ℕ) → get_or slots.items k 0 ≡ 0) }
+{
+    let mut slots = Vec::new(alloc);
+    slots.resize(count.saturating_mul(2).max(FEWEST).min(MOST), 0)?;
+    Ok(slots)
+}
+
+/// Whether a definition at a place has the name.
+fn is_named(definitions: &[Definition<'_>], place: usize, name: &[u8]) -> bool
+    ensures { result ≡ is_named name.now (slice_get definitions.now place) }
+{
+    match definitions.get(place) {
+        Some(definition) => definition.name == name,
+        None => false,
     }
 }
 
 impl<'a, A: Allocator + Clone> Symbols<'a, A> {
-    /// No definitions.
+    /// No definitions, where about so many are to come.
     #[tactic(auto, using(crate::proofs::SymbolLaws::index_empty))]
-    pub fn new(alloc: A) -> Result<Self, AllocError>
+    pub fn new(alloc: A, count: usize) -> Result<Self, AllocError>
         ensures { IfOk result (λ s. s ≡ []) }
     {
         Ok(Symbols {
             definitions: Vec::new(alloc.clone()?),
-            numbered: BTreeMap::new(alloc.clone()?),
+            slots: free_slots(alloc.clone()?, count)?,
             others: BTreeMap::new(alloc),
         })
     }
 
-    /// Where the first definition of the name stands. Takes a time that grows with the logarithm of their number.
+    /// Where the first definition of the name stands.
     fn place_of(&self, name: &[u8]) -> Option<usize>
         ensures { result ≡ first_at name.now self.now }
     {
-        match named_place(&self.definitions, &self.numbered, name) {
-            Some(place) => Some(place),
-            None => self.others.get(name).copied(),
+        let place = self.slots[slot_of(self.slots.len(), name)].checked_sub(1)?;
+        if is_named(&self.definitions, place, name) {
+            Some(place)
+        } else {
+            self.others.get(name).copied()
         }
     }
 
@@ -153,23 +174,18 @@ impl<'a, A: Allocator + Clone> Symbols<'a, A> {
     {
         let name = definition.name;
         let place = self.definitions.len();
+        let slot = slot_of(self.slots.len(), name);
+        let is_free = self.slots[slot] == 0;
         let is_known = self.place_of(name).is_some();
-        let number = number_of(name);
-        let is_numbered = self.numbered.contains_key(&number);
         self.definitions.push(definition)?;
         if is_known {
             return Ok(());
         }
-        if is_numbered {
-            return match self.others.insert(name, place) {
-                Ok(_) => Ok(()),
-                Err(_) => {
-                    self.definitions.pop();
-                    Err(AllocError)
-                }
-            };
+        if is_free {
+            self.slots[slot] = place + 1;
+            return Ok(());
         }
-        match self.numbered.insert(number, place) {
+        match self.others.insert(name, place) {
             Ok(_) => Ok(()),
             Err(_) => {
                 self.definitions.pop();
