@@ -3,7 +3,7 @@
 use crate::rules::bytes::address;
 use crate::rules::declared::{addresses_of, declared_of};
 use crate::rules::entries::pointers_of;
-use crate::rules::halves::pairs_at;
+use crate::rules::halves::{may_begin, pairs_at};
 use crate::rules::jumps::join_jumps;
 use crate::rules::obstacles::{Stops, worst_of};
 use crate::rules::readers::{Table, tables_of};
@@ -38,13 +38,15 @@ fn put_candidates_of(
     let Some(placed) = search.steps.marked(&search.marks, reason) else {
         return Ok(());
     };
-    for pair in pairs_at(search.steps, &search.marks, placed) {
-        if let Some(pair) = pair
-            && search.steps.image().start() <= pair.address
-            && pair.is_plausible()
-            && let Some(meant) = address(pair.meant())
-        {
-            found.push((meant, false))?;
+    if may_begin(placed.step.op) {
+        for pair in pairs_at(search.steps, &search.marks, placed) {
+            if let Some(pair) = pair
+                && search.steps.image().start() <= pair.address
+                && pair.is_plausible()
+                && let Some(meant) = address(pair.meant())
+            {
+                found.push((meant, false))?;
+            }
         }
     }
     if let Some(end) = placed.step.end {

@@ -89,6 +89,11 @@ fn is_load(op: Op) -> bool {
     op.mode == Mode::Imm && matches!(op.mnemonic, Mnemonic::Lda | Mnemonic::Ldx | Mnemonic::Ldy)
 }
 
+/// Returns whether a pair may begin with the instruction.
+pub fn may_begin(op: Op) -> bool {
+    is_load(op) || op.mnemonic == Mnemonic::Clc
+}
+
 /// Whether it adds an immediate.
 fn is_sum(op: Op) -> bool {
     op.mode == Mode::Imm && op.mnemonic == Mnemonic::Adc
@@ -277,6 +282,9 @@ fn pairs_of(
         let Some(first) = steps.marked(survey.reached, at) else {
             continue;
         };
+        if !may_begin(first.step.op) {
+            continue;
+        }
         for pair in pairs_at(steps, survey.reached, first) {
             if let Some(pair) = pair
                 && start <= pair.address
