@@ -18,14 +18,14 @@ fn leads(ground: &Ground<'_>, survey: &Survey<'_>, less: u16, at: usize) -> bool
 /// How many words a row has that begins at the address: each, and this much more, is the address of a routine, there are three at least, and the first
 /// two are different.
 fn row_len(ground: &Ground<'_>, survey: &Survey<'_>, less: u16, from: usize, end: usize) -> usize {
+    if ground.word(from) == ground.word(from.saturating_add(2)) {
+        return 0;
+    }
     let words = (from..end).step_by(2);
     let count = words
         .take_while(|at| leads(ground, survey, less, *at))
         .count();
-    if count < ROW || ground.word(from) == ground.word(from.saturating_add(2)) {
-        return 0;
-    }
-    count
+    if ROW <= count { count } else { 0 }
 }
 
 /// Returns where words begin that may be an address of a routine, or less one, or that of a name. Fails only if an allocation failed.
