@@ -29,6 +29,11 @@ const PIECES: usize = 8;
 /// An address that may begin code, and whether it is one right behind what is known.
 type Candidate = (u16, bool);
 
+/// Whether no reached instruction has the address: else what begins there would share a byte with that.
+fn is_open(search: &Search<'_, '_, '_>, address: u16) -> bool {
+    !search.code.get(address) && !search.marks.get(address)
+}
+
 /// Adds the addresses that a reached instruction gives: the one behind it and its text, and those that it begins to load in halves.
 fn put_candidates_of(
     found: &mut Vec<Candidate>,
@@ -44,12 +49,15 @@ fn put_candidates_of(
                 && search.steps.image().start() <= pair.address
                 && pair.is_plausible()
                 && let Some(meant) = address(pair.meant())
+                && is_open(search, meant)
             {
                 found.push((meant, false))?;
             }
         }
     }
-    if let Some(end) = placed.step.end {
+    if let Some(end) = placed.step.end
+        && is_open(search, end)
+    {
         found.push((end, true))?;
     }
     Ok(())
@@ -117,8 +125,7 @@ fn join_candidate(
     Ok(())
 }
 
-/// Lets the sound beginnings join that these reached instructions give, and those right behind rows, in the order of their addresses; but none that a
-/// reached instruction has: it would share a byte with that.
+/// Lets the sound beginnings join that these reached instructions give, and those right behind rows, in the order of their addresses.
 fn join_candidates(
     alloc: Global,
     search: &mut Search<'_, '_, '_>,
@@ -130,9 +137,10 @@ fn join_candidates(
         put_candidates_of(&mut candidates, search, reason)?;
     }
     for &address in behind {
-        candidates.push((address, true))?;
+        if is_open(search, address) {
+            candidates.push((address, true))?;
+        }
     }
-    candidates.retain(|candidate| !search.code.get(candidate.0) && !search.marks.get(candidate.0));
     candidates.sort()?;
     for &candidate in &candidates {
         join_candidate(alloc, search, candidate)?;

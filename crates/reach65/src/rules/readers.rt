@@ -4,7 +4,7 @@ use crate::rules::bytes::{address, addresses, byte};
 use crate::rules::growth::IN_TABLE;
 use crate::rules::halves::stored_to;
 use crate::rules::sound::reads_on;
-use crate::rules::step::{Placed, Step, Steps};
+use crate::rules::step::{Step, Steps};
 use isa65::{Mnemonic, Mode};
 use map65::{Image, Marks};
 use std::alloc::{AllocError, Global};
@@ -110,9 +110,8 @@ struct Pointers {
 }
 
 impl Pointers {
-    /// Adds what the instruction does.
-    fn put(&mut self, placed: Placed<'_>) {
-        let Placed { at, step } = placed;
+    /// Adds what the instruction at the address does.
+    fn put(&mut self, at: u16, step: &Step) {
         match (step.op.mode, step.operand, step.byte) {
             (Mode::Ind, Some(pointer), _) => self.jumps.set(pointer),
             (Mode::Indx | Mode::Indy | Mode::Zpind, _, Some(pointer)) => {
@@ -168,10 +167,10 @@ pub fn tables_of(
     let mut readers = Vec::new(alloc);
     for at in addresses(steps.image()) {
         if reached.get(at)
-            && let Some(placed) = steps.marked(reached, at)
+            && let Some(step) = steps.at(at)
         {
-            pointers.put(placed);
-            if matches!(placed.step.op.mode, Mode::Absx | Mode::Absy | Mode::Absindx) {
+            pointers.put(at, step);
+            if matches!(step.op.mode, Mode::Absx | Mode::Absy | Mode::Absindx) {
                 readers.push(at)?;
             }
         }
