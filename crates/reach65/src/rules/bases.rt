@@ -45,7 +45,7 @@ pub fn bases_of(
     survey: &Survey<'_>,
 ) -> Result<Vec<Base>, AllocError> {
     let mut found = Vec::new(alloc);
-    for &reader in &survey.places {
+    for &reader in &survey.users {
         if let Some(step) = steps.at(reader)
             && let Some(base) = base_of(steps, survey, reader, step)
             && !steps.tags().iter().any(|tag| tag.kind == TagKind::Base

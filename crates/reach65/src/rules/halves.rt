@@ -278,13 +278,10 @@ fn pairs_of(
 ) -> Result<Vec<(bool, Pair)>, AllocError> {
     let start = steps.image().start();
     let mut pairs = Vec::new(alloc);
-    for &at in &survey.places {
+    for &at in &survey.firsts {
         let Some(first) = steps.marked(survey.reached, at) else {
             continue;
         };
-        if !may_begin(first.step.op) {
-            continue;
-        }
         for pair in pairs_at(steps, survey.reached, first) {
             if let Some(pair) = pair
                 && start <= pair.address

@@ -17,7 +17,7 @@ fn loaded_from(step: &Step) -> Option<u16> {
 /// Marks two neighbouring bytes that nothing speaks for, if reached code loads both, one right after the other or with a store between, and they
 /// form an address of the image that no reached code has, or where a routine begins.
 pub fn mark_loaded(ground: &mut Ground<'_>, steps: &Steps<'_, '_>, survey: &Survey<'_>) {
-    for &at in &survey.places {
+    for &at in &survey.users {
         let Some(one) = steps.at(at).and_then(|step| loaded_from(step)) else {
             continue;
         };

@@ -1,6 +1,7 @@
 //! What reached code does with addresses.
 
 use crate::rules::bytes::addresses;
+use crate::rules::halves::may_begin;
 use crate::rules::step::{Placed, Steps};
 use isa65::Mnemonic;
 use map65::{Marks, is_jump};
@@ -27,8 +28,10 @@ pub struct Survey<'r> {
     pub written: Marks,
     /// A text behind a call begins there that ends with a zero byte.
     pub texts: Marks,
-    /// Where the reached instructions begin, in order.
-    pub places: Vec<u16>,
+    /// Where the instructions begin with which a pair of halves may begin, in order.
+    pub firsts: Vec<u16>,
+    /// Where those begin that have an absolute operand, in order.
+    pub users: Vec<u16>,
     /// Where calls begin.
     pub calls: Vec<u16>,
 }
@@ -77,13 +80,12 @@ impl<'r> Survey<'r> {
             operands: Marks::none(alloc)?,
             written: Marks::none(alloc)?,
             texts: Marks::none(alloc)?,
-            places: Vec::new(alloc),
+            firsts: Vec::new(alloc),
+            users: Vec::new(alloc),
             calls: Vec::new(alloc),
         };
         for at in addresses(steps.image()) {
-            if reached.get(at)
-                && let Some(placed) = steps.marked(reached, at)
-            {
+            if let Some(placed) = steps.marked(reached, at) {
                 survey.put(placed)?;
             }
         }
@@ -99,7 +101,9 @@ impl<'r> Survey<'r> {
     /// Marks what the instruction does.
     fn put(&mut self, placed: Placed<'_>) -> Result<(), AllocError> {
         let Placed { at, step } = placed;
-        self.places.push(at)?;
+        if may_begin(step.op) {
+            self.firsts.push(at)?;
+        }
         set_some(&mut self.gone_on, step.next);
         set_some(&mut self.texts, step.text);
         if let Some(goal) = step.goal {
@@ -112,6 +116,7 @@ impl<'r> Survey<'r> {
             }
         }
         if let Some(operand) = step.operand {
+            self.users.push(at)?;
             if step.to.is_none() {
                 self.operands.set(operand);
             }
