@@ -17,8 +17,8 @@ use crate::source_line::SourceLine;
 use std::alloc::{AllocError, Allocator, Global};
 use text65::first_line;
 
-/// A line that defines a name mostly has more bytes than so many.
-const BYTES_OF_A_NAME: usize = 8;
+/// A text mostly defines no more than a name for so many bytes.
+const BYTES_OF_A_NAME: usize = 32;
 
 /// A text, the language in which it is read, and where it and its segments begin.
 #[derive(Clone, Copy)]
