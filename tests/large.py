@@ -58,7 +58,7 @@ def symbol_hash(name):
 
 
 def sharing(count):
-    """A text that defines that many names, which share one of the 262,144 slots that as65 has for more than a MiB: bits
+    """A text that defines that many names, which share one of the 262,144 slots that as65 has for 4 MiB and more: bits
     32 to 49 of the hash of each are 0."""
     letters = "abcdefghijklmnopqrstuvwxyz"
     words = ["".join(four) for four in itertools.product(letters, repeat=4)]
@@ -71,4 +71,4 @@ def sharing(count):
                 break
             text.append(f"{start}{ends[at][1]} := 0\n")
         if len(text) >= count:
-            return f"; {'':<{1 << 20}}\n nop\n" + "".join(text[:count])
+            return f"; {'':<{1 << 22}}\n nop\n" + "".join(text[:count])
