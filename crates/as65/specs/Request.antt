@@ -4,21 +4,21 @@ use Rattle.std.specs.List.{list_any, starts_with, take_while}
 use Rattle.std.specs.Str.{bytes_eq}
 use Rattle.std.specs.String.{string_bytes}
 use Rattle.clap.specs.Words.{Row, Text, first_of}
-use Rattle.usage65.specs.Words.{BadUsage, LacksStart, NamesView, Refusal, TwoOfStandardInput, address_in, byte_in, given, info_named, input_named, is_set, is_taken, names_apart, names_seen, or_refused, output_named, ◌>>=◌}
-use Rattle.as65.specs.Types.{Compare, Place, Words, Work, Write}
+use Rattle.usage65.specs.Words.{BadUsage, LacksStart, FileNamesView, Refusal, TwoOfStandardInput, address_in, byte_in, given, info_named, input_named, is_set, is_taken, names_apart, names_seen, or_refused, output_named, ◌>>=◌}
+use Rattle.as65.specs.Types.{Compare, Placement, Words, Work, Write}
 
 -- a listing, the information file, the output, where the bytes belong, and whether the names are asked for
 pub record Given : Type 0 where
   pub listing : Text
   pub info : Option Text
   pub output : Option Text
-  pub place : Place
+  pub place : Placement
   pub labels : Bool
 
 -- what is asked for: the bytes of a listing or its names, or a comparison with an image
 pub data WorkView : Type 0 where
-  AskWrite : NamesView → Place → Bool → WorkView
-  AskCompare : NamesView → Place → Text → WorkView
+  AskWrite : FileNamesView → Placement → Bool → WorkView
+  AskCompare : FileNamesView → Placement → Text → WorkView
 
 -- the work as what is asked for
 abbrev pub work_of : Work → WorkView

@@ -45,7 +45,7 @@ use request::{Comparing, Work, Writing, is_compared_by, is_comparing, request_of
 use status::{Ended, status_of};
 use std::process::ExitCode;
 use stmt65::Source;
-use usage65::{Names, Request, RequestFault, words_of};
+use usage65::{FileNames, Request, RequestFault, words_of};
 
 /// Where the information file of this name, under the start of the command line, places the bytes of a listing.
 fn start_in(rt: &HostRuntime, name: Option<&str>, info: &Info) -> Result<u16, Failure> {
@@ -62,7 +62,7 @@ fn start_in(rt: &HostRuntime, name: Option<&str>, info: &Info) -> Result<u16, Fa
 /// Writes the bytes of a listing, if its labels are where they have to be. The output is created once the bytes are there.
 fn write_source(
     rt: &HostRuntime,
-    names: &mut Names,
+    names: &mut FileNames,
     in_place: bool,
     source: &Source<'_, '_, '_>,
 ) -> Result<Ended, Failure> {
@@ -80,7 +80,7 @@ fn write_source(
 /// Writes the names of a listing. The output is created once they are there.
 fn write_labels(
     rt: &HostRuntime,
-    names: &mut Names,
+    names: &mut FileNames,
     source: &Source<'_, '_, '_>,
 ) -> Result<Ended, Failure> {
     let text = names_in(rt.alloc(), source, names.listing.as_str())?;

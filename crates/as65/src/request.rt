@@ -12,8 +12,8 @@ use clap::ArgMatches;
 use std::alloc::Global;
 use std::env::{Env, FillError};
 use usage65::{
-    Names, Request, RequestFault, UsageFault, address_of, byte_of, info_named, input_named, is_set,
-    is_taken, names_apart, output_named, text_of,
+    FileNames, Request, RequestFault, UsageFault, address_of, byte_of, info_named, input_named,
+    is_set, is_taken, names_apart, output_named, text_of,
 };
 
 /// The length of `--compare=`, which is the longest that is looked for in a word.
@@ -28,7 +28,7 @@ pub enum Work {
 
 /// What says where the bytes of a listing belong.
 #[derive(Clone, Copy)]
-pub struct Place {
+pub struct Placement {
     /// The address of the first byte; without one the information file says where it is, or the image ends at $FFFF.
     pub start: Option<u16>,
     /// The byte between segments that begin at their START; without one the segments move nothing.
@@ -40,8 +40,8 @@ pub struct Place {
 /// The bytes of a listing are to be written, or its names.
 #[derive(Drop)]
 pub struct Writing {
-    pub names: Names,
-    pub place: Place,
+    pub names: FileNames,
+    pub place: Placement,
     /// Whether the names are to be written in their place.
     pub labels: bool,
 }
@@ -49,8 +49,8 @@ pub struct Writing {
 /// A listing is to be compared with an image. The output is standard output.
 #[derive(Drop)]
 pub struct Comparing {
-    pub names: Names,
-    pub place: Place,
+    pub names: FileNames,
+    pub place: Placement,
     pub image: String,
 }
 
@@ -60,7 +60,7 @@ struct Given<'a> {
     listing: &'a str,
     info: Option<&'a str>,
     output: Option<&'a str>,
-    place: Place,
+    place: Placement,
     labels: bool,
 }
 
@@ -138,7 +138,7 @@ fn work_in(alloc: Global, matches: &ArgMatches) -> Result<Work, RequestFault>
         listing: input_named(text_of(matches, "listing")),
         info: info_named(text_of(matches, "info")),
         output: output_named(text_of(matches, "output")),
-        place: Place {
+        place: Placement {
             start,
             fill,
             in_place,

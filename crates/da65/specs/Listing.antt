@@ -14,7 +14,7 @@ use Rattle.da65.specs.Types.{Columns, Cpu, Jmp, Rts, Style}
 use Rattle.stmt65.specs.Views as view
 use Rattle.stmt65.specs.Words.{RemarksView, StatementView, fits_label, line_of}
 use Rattle.map65.specs.Words.{MapView, addresses, is_in_run, segment_at}
-use Rattle.da65.specs.BaseNames.{Names, base_name, is_base, names_of}
+use Rattle.da65.specs.BaseNames.{AddressNames, base_name, is_base, names_of}
 use Rattle.da65.specs.Comments.{comment_at}
 use Rattle.da65.specs.Groups.{group_addresses, group_bytes, group_len}
 use Rattle.da65.specs.Segments.{is_same_segment, segment_before, segment_statement}
@@ -54,11 +54,11 @@ comments m n a = flat_map (comment_lines m) (addresses n a)
 -- ---- constant lines
 
 -- a constant line defines the base that stands for the address
-abbrev pub has_constant_line : Names → ℕ → Bool
+abbrev pub has_constant_line : AddressNames → ℕ → Bool
 has_constant_line m v = is_base m v && m.has_constant v
 
 -- the line that gives the base its value
-abbrev pub assignment_line : Names → ℕ → ListingLine
+abbrev pub assignment_line : AddressNames → ℕ → ListingLine
 assignment_line m v = plain (view.assignment (base_name m v) v)
 
 -- it stands after the comment of its name
@@ -99,18 +99,18 @@ opening_lines m a = separator_lines m a ++ (segment_lines m a ++ comments m (gro
 -- ---- the lines of a group
 
 -- a name inside the group that begins at `first` is defined before it, by the distance from its first byte
-abbrev pub forward_line : Names → ℕ → ℕ → ListingLine
+abbrev pub forward_line : AddressNames → ℕ → ℕ → ListingLine
 forward_line m first v = plain (view.forward (base_name m v) (v - first))
 
-abbrev pub forward_lines : Names → ℕ → ℕ → List ListingLine
+abbrev pub forward_lines : AddressNames → ℕ → ℕ → List ListingLine
 forward_lines m first v = if is_base m v then forward_line m first v ∷ [] else []
 
 -- of the n addresses from one on, in their order
-abbrev pub forwards : Names → ℕ → ℕ → ℕ → List ListingLine
+abbrev pub forwards : AddressNames → ℕ → ℕ → ℕ → List ListingLine
 forwards m first n v = flat_map (forward_lines m first) (addresses n v)
 
 -- the label of an address
-abbrev pub label_at : Names → ℕ → Option (List ℕ)
+abbrev pub label_at : AddressNames → ℕ → Option (List ℕ)
 label_at m a = if is_base m a then Some (base_name m a) else None
 
 -- a statement that stands before its bytes, after this label if there is one

@@ -12,8 +12,8 @@ use Rattle.stmt65.specs.Words.{Definition, Distance, ExprView, Fixed, Fragment, 
 use Rattle.stmt65.specs.declared.source_line.Minus.TheVariants.{One}
 use Rattle.info65.specs.Names as given
 use Rattle.info65.specs.Words.{AreSegments}
-use Rattle.map65.specs.Words.{AreBytes, Base, ImageView, IsPlaced, MapView, code_size, end_of, opcodes, role_of, target_of, word_of}
-use Rattle.da65.specs.BaseNames.{AreSound, Names, base_name, is_base, names_of}
+use Rattle.map65.specs.Words.{AreBytes, Base, ImageView, IsPlaced, MapView, code_size, end_of, opcodes, role_of, target_of, operand_word}
+use Rattle.da65.specs.BaseNames.{AreSound, AddressNames, base_name, is_base, names_of}
 use Rattle.da65.specs.Groups.{begins, group_bytes, group_len, skips}
 use Rattle.da65.specs.Instructions.{instruction_in}
 use Rattle.da65.specs.KnownNames.{KnowsAll, KnowsConstants, definition_of, definitions_of}
@@ -47,14 +47,14 @@ NamesAreDefinedOnce = (m : MapView) (b : ℕ) → IsPlaced m.image → AreBytes 
 -- ---- expressions
 
 -- an address by its name or as a number, an operand in the zero page, and an entry of a return table, which is the address before
-pub record HaveTheirValues (m : Names) (all : List Definition) : Type 0 where
+pub record HaveTheirValues (m : AddressNames) (all : List Definition) : Type 0 where
   pub address : (a : ℕ) → value_in all (source_value (address_expr m a)) ≡ Some a
   pub zero_page : (a : ℕ) → value_in all (source_value (zero_page_expr m a)) ≡ Some a
   pub return : (a : ℕ) (b : Base) → 0 < a → m.base_at a ≡ Some b → value_in all (NameValue b.text (a - b.address) One) ≡ Some (a - 1)
 
 -- Each expression has the address or the word that it stands for.
 abbrev pub ExpressionsHaveTheirValues : Type 0
-ExpressionsHaveTheirValues = (image : ImageView) (m : Names) (all : List Definition) → AreSound image m → KnowsAll m all → HaveTheirValues m all
+ExpressionsHaveTheirValues = (image : ImageView) (m : AddressNames) (all : List Definition) → AreSound image m → KnowsAll m all → HaveTheirValues m all
 
 -- ---- instructions
 
@@ -85,35 +85,35 @@ pub record CodesInMode (s : State) (op : Op) (absolute : Bool) (os : OperandsVie
   pub coded : coding s (Instr op.mnemonic (source_form op.mode absolute os)) ≡ Some (Fixed opcode ∷ fragments_in op.mode os)
 
 -- bytes that begin with an instruction whose operands can be written
-pub record IsWritten (m : Names) (t : Table) (a : ℕ) (bytes : List ℕ) (op : Op) (os : OperandsView) : Type 0 where
+pub record IsWritten (m : AddressNames) (t : Table) (a : ℕ) (bytes : List ℕ) (op : Op) (os : OperandsView) : Type 0 where
   pub are_bytes : AreBytes bytes
   pub begins : instruction_in t bytes ≡ Some op
   pub has : operands_of m op.mode a bytes ≡ Some os
 
 -- The statement of an item is its instruction, if that can be written.
 abbrev pub WrittenIsInstruction : Type 0
-WrittenIsInstruction = (m : Names) (t : Table) (a : ℕ) (bytes : List ℕ) (op : Op) (os : OperandsView)
+WrittenIsInstruction = (m : AddressNames) (t : Table) (a : ℕ) (bytes : List ℕ) (op : Op) (os : OperandsView)
     → IsWritten m t a bytes op os → statement_in m t a bytes ≡ view.instr op (is_forced t op bytes) os
 
 -- Otherwise it is the item's bytes: of an undefined and a cut opcode, and of an instruction whose target lies outside the address space.
 abbrev pub UnwrittenIsBytes : Type 0
-UnwrittenIsBytes = (m : Names) (t : Table) (a : ℕ) (bytes : List ℕ) → AreBytes bytes → ((op : Op) (os : OperandsView) → IsWritten m t a bytes op os → ⊥)
+UnwrittenIsBytes = (m : AddressNames) (t : Table) (a : ℕ) (bytes : List ℕ) → AreBytes bytes → ((op : Op) (os : OperandsView) → IsWritten m t a bytes op os → ⊥)
     → statement_in m t a bytes ≡ view.bytes (item_in t bytes)
 
 -- Each instruction is coded in the mode that it was decoded from, below the constant lines: zero page or absolute is chosen back.
 abbrev pub ModeIsChosenBack : Type 0
-ModeIsChosenBack = (image : ImageView) (m : Names) (p : ℕ → Bool) (s : State) (a : ℕ) (bytes : List ℕ) (op : Op) (os : OperandsView)
+ModeIsChosenBack = (image : ImageView) (m : AddressNames) (p : ℕ → Bool) (s : State) (a : ℕ) (bytes : List ℕ) (op : Op) (os : OperandsView)
     → AreSound image m → KnowsConstants m p s.above → IsWritten m (table_of s.cpu) a bytes op os → CodesInMode s op (is_forced (table_of s.cpu) op bytes) os
 
 -- an address without a name, or with one whose base a constant line defines: an assembler knows whether it lies in the zero page
-abbrev pub HasKnownSize : Names → ℕ → Type 0
+abbrev pub HasKnownSize : AddressNames → ℕ → Type 0
 HasKnownSize m a = (b : Base) → m.base_at a ≡ Some b → m.has_constant b.address ≡ true
 
 -- `a:` stands exactly where without it another mode would be taken, unless the operand goes by the name of a label, which is never taken
 -- for an address in the zero page.
 abbrev pub ForcedWhereNeeded : Type 0
-ForcedWhereNeeded = (image : ImageView) (m : Names) (p : ℕ → Bool) (s : State) (a : ℕ) (bytes : List ℕ) (op : Op) (os : OperandsView)
-    → AreSound image m → KnowsConstants m p s.above → IsWritten m (table_of s.cpu) a bytes op os → HasKnownSize m (word_of bytes)
+ForcedWhereNeeded = (image : ImageView) (m : AddressNames) (p : ℕ → Bool) (s : State) (a : ℕ) (bytes : List ℕ) (op : Op) (os : OperandsView)
+    → AreSound image m → KnowsConstants m p s.above → IsWritten m (table_of s.cpu) a bytes op os → HasKnownSize m (operand_word bytes)
     → CodesInMode s op false os ↔ (is_forced (table_of s.cpu) op bytes ≡ false)
 
 -- A target that is written lies in the address space and in range, and its distance is the byte that was decoded.
@@ -130,7 +130,7 @@ pub record GivesBytes (all : List Definition) (s : State) (source : SourceLine) 
   pub leads : after s (Some source) ≡ record { at = s.at + length bytes; cpu = s.cpu; above = s.above; layout = s.layout }
 
 -- a place for bytes below the constant lines, in a text that defines all names
-pub record IsPlaceFor (image : ImageView) (m : Names) (all : List Definition) (s : State) (bytes : List ℕ) : Type 0 where
+pub record IsPlaceFor (image : ImageView) (m : AddressNames) (all : List Definition) (s : State) (bytes : List ℕ) : Type 0 where
   pub sound : AreSound image m
   pub known : KnowsAll m all
   -- these are defined above
@@ -143,7 +143,7 @@ pub record IsPlaceFor (image : ImageView) (m : Names) (all : List Definition) (s
 -- The statement of each item of code gives the item's bytes: of an instruction, and of a cut, an undefined and one whose target lies
 -- outside the address space.
 abbrev pub ItemGivesItsBytes : Type 0
-ItemGivesItsBytes = (image : ImageView) (m : Names) (all : List Definition) (s : State) (bytes : List ℕ) → IsPlaceFor image m all s bytes
+ItemGivesItsBytes = (image : ImageView) (m : AddressNames) (all : List Definition) (s : State) (bytes : List ℕ) → IsPlaceFor image m all s bytes
     → GivesBytes all s (source_line (statement_in m (table_of s.cpu) s.at bytes)) (item_in (table_of s.cpu) bytes)
 
 -- ---- groups
@@ -161,7 +161,7 @@ GroupsAreGroups = (m : MapView) (a : ℕ) → begins m a ≡ true → IsGroup m 
 
 -- The statement of each group gives the group's bytes.
 abbrev pub GroupGivesItsBytes : Type 0
-GroupGivesItsBytes = (image : ImageView) (m : Names) (all : List Definition) (s : State) (r : RangeType) (bytes : List ℕ) → IsPlaceFor image m all s bytes
+GroupGivesItsBytes = (image : ImageView) (m : AddressNames) (all : List Definition) (s : State) (r : RangeType) (bytes : List ℕ) → IsPlaceFor image m all s bytes
     → IsGroupOf (table_of s.cpu) r bytes → GivesBytes all s (source_line (statement_for m (table_of s.cpu) r s.at bytes)) bytes
 
 -- ---- the whole

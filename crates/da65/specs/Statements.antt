@@ -16,8 +16,8 @@ use Rattle.stmt65.specs.Words.{ExprView, OperandsView, StatementView, TargetView
 use Rattle.info65.specs.Words.{layout_of}
 use Rattle.info65.specs.declared.information.range.Entry.{Entry}
 use Rattle.info65.specs.declared.information.range.Entry.TheVariants as entry
-use Rattle.map65.specs.Words.{Base, MapView, entry_of, opcodes, return_target, role_of, target_of, unit_of, word_of}
-use Rattle.da65.specs.BaseNames.{Names, names_of}
+use Rattle.map65.specs.Words.{Base, MapView, entry_of, opcodes, return_target, role_of, target_of, unit_of, operand_word}
+use Rattle.da65.specs.BaseNames.{AddressNames, names_of}
 use Rattle.da65.specs.Groups.{group_bytes}
 use Rattle.da65.specs.Instructions.{instruction_in}
 
@@ -29,23 +29,23 @@ expr_from a None = view.number a
 expr_from a (Some b) = view.name b.text (a - b.address)
 
 -- an address goes by its name, if it has one
-unfoldable pub address_expr : Names → ℕ → ExprView
+unfoldable pub address_expr : AddressNames → ℕ → ExprView
 address_expr m a = expr_from a (m.base_at a)
 
 -- a base that a constant line defines, if this is one
-abbrev pub constant_base : Names → Option Base → Option Base
+abbrev pub constant_base : AddressNames → Option Base → Option Base
 constant_base m None = None
 constant_base m (Some b) = if m.has_constant b.address then Some b else None
 
 -- An operand in the zero page goes by name only if a constant line defines its base: otherwise an assembler takes it for an absolute one.
-unfoldable pub zero_page_expr : Names → ℕ → ExprView
+unfoldable pub zero_page_expr : AddressNames → ℕ → ExprView
 zero_page_expr m a = expr_from a (constant_base m (m.base_at a))
 
 -- ---- operands, of an instruction's bytes
 
 -- an operand of a kind, whose bytes begin at an index; `next` is the address after the instruction. The target of a distance may lie
 -- outside the address space.
-abbrev pub operand_expr : Names → OperandKind → ℕ → ℕ → List ℕ → Option ExprView
+abbrev pub operand_expr : AddressNames → OperandKind → ℕ → ℕ → List ℕ → Option ExprView
 operand_expr m kind.Byte next at bytes = Some (view.number (slice_index bytes at))
 operand_expr m kind.ZeroPage next at bytes = Some (zero_page_expr m (slice_index bytes at))
 operand_expr m kind.Word next at bytes = Some (address_expr m (slice_index bytes at + 256 * slice_index bytes (at + 1)))
@@ -55,20 +55,20 @@ abbrev pub both : Option ExprView → Option ExprView → Option OperandsView
 both (Some e) (Some f) = Some (view.two e f)
 both _ _ = None
 
-abbrev pub row_operands : Names → Row → ℕ → List ℕ → Option OperandsView
+abbrev pub row_operands : AddressNames → Row → ℕ → List ℕ → Option OperandsView
 row_operands m row.Implied next bytes = Some view.none
 row_operands m row.Accumulator next bytes = Some view.none
 row_operands m (row.One pattern kind) next bytes = option_map (λ e. view.one e) (operand_expr m kind next 1 bytes)
 row_operands m (row.Two first second) next bytes = both (operand_expr m first next 1 bytes) (operand_expr m second next (1 + size_of first) bytes)
 
 -- The operands of an instruction in a mode at an address: none if its target lies outside the address space.
-unfoldable pub operands_of : Names → Mode → ℕ → List ℕ → Option OperandsView
+unfoldable pub operands_of : AddressNames → Mode → ℕ → List ℕ → Option OperandsView
 operands_of m mode a bytes = row_operands m (row_of mode) (a + len_of mode) bytes
 
 -- `a:` stands before an absolute operand below $100 if the mnemonic has the zero-page mode that is written alike, which an
 -- assembler would take
 abbrev pub is_forced : Table → Op → List ℕ → Bool
-is_forced t op bytes = is_some (sibling_in t op) && nat_lt (word_of bytes) 256
+is_forced t op bytes = is_some (sibling_in t op) && nat_lt (operand_word bytes) 256
 
 -- ---- code
 
@@ -80,12 +80,12 @@ abbrev pub written : Table → Op → List ℕ → Option OperandsView → State
 written t op bytes (Some os) = view.instr op (is_forced t op bytes) os
 written t op bytes None = bytes_statement (len_of op.mode) bytes
 
-abbrev pub statement_of : Names → Table → ℕ → List ℕ → Option Op → StatementView
+abbrev pub statement_of : AddressNames → Table → ℕ → List ℕ → Option Op → StatementView
 statement_of m t a bytes (Some op) = written t op bytes (operands_of m op.mode a bytes)
 statement_of m t a bytes None = bytes_statement 1 bytes
 
 -- the statement of code that has these bytes: its instruction, or its bytes
-unfoldable pub statement_in : Names → Table → ℕ → List ℕ → StatementView
+unfoldable pub statement_in : AddressNames → Table → ℕ → List ℕ → StatementView
 statement_in m t a bytes = statement_of m t a bytes (instruction_in t bytes)
 
 -- ---- entries of tables
@@ -99,15 +99,15 @@ abbrev pub entry_by : (TargetView → StatementView) → List ℕ → Option Tar
 entry_by form bytes None = view.numbers Word bytes
 entry_by form bytes (Some t) = form t
 
-unfoldable pub address_entry : Names → List ℕ → StatementView
+unfoldable pub address_entry : AddressNames → List ℕ → StatementView
 address_entry m bytes = entry_by (λ t. view.addr t) bytes (option_map (target_by (entry_of bytes)) (m.base_at (entry_of bytes)))
 
-abbrev pub rts_to : Names → List ℕ → Option ℕ → StatementView
+abbrev pub rts_to : AddressNames → List ℕ → Option ℕ → StatementView
 rts_to m bytes None = view.rts None
 rts_to m bytes (Some a) = entry_by (λ t. view.rts (Some t)) bytes (option_map (target_by a) (m.base_at a))
 
 -- the entry $FFFF leads to no address
-unfoldable pub return_entry : Names → List ℕ → StatementView
+unfoldable pub return_entry : AddressNames → List ℕ → StatementView
 return_entry m bytes = rts_to m bytes (return_target (entry_of bytes))
 
 -- ---- numbers
@@ -128,7 +128,7 @@ abbrev pub entries_or_byte : ℕ → StatementView → List ℕ → StatementVie
 entries_or_byte unit entries bytes = if nat_lt (length bytes) unit then view.bytes bytes else entries
 
 -- The statement of a line of entries of so many bytes. Skipped bytes have none.
-abbrev pub statement_by : Names → Table → ℕ → Entry → ℕ → List ℕ → StatementView
+abbrev pub statement_by : AddressNames → Table → ℕ → Entry → ℕ → List ℕ → StatementView
 statement_by m t unit entry.Instruction a bytes = statement_in m t a bytes
 statement_by m t unit (entry.Number order) a bytes = entries_or_byte unit (numbers unit order bytes) bytes
 statement_by m t unit entry.Address a bytes = entries_or_byte unit (address_entry m bytes) bytes
@@ -137,7 +137,7 @@ statement_by m t unit entry.Character a bytes = view.text bytes
 statement_by m t unit entry.Skipped a bytes = view.blank
 
 -- The statement of a group of a role, at an address, that has these bytes.
-unfoldable pub statement_for : Names → Table → RangeType → ℕ → List ℕ → StatementView
+unfoldable pub statement_for : AddressNames → Table → RangeType → ℕ → List ℕ → StatementView
 statement_for m t r a bytes = statement_by m t (unit_of r) (layout_of r).entry a bytes
 
 -- The statement of the group that begins at an address.

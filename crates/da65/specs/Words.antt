@@ -1,6 +1,6 @@
 -- The words of clauses and proofs, here and in the crates above, from one place.
 pub use Rattle.da65.specs.Types.{Address, ByteOrder, Character, Constant, Cpu, Directive, Ending, Entered, Header, InfoFault, Instruction, ListingPlace, LittleEndian, Messages, Mode, NameKind, Number, Op, OperandKind, Place, RangeSpec, RangeType, Return, Row, RunFault, Skipped, Status, Stop, Style, Write}
-pub use Rattle.da65.specs.BaseNames.{AreSound, IsBaseOf, Names, base_name, is_base, is_constant, is_own, names_of}
+pub use Rattle.da65.specs.BaseNames.{AreSound, IsBaseOf, AddressNames, base_name, is_base, is_constant, is_own, names_of}
 pub use Rattle.da65.specs.Choices.{app, this_program}
 pub use Rattle.da65.specs.Code.Bases.{constant_offset, is_own_name, target_at}
 unfoldable pub use Rattle.da65.specs.Code.KeySet.{has_bit}

@@ -3,7 +3,7 @@
 use crate::fault::FileFault;
 use std::fs::{Metadata, metadata};
 use std::os::unix::fs::MetadataExt;
-use usage65::Names;
+use usage65::FileNames;
 
 /// What standard output is called.
 pub const STANDARD_OUTPUT: &str = "/dev/stdout";
@@ -79,7 +79,7 @@ pub fn need_plain(rt: &HostRuntime, output: Option<&str>) -> Result<(), FileFaul
 }
 
 /// Refuses an output that is an input or no file, and inputs that are one stream.
-pub fn keep_files(rt: &HostRuntime, names: &Names) -> Result<(), FileFault> {
+pub fn keep_files(rt: &HostRuntime, names: &FileNames) -> Result<(), FileFault> {
     let inputs = [names.info.as_deref(), Some(names.listing.as_str())];
     keep_inputs(rt, names.output.as_deref(), &inputs)?;
     need_plain(rt, names.output.as_deref())?;

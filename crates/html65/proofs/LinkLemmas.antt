@@ -10,7 +10,7 @@ use Rattle.std.proofs.lemmas.List.{append-nil, take-append-drop, take_rest}
 use Rattle.html65.specs.Links.{are_numbered, count_in, is_found, number_in, quoted_after, texts}
 use Rattle.html65.specs.PageText.{after_tag, kept, text_from}
 use Rattle.html65.specs.Pieces.{Piece, Tag, Text, is_other}
-use Rattle.html65.specs.declared.faults.Place.{Place}
+use Rattle.html65.specs.declared.faults.Region.{Region}
 
 pub quoted_none : (key tag : List ℕ) → length tag ≡ 0 → None ≡ quoted_after key tag
 unfolding quoted_after
@@ -79,16 +79,16 @@ taken_whole f taken left whole none is = rw (none, append-nil) at is
 
 -- ---- the text of the pieces
 
-pub tag_passed : (place behind : Place) (tag left : List ℕ) (rest : List Piece) → behind ≡ after_tag place tag → text_from behind rest ≡ left → text_from place (Tag tag ∷ rest) ≡ left
+pub tag_passed : (place behind : Region) (tag left : List ℕ) (rest : List Piece) → behind ≡ after_tag place tag → text_from behind rest ≡ left → text_from place (Tag tag ∷ rest) ≡ left
 unfolding text_from
 tag_passed place behind tag left rest is same = rw is at same
 
-pub text_passed : (place : Place) (text left left' : List ℕ) (rest : List Piece) → left ≡ kept place text ++ left' → text_from place rest ≡ left' → text_from place (Text text ∷ rest) ≡ left
+pub text_passed : (place : Region) (text left left' : List ℕ) (rest : List Piece) → left ≡ kept place text ++ left' → text_from place rest ≡ left' → text_from place (Text text ∷ rest) ≡ left
 unfolding text_from
 text_passed place text left left' rest is same = rw (is, same) refl
 
 -- a piece, and what is left
-pub passed_on : (place behind : Place) (left left' listing whole : List ℕ) (p : Piece) (ps rest : List Piece) → ps ≡ p ∷ rest
+pub passed_on : (place behind : Region) (left left' listing whole : List ℕ) (p : Piece) (ps rest : List Piece) → ps ≡ p ∷ rest
     → ((more : List Piece) → text_from behind more ≡ left' → text_from place (p ∷ more) ≡ left) → (text_from place ps ≡ left → whole ≡ listing) → text_from behind rest ≡ left' → whole ≡ listing
 passed_on place behind left left' listing whole p ps rest step passes before same = before (rw step (passes rest same))
 
@@ -99,7 +99,7 @@ begun left text is =
     rw take_rest (sym (rw (← same) at (take-append-drop (length text) left)))
 
 -- no piece is left
-pub passed_whole : (place : Place) (left listing whole : List ℕ) (ps : List Piece) → ps ≡ [] → length left ≡ 0 → (text_from place ps ≡ left → whole ≡ listing) → whole ≡ listing
+pub passed_whole : (place : Region) (left listing whole : List ℕ) (ps : List Piece) → ps ≡ [] → length left ≡ 0 → (text_from place ps ≡ left → whole ≡ listing) → whole ≡ listing
 unfolding text_from
 passed_whole place [] listing whole ps none empty before = before (rw none refl)
 passed_whole place (b ∷ bs) listing whole ps none empty before = absurd (omega arith)

@@ -4,23 +4,23 @@
 use Rattle.std.specs.Prelude.{ℕ, List, [], ◌∷◌, ◌++◌, codes, if◌then◌else◌}
 use Rattle.std.specs.Str.{bytes_eq}
 use Rattle.html65.specs.Pieces.{Piece, Tag, Text, pieces}
-use Rattle.html65.specs.declared.faults.Place.{Place}
-use Rattle.html65.specs.declared.faults.Place.TheVariants.{After, Before, Listing, Remark}
+use Rattle.html65.specs.declared.faults.Region.{Region}
+use Rattle.html65.specs.declared.faults.Region.TheVariants.{After, Before, Listing, Remark}
 
 -- where the text after a tag stands: before the listing, in it, in a remark of the page, or after it
-abbrev pub after_tag : Place → List ℕ → Place
+abbrev pub after_tag : Region → List ℕ → Region
 after_tag Before tag = if bytes_eq tag (codes "pre id=\"listing\"") then Listing else Before
 after_tag Listing tag = if bytes_eq tag (codes "i") then Remark else (if bytes_eq tag (codes "/pre") then After else Listing)
 after_tag Remark tag = if bytes_eq tag (codes "/i") then Listing else Remark
 after_tag After tag = After
 
 -- what of a text is the listing's
-abbrev pub kept : Place → List ℕ → List ℕ
+abbrev pub kept : Region → List ℕ → List ℕ
 kept Listing text = text
 kept place text = []
 
 -- the text of the listing in these pieces
-unfoldable pub text_from : Place → List Piece → List ℕ
+unfoldable pub text_from : Region → List Piece → List ℕ
 text_from place [] = []
 text_from place (Tag tag ∷ rest) = text_from (after_tag place tag) rest
 text_from place (Text text ∷ rest) = kept place text ++ text_from place rest

@@ -1,12 +1,12 @@
 -- What a command line asks for.
 use Rattle.std.specs.Prelude.{ℕ, List, Option, Result, Ok, codes}
 use Rattle.clap.specs.Words.{Row, first_of}
-use Rattle.usage65.specs.Words.{NamesView, Refusal, address_in, byte_in, given, info_named, input_named, names_apart, names_seen, or_refused, output_named, ◌>>=◌}
+use Rattle.usage65.specs.Words.{FileNamesView, Refusal, address_in, byte_in, given, info_named, input_named, names_apart, names_seen, or_refused, output_named, ◌>>=◌}
 use Rattle.html65.specs.declared.request.Showing.{Showing}
 
 -- a page: the names of files, the start, and the byte between segments
 pub record ShowingView : Type 0 where
-  pub names : NamesView
+  pub names : FileNamesView
   pub start : Option ℕ
   pub fill : Option ℕ
 

@@ -20,7 +20,7 @@ pub enum Fault {
 
 /// Where a text stands.
 #[derive(Clone, Copy)]
-pub enum Place {
+pub enum Region {
     /// Before the listing.
     Before,
     /// In the listing.
@@ -32,32 +32,32 @@ pub enum Place {
 }
 
 /// Where the text after a tag stands.
-fn after_tag(place: Place, tag: &[u8]) -> Place
+fn after_tag(place: Region, tag: &[u8]) -> Region
     ensures { result ≡ after_tag place tag.now }
 {
     match place {
-        Place::Before if tag == b"pre id=\"listing\"".as_slice() => Place::Listing,
-        Place::Listing if tag == b"i".as_slice() => Place::Remark,
-        Place::Listing if tag == b"/pre".as_slice() => Place::After,
-        Place::Remark if tag == b"/i".as_slice() => Place::Listing,
+        Region::Before if tag == b"pre id=\"listing\"".as_slice() => Region::Listing,
+        Region::Listing if tag == b"i".as_slice() => Region::Remark,
+        Region::Listing if tag == b"/pre".as_slice() => Region::After,
+        Region::Remark if tag == b"/i".as_slice() => Region::Listing,
         _ => place,
     }
 }
 
 /// What is left of the listing after a text of a page, if that begins it or is not the listing's.
 #[tactic(auto, using(crate::proofs::LinkLemmas::begun))]
-fn left_after<'t>(place: Place, left: &'t [u8], text: &[u8]) -> Option<&'t [u8]>
+fn left_after<'t>(place: Region, left: &'t [u8], text: &[u8]) -> Option<&'t [u8]>
     ensures { IfSome result (λ after. left.now ≡ kept place text.now ++ after.now) }
 {
     match place {
-        Place::Listing if left.starts_with(text) => Some(&left[text.len()..]),
-        Place::Listing => None,
+        Region::Listing if left.starts_with(text) => Some(&left[text.len()..]),
+        Region::Listing => None,
         _ => Some(left),
     }
 }
 
 /// Where the text after a piece stands and what is left of the listing there, if the piece has no other text than the listing.
-fn passed<'t>(place: Place, left: &'t [u8], piece: Piece<'_>) -> Option<(Place, &'t [u8])>
+fn passed<'t>(place: Region, left: &'t [u8], piece: Piece<'_>) -> Option<(Region, &'t [u8])>
     ensures { IfSome result (λ f. (rest : List APiece) → text_from f.0 rest ≡ f.1.now
         → text_from place (piece_of piece.entry ∷ rest) ≡ left.now) }
 {
@@ -201,7 +201,7 @@ pub fn fault_in(alloc: Global, page: &[u8], listing: &[u8]) -> Result<Option<Fau
 {
     let mut ids = Vec::new(alloc);
     let mut targets = Vec::new(alloc);
-    let mut place = Place::Before;
+    let mut place = Region::Before;
     let mut left = listing;
     let mut rest = page;
     'pieces: while let Some((piece, after)) = first_piece(rest) {

@@ -35,14 +35,14 @@ use files65::{
 use page::page_of;
 use request::{Showing, request_of};
 use std::process::ExitCode;
-use usage65::{Names, Request, words_of};
+use usage65::{FileNames, Request, words_of};
 
 /// The most that a listing may have: 16 MiB.
 const LIMIT: usize = 16_777_216;
 
 /// The page of these files. The output may not be the input of the information file either.
 fn page_for(rt: &HostRuntime, showing: &Showing) -> Result<Vec<u8>, Failure> {
-    let Names {
+    let FileNames {
         listing,
         info,
         output,

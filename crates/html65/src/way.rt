@@ -32,7 +32,7 @@ const TEXTS: [&str; 10] = [
 pub type Word = [u8; 4];
 
 /// Those of a word.
-pub fn word_of(text: &[u8]) -> Word {
+pub fn operation_of(text: &[u8]) -> Word {
     let mut word = *b"    ";
     for (to, from) in word.iter_mut().zip(text) {
         *to = from.to_ascii_lowercase();

@@ -3,7 +3,7 @@ use Rattle.std.proofs.Common.{arith, ◌≡◌, ◌∙◌, ℕ, Bool, List, [], 
 use Rattle.std.specs.Prelude.{Result, Ok, Err, IfOk, IsOk, Option, Some, None, ◌⊎◌}
 use Rattle.std.specs.List.{flat_map}
 use Rattle.std.proofs.lemmas.List.{append-nil}
-use Rattle.info65.specs.Words.{Accepts, AreGroups, AreNew, AssignmentView, Attribute, GroupKind, GroupView, InfoFault, InfoFaultKind, IsToken, Item, KindView, OptionsView, Place, Spells, State, TokenView, ValueView, after_group, assigned, at_attribute, at_brace, at_group, at_semicolon, attribute_at, attribute_named, closed, closed_by, closing_brace, closing_fault, end_items, finish, given_items, group, group_items, group_named, has_room, inside, is_given, one, opened, opening, opening_brace, outside, read_from, semicolon, step, value, value_of, valued, without_marks, word, ◌>>=◌}
+use Rattle.info65.specs.Words.{Accepts, AreGroups, AreNew, AssignmentView, Attribute, GroupKind, GroupView, InfoFault, InfoFaultKind, IsToken, Item, KindView, OptionsView, Stage, Spells, State, TokenView, ValueView, after_group, assigned, at_attribute, at_brace, at_group, at_semicolon, attribute_at, attribute_named, closed, closed_by, closing_brace, closing_fault, end_items, finish, given_items, group, group_items, group_named, has_room, inside, is_given, one, opened, opening, opening_brace, outside, read_from, semicolon, step, value, value_of, valued, without_marks, word, ◌>>=◌}
 use Rattle.info65.specs.Grammar.{mark}
 use Rattle.info65.specs.Reader.{named, value_at}
 use Rattle.info65.proofs.Cases.{by_result, by_test}
@@ -16,7 +16,7 @@ at P r x e h = rw e at h
 abbrev Names : List GroupView → TokenView → State → Type 0
 Names before t q = (k : GroupKind) × (t.kind ≡ word) × (group_named t.text ≡ Some k) × (q ≡ (opening k, before))
 
-abbrev Step : OptionsView → Place → List GroupView → TokenView → State → Type 0
+abbrev Step : OptionsView → Stage → List GroupView → TokenView → State → Type 0
 Step o outside before t q = Names before t q
 Step o closed before t q = ((t.kind ≡ semicolon) × (q ≡ (outside, before))) ⊎ Names before t q
 Step o (opening k) before t q = (t.kind ≡ opening_brace) × (q ≡ (inside k [], before))
@@ -69,7 +69,7 @@ value_read : (o : OptionsView) (k : GroupKind) (given : List AssignmentView) (a 
 unfolding value_at
 value_read o k given a before t = grind arith
 
-step_read : (o : OptionsView) (p : Place) (before : List GroupView) (t : TokenView) → IfOk (step o p before t) (Step o p before t)
+step_read : (o : OptionsView) (p : Stage) (before : List GroupView) (t : TokenView) → IfOk (step o p before t) (Step o p before t)
 unfolding step
 step_read o outside before t = group_read before t t.kind refl
 step_read o closed before t = after_read o before t t.kind refl
@@ -78,7 +78,7 @@ step_read o (inside k given) before t = inside_read o before k given t t.kind re
 step_read o (valued k given a) before t = value_read o k given a before t
 step_read o (assigned k given) before t = semicolon_read o before k given t t.kind refl
 
-step_again : (o : OptionsView) (p : Place) (before : List GroupView) (t : TokenView) (q : State) → Step o p before t q → step o p before t ≡ Ok q
+step_again : (o : OptionsView) (p : Stage) (before : List GroupView) (t : TokenView) (q : State) → Step o p before t q → step o p before t ≡ Ok q
 unfolding step attribute_at value_at
 step_again o outside before t q h = rw (h.1, h.2, h.3) refl
 step_again o closed before t q (inl h) = rw (h.0, h.1) refl
@@ -110,7 +110,7 @@ record Inside (o : OptionsView) (items : List Item) (k : GroupKind) (given : Lis
   keeps : AreGroups (before ++ group k (given ++ more) ∷ []) (without_marks spelling)
   gives : (before ++ group k (given ++ more) ∷ []) ++ without_marks spelling ≡ result
 
-abbrev Rest : OptionsView → Place → List GroupView → List TokenView → List GroupView → Type 0
+abbrev Rest : OptionsView → Stage → List GroupView → List TokenView → List GroupView → Type 0
 Rest o outside before ts r = Outside o [] before ts r
 Rest o closed before ts r = Outside o [] before ts r ⊎ Outside o (mark semicolon ∷ []) before ts r
 Rest o (opening k) before ts r = Inside o (mark opening_brace ∷ []) k [] before ts r
@@ -144,7 +144,7 @@ close_front o b k given before t ts r c spelling h keeps gives =
 name_front : (o : OptionsView) (a : Attribute) (k : GroupKind) (given : List AssignmentView) (before : List GroupView) (t : TokenView) (ts : List TokenView) (r : List GroupView) → t.kind ≡ word → attribute_named k t.text ≡ Some a → is_given before k given a ≡ false → Rest o (valued k given a) before ts r → Inside o [] k given before (t ∷ ts) r
 name_front o a k given before t ts r w n g h = grind (arith, append_assoc)
 
-in_front : (o : OptionsView) (p : Place) (before : List GroupView) (t : TokenView) (q : State) (ts : List TokenView) (r : List GroupView) → Step o p before t q → Rest o q.0 q.1 ts r → Rest o p before (t ∷ ts) r
+in_front : (o : OptionsView) (p : Stage) (before : List GroupView) (t : TokenView) (q : State) (ts : List TokenView) (r : List GroupView) → Step o p before t q → Rest o q.0 q.1 ts r → Rest o p before (t ∷ ts) r
 in_front o outside before t q ts r h rest = group_front o h.0 before t ts r h.1 h.2 (rw h.3 at rest)
 in_front o closed before t q ts r (inl h) rest = grind arith
 in_front o closed before t q ts r (inr h) rest = inl (group_front o h.0 before t ts r h.1 h.2 (rw h.3 at rest))
@@ -181,7 +181,7 @@ inside_off o k given before t ts r (x ∷ xs) b spelling h n c keeps e =
       (x.value, n.1, record { more = xs; closed = b; spelling = spelling; spelled = h.1; new = n.2; closes = rw a c; keeps = rw a keeps; gives = rw a e }),
     )
 
-taken_off : (o : OptionsView) (p : Place) (before : List GroupView) (t : TokenView) (ts : List TokenView) (r : List GroupView) → Rest o p before (t ∷ ts) r → (q : State) × Step o p before t q × Rest o q.0 q.1 ts r
+taken_off : (o : OptionsView) (p : Stage) (before : List GroupView) (t : TokenView) (ts : List TokenView) (r : List GroupView) → Rest o p before (t ∷ ts) r → (q : State) × Step o p before t q × Rest o q.0 q.1 ts r
 taken_off o outside before t ts r h = let g = group_off o before t ts r h.spelling h.spelled h.keeps h.gives in ((opening g.0, before), (g.0, g.1, g.2, refl), g.3)
 taken_off o closed before t ts r (inl h) = let g = group_off o before t ts r h.spelling h.spelled h.keeps h.gives in ((opening g.0, before), inr (g.0, g.1, g.2, refl), g.3)
 taken_off o closed before t ts r (inr h) = ((outside, before), inl (h.spelled.0, refl), record { spelling = h.spelling; spelled = h.spelled.1; keeps = h.keeps; gives = h.gives })
@@ -199,7 +199,7 @@ not_inside o k [] true spelling h = h
 not_inside o k [] false spelling h = h
 not_inside o k (x ∷ xs) b spelling h = h
 
-at_end : (o : OptionsView) (p : Place) (before r : List GroupView) (ending : Result ℕ InfoFault) → IsOk ending → Rest o p before [] r → finish p before ending ≡ Ok r
+at_end : (o : OptionsView) (p : Stage) (before r : List GroupView) (ending : Result ℕ InfoFault) → IsOk ending → Rest o p before [] r → finish p before ending ≡ Ok r
 unfolding finish
 at_end o p before r (Err e) ok h = absurd cc
 at_end o outside before r (Ok line) ok h = ap (λ x. Ok x) (no_groups o before r h.spelling h.spelled h.gives)
@@ -210,7 +210,7 @@ at_end o (inside k given) before r (Ok line) ok h = absurd (not_inside o k h.mor
 at_end o (valued k given a) before r (Ok line) ok h = absurd h.2.spelled
 at_end o (assigned k given) before r (Ok line) ok h = absurd h.spelled
 
-ended : (o : OptionsView) (p : Place) (before : List GroupView) (ending : Result ℕ InfoFault) → IfOk (finish p before ending) (λ r. IsOk ending × Rest o p before [] r)
+ended : (o : OptionsView) (p : Stage) (before : List GroupView) (ending : Result ℕ InfoFault) → IfOk (finish p before ending) (λ r. IsOk ending × Rest o p before [] r)
 unfolding finish
 ended o outside before (Ok line) = (refl, record { spelling = []; spelled = tt; keeps = tt; gives = append-nil before })
 ended o closed before (Ok line) = (refl, inl (record { spelling = []; spelled = tt; keeps = tt; gives = append-nil before }))
@@ -218,7 +218,7 @@ ended o _ before _ = tt
 
 -- ---- the law
 
-read_rest : (o : OptionsView) (p : Place) (before : List GroupView) (ts : List TokenView) (ending : Result ℕ InfoFault) → IfOk (read_from o p before ts ending) (λ r. IsOk ending × Rest o p before ts r)
+read_rest : (o : OptionsView) (p : Stage) (before : List GroupView) (ts : List TokenView) (ending : Result ℕ InfoFault) → IfOk (read_from o p before ts ending) (λ r. IsOk ending × Rest o p before ts r)
 unfolding read_from
 read_rest o p before [] ending = ended o p before ending
 read_rest o p before (t ∷ ts) ending =
@@ -229,7 +229,7 @@ read_rest o p before (t ∷ ts) ending =
     (λ f g. rw g tt)))
     (λ f e. rw e tt)
 
-rest_read : (o : OptionsView) (p : Place) (before r : List GroupView) (ts : List TokenView) (ending : Result ℕ InfoFault) → IsOk ending → Rest o p before ts r → read_from o p before ts ending ≡ Ok r
+rest_read : (o : OptionsView) (p : Stage) (before r : List GroupView) (ts : List TokenView) (ending : Result ℕ InfoFault) → IsOk ending → Rest o p before ts r → read_from o p before ts ending ≡ Ok r
 unfolding read_from
 rest_read o p before r [] ending ok h = at_end o p before r ending ok h
 rest_read o p before r (t ∷ ts) ending ok h =

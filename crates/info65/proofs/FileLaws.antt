@@ -3,7 +3,7 @@ use Rattle.std.proofs.Common.{◌≡◌, ◌∙◌, ◌≤◌, ℕ, List, [], �
 use Rattle.std.specs.Prelude.{Result, Ok, Err, ◌⊎◌, nat_lt}
 use Rattle.std.proofs.lemmas.Bool.{ltb-false}
 use Rattle.std.proofs.lemmas.Bool.Decides.{nat_tests}
-use Rattle.info65.specs.Words.{AcceptsFiles, Expected, GroupView, InfoFault, InfoView, IsFaultless, IsInformation, IsOfEnd, IsOfToken, OptionsView, Place, RefusesFirst, State, TokenView, closed, fault, finish, groups_of, info_of, information, outside, read, read_from, step, tokens_of, ◌>>=◌}
+use Rattle.info65.specs.Words.{AcceptsFiles, Expected, GroupView, InfoFault, InfoView, IsFaultless, IsInformation, IsOfEnd, IsOfToken, OptionsView, Stage, RefusesFirst, State, TokenView, closed, fault, finish, groups_of, info_of, information, outside, read, read_from, step, tokens_of, ◌>>=◌}
 use Rattle.info65.proofs.Accepting.{accepted_groups, groups_accepted}
 use Rattle.info65.proofs.Cases.{by_result, by_test}
 
@@ -32,17 +32,17 @@ accepts_files o bytes info = (accepted o bytes info, accepts o bytes info)
 
 -- ---- the first fault
 
-none_faultless : (o : OptionsView) (p : Place) (before : List GroupView) → IsFaultless o p before []
+none_faultless : (o : OptionsView) (p : Stage) (before : List GroupView) → IsFaultless o p before []
 unfolding read_from finish
 none_faultless o outside before line = inl (before, refl)
 none_faultless o closed before line = inl (before, refl)
 none_faultless o _ before line = inr refl
 
-more_faultless : (o : OptionsView) (p : Place) (before : List GroupView) (t : TokenView) (ts : List TokenView) (q : State) → step o p before t ≡ Ok q → IsFaultless o q.0 q.1 ts → IsFaultless o p before (t ∷ ts)
+more_faultless : (o : OptionsView) (p : Stage) (before : List GroupView) (t : TokenView) (ts : List TokenView) (q : State) → step o p before t ≡ Ok q → IsFaultless o q.0 q.1 ts → IsFaultless o p before (t ∷ ts)
 unfolding read_from
 more_faultless o p before t ts q e h line = rw e (h line)
 
-finish_fault : (p : Place) (before : List GroupView) (ending : Result ℕ InfoFault) (e : InfoFault) → finish p before ending ≡ Err e → ((line : ℕ) × (ending ≡ Ok line) × (e ≡ fault line Expected)) ⊎ (ending ≡ Err e)
+finish_fault : (p : Stage) (before : List GroupView) (ending : Result ℕ InfoFault) (e : InfoFault) → finish p before ending ≡ Err e → ((line : ℕ) × (ending ≡ Ok line) × (e ≡ fault line Expected)) ⊎ (ending ≡ Err e)
 unfolding finish
 finish_fault outside before (Ok line) e h = absurd cc
 finish_fault closed before (Ok line) e h = absurd cc
@@ -51,7 +51,7 @@ finish_fault outside before (Err f) e h = let same : f ≡ e = cc in inr (ap (λ
 finish_fault closed before (Err f) e h = let same : f ≡ e = cc in inr (ap (λ x. Err x) same)
 finish_fault _ before (Err f) e h = let same : f ≡ e = cc in inr (ap (λ x. Err x) same)
 
-first : (o : OptionsView) (p : Place) (before : List GroupView) (ts : List TokenView) (ending : Result ℕ InfoFault) (e : InfoFault) → read_from o p before ts ending ≡ Err e → IsOfToken o p before ts e ⊎ IsOfEnd o p before ts ending e
+first : (o : OptionsView) (p : Stage) (before : List GroupView) (ts : List TokenView) (ending : Result ℕ InfoFault) (e : InfoFault) → read_from o p before ts ending ≡ Err e → IsOfToken o p before ts e ⊎ IsOfEnd o p before ts ending e
 unfolding read_from
 first o p before [] ending e h = inr (record { faultless = none_faultless o p before; ends = finish_fault p before ending e h })
 first o p before (t ∷ ts) ending e h =

@@ -7,10 +7,10 @@ use Rattle.std.proofs.lemmas.Bool.Decides.{nat_tests}
 use Rattle.std.proofs.lemmas.List.{append-nil}
 use denote.Bor.{Bor}
 use Rattle.text65.specs.Names.{has_name_form}
-use Rattle.info65.specs.Words.{Accepts, AreAllFormed, AreFormed, AreGroups, AreInLimits, AreOptions, AssignmentView, Attribute, Cpu, Form, GroupKind, GroupView, HasForm, InfoFault, IsAtMost, IsColumn, IsGroup, Item, KindView, OptionsView, RangeType, Spells, TokenView, ValueView, a_name, a_number, as_name, as_number, boolean_named, boolean_of, boolean_value, character, comment_value, cpu_value, end_items, form_of, given_items, global_given, global_part, group, group_items, groups_of, has_comment_form, in_form, is_file_name, label_value, name_value, number, read, settings_of, string, tokens_of, type_named, type_value, value_in, value_of, without_marks, word}
+use Rattle.info65.specs.Words.{Accepts, AreAllFormed, AreFormed, AreGroups, AreInLimits, AreOptions, AssignmentView, Attribute, Cpu, ValueForm, GroupKind, GroupView, HasForm, InfoFault, IsAtMost, IsColumn, IsGroup, Item, KindView, OptionsView, RangeType, Spells, TokenView, ValueView, a_name, a_number, as_name, as_number, boolean_named, boolean_of, boolean_value, character, comment_value, cpu_value, end_items, form_of, given_items, global_given, global_part, group, group_items, groups_of, has_comment_form, in_form, is_file_name, label_value, name_value, number, read, settings_of, string, tokens_of, type_named, type_value, value_in, value_of, without_marks, word}
 use Rattle.isa65.specs.Words.{cpu_named}
 use Rattle.info65.specs.declared.syntax.attribute.Attribute.TheVariants as attribute
-use Rattle.info65.specs.declared.syntax.attribute.Form.TheVariants as form
+use Rattle.info65.specs.declared.syntax.attribute.ValueForm.TheVariants as form
 use Rattle.info65.specs.declared.syntax.attribute.GroupKind.TheVariants as group_kind
 use Rattle.info65.proofs.Accepting.{groups_accepted}
 use Rattle.info65.proofs.Cases.{by_test}
@@ -37,7 +37,7 @@ boolean_formed : (line : ℕ) (b : Option Bool) → IfOk (boolean_value line b) 
 boolean_formed line (Some b) = tt
 boolean_formed line None = tt
 
-formed : (o : OptionsView) (a : Attribute) (line : ℕ) (source : List ℕ) (f : Form) (k : KindView) → IfOk (in_form o a line source f k) (HasForm f)
+formed : (o : OptionsView) (a : Attribute) (line : ℕ) (source : List ℕ) (f : ValueForm) (k : KindView) → IfOk (in_form o a line source f k) (HasForm f)
 formed o a line source form.FileName (string text) = name_formed o a line text
 formed o a line source form.CpuText (string text) = cpu_formed line (cpu_named text)
 formed o a line source form.TypeWord word = type_formed line (type_named source)
@@ -146,7 +146,7 @@ number_in (Some n) low high v d P h f g k = h
 number_in None low high (Some (a_number n)) d P h f g k = g n f.0 f.1
 number_in None low high _ d P h f g k = k
 
-at_most_in : (f : Form) (v : Option ValueView) → IsAtMost 120 f → IfSome v (HasForm f) → IfSome (as_number v) (λ n. n ≤ 120)
+at_most_in : (f : ValueForm) (v : Option ValueView) → IsAtMost 120 f → IfSome v (HasForm f) → IfSome (as_number v) (λ n. n ≤ 120)
 at_most_in (form.Number low high) (Some (a_number n)) h k = omega (arith, h, k.1)
 at_most_in (form.Number low high) (Some _) h k = tt
 at_most_in (form.Number low high) None h k = tt

@@ -12,7 +12,7 @@ use Rattle.info65.specs.contracts.syntax.attribute.Attribute as attribute_type
 use Rattle.info65.specs.Words.{AreAllFormed, AreFormed, AreGroups, AreIncludes, AreNew, AssignmentView, Attribute, Group, GroupKind, GroupView, HasForm, IncludeView, IncludesSaid, InfoFaultKind, IsGivenOr, SaysInclude, ValueView, a_boolean, a_character, a_name, as_boolean, as_character, as_name, closing_fault, form_of, group_seen, has_room, include_from, include_in, include_part, includes_of, is_file_name, is_of, tokens_of, value_in}
 use Rattle.info65.specs.IncludeLaws.{AreSaid}
 use Rattle.info65.specs.declared.syntax.attribute.Attribute.TheVariants as attribute
-use Rattle.info65.specs.declared.syntax.attribute.Form.TheVariants as form
+use Rattle.info65.specs.declared.syntax.attribute.ValueForm.TheVariants as form
 use Rattle.info65.specs.declared.syntax.attribute.GroupKind.TheVariants as kind
 use Rattle.info65.proofs.Cases.{by_test}
 use Rattle.info65.proofs.FormLemmas.{AreRead, accepted_read, file_name_formed, found_formed, read_keeps}

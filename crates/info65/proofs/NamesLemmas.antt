@@ -17,7 +17,7 @@ use Rattle.info65.specs.Code.Numbers.{number_at}
 use Rattle.text65.specs.Names.{has_name_form}
 use Rattle.info65.specs.Labels.{named}
 use Rattle.info65.specs.declared.syntax.attribute.Attribute.TheVariants as attribute
-use Rattle.info65.specs.declared.syntax.attribute.Form.TheVariants as form
+use Rattle.info65.specs.declared.syntax.attribute.ValueForm.TheVariants as form
 use Rattle.info65.specs.declared.syntax.attribute.GroupKind.TheVariants as kind
 use Rattle.info65.proofs.Cases.{by_test, is_some_find, same_some}
 use Rattle.info65.proofs.FormLemmas.{AreRead, accepted_read, found_formed, read_keeps, size_in}
@@ -46,13 +46,13 @@ pairs_from R f h a (suc n) = pairs_front R (f a) (names_from f (a + 1) n) (λ x 
 
 -- ---- a name that is found
 
-pub record Place (names : List NameView) (x : NameView) : Type 0 where
+pub record Stage (names : List NameView) (x : NameView) : Type 0 where
   pub index : ℕ
   pub low : index < length names
   pub is : (d : NameView) → get_or names index d ≡ x
 
 pub record Found (p : NameView → Bool) (names : List NameView) (x : NameView) : Type 0 where
-  pub place : Place names x
+  pub place : Stage names x
   pub passes : p x ≡ true
 
 pub found_some : (p : NameView → Bool) (names : List NameView) (x : NameView) → find p names ≡ Some x → Found p names x

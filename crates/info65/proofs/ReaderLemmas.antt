@@ -1,32 +1,32 @@
 -- One token more, at each place.
 use Rattle.std.proofs.Common.{◌≡◌, ◌∙◌, ℕ, Bool, ◌&&◌, List, [], ◌∷◌, ◌++◌, true, false, refl, ap, inl, inr, sym}
 use Rattle.std.specs.Prelude.{Result, Ok, Err, Some, None}
-use Rattle.info65.specs.Words.{AssignmentView, Attribute, Expected, Fails, GroupKind, GroupView, InfoFault, KindView, Leads, OptionsView, Place, Stream, TokenKind, TokenView, UnknownGroup, ValueView, after_group, assigned, at_attribute, at_brace, at_group, at_semicolon, attribute_at, closed, closed_by, closing_fault, ended, fault, finish, group, group_named, inside, is_semicolon, kind_seen, one, opened, opening, outside, place_after, read, read_from, read_token, refused, semicolon, step, valued, wanted, with_token, ◌>>=◌}
+use Rattle.info65.specs.Words.{AssignmentView, Attribute, Expected, Fails, GroupKind, GroupView, InfoFault, KindView, Leads, OptionsView, Stage, Stream, TokenKind, TokenView, UnknownGroup, ValueView, after_group, assigned, at_attribute, at_brace, at_group, at_semicolon, attribute_at, closed, closed_by, closing_fault, ended, fault, finish, group, group_named, inside, is_semicolon, kind_seen, one, opened, opening, outside, place_after, read, read_from, read_token, refused, semicolon, step, valued, wanted, with_token, ◌>>=◌}
 use Rattle.info65.specs.Reader.{value_at}
 use Rattle.info65.specs.declared.syntax.token.TokenKind.TheVariants as kind
 
 -- the next token is read
-pub read_next : (o : OptionsView) (p : Place) (b : List GroupView) (t : TokenView) (old new : Stream) → old ≡ with_token t new → read o p b old ≡ read_token o p b t new
+pub read_next : (o : OptionsView) (p : Stage) (b : List GroupView) (t : TokenView) (old new : Stream) → old ≡ with_token t new → read o p b old ≡ read_token o p b t new
 unfolding read read_token read_from
 read_next o p b t old new is = ap (read o p b) is
 
 -- no token is left
-read_none : (o : OptionsView) (p : Place) (b : List GroupView) (old : Stream) → old.tokens ≡ [] → read o p b old ≡ finish p b old.ending
+read_none : (o : OptionsView) (p : Stage) (b : List GroupView) (old : Stream) → old.tokens ≡ [] → read o p b old ≡ finish p b old.ending
 unfolding read read_from
 read_none o p b old is = ap (λ (ts : List TokenView). read_from o p b ts old.ending) is
 
 -- a token that is taken
-token_taken : (o : OptionsView) (p q : Place) (b c : List GroupView) (t : TokenView) (rest : Stream) → step o p b t ≡ Ok (q, c) → read_token o p b t rest ≡ read o q c rest
+token_taken : (o : OptionsView) (p q : Stage) (b c : List GroupView) (t : TokenView) (rest : Stream) → step o p b t ≡ Ok (q, c) → read_token o p b t rest ≡ read o q c rest
 unfolding read_token
 token_taken o p q b c t rest is = ap (λ r. r >>= λ x. read o x.0 x.1 rest) is
 
 -- a token that is refused
-token_refused : (o : OptionsView) (p : Place) (b : List GroupView) (t : TokenView) (rest : Stream) (e : InfoFault) → step o p b t ≡ Err e → read_token o p b t rest ≡ Err e
+token_refused : (o : OptionsView) (p : Stage) (b : List GroupView) (t : TokenView) (rest : Stream) (e : InfoFault) → step o p b t ≡ Err e → read_token o p b t rest ≡ Err e
 unfolding read_token
 token_refused o p b t rest e is = ap (λ r. r >>= λ x. read o x.0 x.1 rest) is
 
 -- the end or a fault, where a token is due
-pub missing : (o : OptionsView) (p : Place) (b : List GroupView) (old : Stream) (e : InfoFault) → finish p b old.ending ≡ Err (wanted old.ending) → (old.tokens ≡ []) × (wanted old.ending ≡ e) → read o p b old ≡ Err e
+pub missing : (o : OptionsView) (p : Stage) (b : List GroupView) (old : Stream) (e : InfoFault) → finish p b old.ending ≡ Err (wanted old.ending) → (old.tokens ≡ []) × (wanted old.ending ≡ e) → read o p b old ≡ Err e
 missing o p b old e due is = read_none o p b old is.0 ∙ due ∙ ap (λ w. Err w) is.1
 
 -- a token of another kind

@@ -13,7 +13,7 @@ use Rattle.info65.specs.SegmentLaws.{AreSaid, Share}
 use Rattle.info65.specs.Segments.{AreApart}
 use Rattle.info65.specs.Values.{as_address}
 use Rattle.info65.specs.declared.syntax.attribute.Attribute.TheVariants as attribute
-use Rattle.info65.specs.declared.syntax.attribute.Form.TheVariants as form
+use Rattle.info65.specs.declared.syntax.attribute.ValueForm.TheVariants as form
 use Rattle.info65.specs.declared.syntax.attribute.GroupKind.TheVariants as kind
 use Rattle.info65.specs.declared.information.range.RangeType.TheVariants as role
 use Rattle.info65.proofs.Cases.{by_test, or_last}

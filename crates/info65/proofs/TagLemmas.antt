@@ -8,7 +8,7 @@ use Rattle.memchr.specs.Find.{NoneBefore, Nowhere, Passes, is_byte}
 use Rattle.info65.specs.Tags.{at_start, in_groups, in_other}
 use Rattle.info65.specs.Words.{InfoFault, IsLine, Next, Outcome, Spot, Steps, Stream, TokenView, Turns, done, ended, opens_groups, seen, spot_after, stepped, tag_end, tag_step, tagged_byte, tagged_from, tagged_text, tags_from, turn_of, with_token}
 use Rattle.info65.specs.declared.syntax.lexer.Next.TheVariants as next
-use Rattle.info65.specs.declared.tags.place.Place.{Place}
+use Rattle.info65.specs.declared.tags.place.Stage.{Stage}
 
 -- a line feed ends a line
 pub lines_apart : (p : Spot) (line rest : List ℕ) → tagged_from p (line ++ 10 ∷ rest) ≡ tagged_from p line ++ 10 ∷ tagged_text rest
@@ -92,17 +92,17 @@ line_added bytes left line after old cut so =
 pub after_line : (left line after : List ℕ) → left ≡ line ++ 10 ∷ after → length after < length left
 after_line left line after cut = let all : length left ≡ length line + suc (length after) = ap length cut ∙ length-append line (10 ∷ after) in omega (arith, all)
 
-token-turns : (p : Place) (t : TokenView) (new : Stream) (r : Result Outcome InfoFault) → tag_step p t ≡ r → Turns p (with_token t new) (stepped r) new
+token-turns : (p : Stage) (t : TokenView) (new : Stream) (r : Result Outcome InfoFault) → tag_step p t ≡ r → Turns p (with_token t new) (stepped r) new
 unfolding tags_from
 token-turns p t new (Ok o) is = (λ found. rw is refl, omega arith)
 token-turns p t new (Err e) is = λ found. rw is refl
 
-end-turns : (p : Place) (line : ℕ) (new : Stream) (r : Result Bool InfoFault) → tag_end p line ≡ r → Turns p (ended line) (done r) new
+end-turns : (p : Stage) (line : ℕ) (new : Stream) (r : Result Bool InfoFault) → tag_end p line ≡ r → Turns p (ended line) (done r) new
 unfolding tags_from
 end-turns p line new (Ok b) is = λ found. rw is refl
 end-turns p line new (Err e) is = λ found. rw is refl
 
-pub turns : (p : Place) (old new : Stream) (read : Result Next InfoFault) → Steps old read new → Turns p old (turn_of p read) new
+pub turns : (p : Stage) (old new : Stream) (read : Result Next InfoFault) → Steps old read new → Turns p old (turn_of p read) new
 unfolding tags_from
 turns p old new (Ok (next.Token t)) is = rw is (token-turns p (seen t) new (tag_step p (seen t)) refl)
 turns p old new (Ok (next.End line)) is = rw is.0 (end-turns p line new (tag_end p line) refl)

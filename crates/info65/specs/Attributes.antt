@@ -2,10 +2,10 @@
 -- that stand for a type or a boolean.
 use Rattle.std.specs.Prelude.{Bool, true, false, ℕ, List, Option, Some, None, codes, if◌then◌else◌}
 use Rattle.std.specs.Str.{str_eq_ignore_ascii_case}
-use Rattle.info65.specs.Types.{Attribute, Form, GroupKind, RangeType}
+use Rattle.info65.specs.Types.{Attribute, ValueForm, GroupKind, RangeType}
 use Rattle.info65.specs.declared.syntax.attribute.GroupKind.TheVariants as group
 use Rattle.info65.specs.declared.syntax.attribute.Attribute.TheVariants as attribute
-use Rattle.info65.specs.declared.syntax.attribute.Form.TheVariants as form
+use Rattle.info65.specs.declared.syntax.attribute.ValueForm.TheVariants as form
 use Rattle.info65.specs.declared.information.range.RangeType.TheVariants as range_type
 
 -- the group of this name, with letters of any case
@@ -64,7 +64,7 @@ attribute_named group.Include text =
     else None))
 
 -- what the value of an attribute has to be
-unfoldable pub form_of : Attribute → Form
+unfoldable pub form_of : Attribute → ValueForm
 form_of attribute.InputName = form.FileName
 form_of attribute.OutputName = form.FileName
 form_of attribute.InputOffset = form.Number 0 16_777_216

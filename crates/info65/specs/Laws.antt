@@ -6,7 +6,7 @@ use Rattle.info65.specs.Faults.{fault}
 use Rattle.info65.specs.Grammar.{Accepts, IsInformation}
 use Rattle.info65.specs.Groups.{AssignmentView, GroupView, global_given, has, value_in}
 use Rattle.info65.specs.Ranges.{AreRanges, has_address, range_in, ranges_of}
-use Rattle.info65.specs.Reader.{Place, State, information, outside, read_from, step}
+use Rattle.info65.specs.Reader.{Stage, State, information, outside, read_from, step}
 use Rattle.info65.specs.Tokens.{TokenView, tokens_of}
 use Rattle.info65.specs.Values.{a_number, a_type, an_address}
 use Rattle.info65.specs.Views.{InfoView, OptionsView}
@@ -19,29 +19,29 @@ abbrev pub AcceptsFiles : Type 0
 AcceptsFiles = (o : OptionsView) (bytes : List ℕ) (info : InfoView) → (information o bytes ≡ Ok info) ↔ IsInformation o bytes info
 
 -- From this place on, after these groups, these tokens have no fault: at their end only more can be missing.
-abbrev pub IsFaultless : OptionsView → Place → List GroupView → List TokenView → Type 0
+abbrev pub IsFaultless : OptionsView → Stage → List GroupView → List TokenView → Type 0
 IsFaultless o p before ts =
     (line : ℕ) → ((groups : List GroupView) × (read_from o p before ts (Ok line) ≡ Ok groups))
     ⊎ (read_from o p before ts (Ok line) ≡ Err (fault line Expected))
 
 -- whatever follows these tokens, the fault is this
-abbrev pub Refuses : OptionsView → Place → List GroupView → List TokenView → InfoFault → Type 0
+abbrev pub Refuses : OptionsView → Stage → List GroupView → List TokenView → InfoFault → Type 0
 Refuses o p before ts e = (more : List TokenView) (ending : Result ℕ InfoFault) → read_from o p before (ts ++ more) ending ≡ Err e
 
 -- reading goes from one place, after some groups, over these tokens to another
-abbrev pub Reaches : OptionsView → Place → List GroupView → List TokenView → Place → List GroupView → Type 0
+abbrev pub Reaches : OptionsView → Stage → List GroupView → List TokenView → Stage → List GroupView → Type 0
 Reaches o p before [] q after = (p ≡ q) × (before ≡ after)
 Reaches o p before (t ∷ ts) q after = (next : State) × (step o p before t ≡ Ok next) × Reaches o next.0 next.1 ts q after
 
 -- The fault of a token: those before it have none, and reading them goes to a place where the token has
 -- this fault; whatever follows, it is the refusal.
-pub record IsOfToken (o : OptionsView) (p : Place) (before : List GroupView) (ts : List TokenView) (e : InfoFault) : Type 0 where
+pub record IsOfToken (o : OptionsView) (p : Stage) (before : List GroupView) (ts : List TokenView) (e : InfoFault) : Type 0 where
   pub front : List TokenView
   pub token : TokenView
   pub more : List TokenView
   pub parts : ts ≡ front ++ token ∷ more
   pub faultless : IsFaultless o p before front
-  pub place : Place
+  pub place : Stage
   pub groups : List GroupView
   pub reached : Reaches o p before front place groups
   pub is : step o place groups token ≡ Err e
@@ -49,7 +49,7 @@ pub record IsOfToken (o : OptionsView) (p : Place) (before : List GroupView) (ts
 
 -- the fault of the end: the tokens have none, and where they end something is missing or a token has a
 -- fault of its own
-pub record IsOfEnd (o : OptionsView) (p : Place) (before : List GroupView) (ts : List TokenView) (ending : Result ℕ InfoFault) (e : InfoFault) : Type 0 where
+pub record IsOfEnd (o : OptionsView) (p : Stage) (before : List GroupView) (ts : List TokenView) (ending : Result ℕ InfoFault) (e : InfoFault) : Type 0 where
   pub faultless : IsFaultless o p before ts
   pub ends : ((line : ℕ) × (ending ≡ Ok line) × (e ≡ fault line Expected)) ⊎ (ending ≡ Err e)
 

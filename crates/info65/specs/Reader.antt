@@ -31,16 +31,16 @@ use Rattle.info65.specs.Types.{Attribute, Expected, GivenTwice, GroupKind, InfoF
 --
 -- The end at any other place is Expected, and a token that has a fault of its own (BadByte, OpenString,
 -- BadNumber) is refused for that. The open group has its kind and what is given in it so far.
-pub data Place : Type 0 where
-  outside closed : Place
-  opening : GroupKind → Place
-  inside : GroupKind → List AssignmentView → Place
-  valued : GroupKind → List AssignmentView → Attribute → Place
-  assigned : GroupKind → List AssignmentView → Place
+pub data Stage : Type 0 where
+  outside closed : Stage
+  opening : GroupKind → Stage
+  inside : GroupKind → List AssignmentView → Stage
+  valued : GroupKind → List AssignmentView → Attribute → Stage
+  assigned : GroupKind → List AssignmentView → Stage
 
 -- the place, and the groups that are closed
 abbrev pub State : Type 0
-State = Place × List GroupView
+State = Stage × List GroupView
 
 abbrev pub group : GroupKind → List AssignmentView → GroupView
 group k given = record { kind = k; given = given }
@@ -97,7 +97,7 @@ unfoldable pub value_at : OptionsView → List GroupView → Attribute → Token
 value_at o before a t = value_of o a t >>= λ v. if has_room before a then Ok v else Err (fault t.line TooLarge)
 
 -- one token more, or its fault
-unfoldable pub step : OptionsView → Place → List GroupView → TokenView → Result State InfoFault
+unfoldable pub step : OptionsView → Stage → List GroupView → TokenView → Result State InfoFault
 step o outside before t = at_group before t t.kind
 step o closed before t = after_group before t t.kind
 step o (opening k) before t = at_brace before k t t.kind
@@ -114,21 +114,21 @@ abbrev pub done : List GroupView → Result ℕ InfoFault → Result (List Group
 done before (Ok line) = Ok before
 done before (Err e) = Err e
 
-unfoldable pub finish : Place → List GroupView → Result ℕ InfoFault → Result (List GroupView) InfoFault
+unfoldable pub finish : Stage → List GroupView → Result ℕ InfoFault → Result (List GroupView) InfoFault
 finish outside before ending = done before ending
 finish closed before ending = done before ending
 finish _ before ending = Err (wanted ending)
 
-unfoldable pub read_from : OptionsView → Place → List GroupView → List TokenView → Result ℕ InfoFault → Result (List GroupView) InfoFault
+unfoldable pub read_from : OptionsView → Stage → List GroupView → List TokenView → Result ℕ InfoFault → Result (List GroupView) InfoFault
 read_from o p before [] ending = finish p before ending
 read_from o p before (t ∷ ts) ending = step o p before t >>= λ q. read_from o q.0 q.1 ts ending
 
 -- what is read from here on: all groups, or the first fault
-unfoldable pub read : OptionsView → Place → List GroupView → Stream → Result (List GroupView) InfoFault
+unfoldable pub read : OptionsView → Stage → List GroupView → Stream → Result (List GroupView) InfoFault
 read o p before stream = read_from o p before stream.tokens stream.ending
 
 -- the same, with this token before them
-unfoldable pub read_token : OptionsView → Place → List GroupView → TokenView → Stream → Result (List GroupView) InfoFault
+unfoldable pub read_token : OptionsView → Stage → List GroupView → TokenView → Stream → Result (List GroupView) InfoFault
 read_token o p before t stream = step o p before t >>= λ q. read o q.0 q.1 stream
 
 -- the groups of a text

@@ -7,8 +7,8 @@ use Rattle.info65.specs.Lexemes.{KindView, closing_brace, number, opening_brace,
 use Rattle.info65.specs.Tokens.{Stream, TokenView, tokens_of}
 use Rattle.info65.specs.Types.{Expected, GivenTwice, InfoFault, Missing, OutOfRange, Tag, TagAttribute, TagKind, UnknownAttribute, UnknownGroup}
 use Rattle.info65.specs.declared.tags.place.Outcome.{Outcome}
-use Rattle.info65.specs.declared.tags.place.Place.{Place}
-use Rattle.info65.specs.declared.tags.place.Place.TheVariants as place
+use Rattle.info65.specs.declared.tags.place.Stage.{Stage}
+use Rattle.info65.specs.declared.tags.place.Stage.TheVariants as place
 use Rattle.info65.specs.declared.tags.tag.TagAttribute.TheVariants as attribute
 use Rattle.info65.specs.declared.tags.tag.TagKind.TheVariants as kind
 
@@ -145,7 +145,7 @@ blank_tag k line = record { kind = k; line = line; address = None; size = None; 
 
 -- ---- reading, token by token, as the groups of the file itself are read
 
-abbrev pub at_place : Place → Result Outcome InfoFault
+abbrev pub at_place : Stage → Result Outcome InfoFault
 at_place p = Ok (record { place = p; closed = None })
 
 abbrev pub opened : ℕ → Option TagKind → Result Outcome InfoFault
@@ -193,7 +193,7 @@ abbrev pub by_token : (KindView → ℕ → List ℕ → Result Outcome InfoFaul
 by_token at t = at t.kind t.line t.text
 
 -- where the reader is after a token, and the group that it closes
-unfoldable pub tag_step : Place → TokenView → Result Outcome InfoFault
+unfoldable pub tag_step : Stage → TokenView → Result Outcome InfoFault
 tag_step place.Outside t = by_token at_outside t
 tag_step place.Closed t = by_token at_closed t
 tag_step (place.Opening k) t = at_opening k t.kind t.line
@@ -202,12 +202,12 @@ tag_step (place.Valued tag a) t = at_valued tag a t.kind t.line
 tag_step (place.Assigned tag) t = at_assigned tag t.kind t.line
 
 -- the end stands outside of groups
-unfoldable pub tag_end : Place → ℕ → Result Bool InfoFault
+unfoldable pub tag_end : Stage → ℕ → Result Bool InfoFault
 tag_end place.Outside line = Ok true
 tag_end place.Closed line = Ok true
 tag_end _ line = Err (fault line Expected)
 
-unfoldable pub tags_from : Place → List Tag → List TokenView → Result ℕ InfoFault → Result (List Tag) InfoFault
+unfoldable pub tags_from : Stage → List Tag → List TokenView → Result ℕ InfoFault → Result (List Tag) InfoFault
 tags_from p found [] (Err e) = Err e
 tags_from p found [] (Ok line) = tag_end p line >>= λ ok. Ok found
 tags_from p found (t ∷ ts) ending = tag_step p t >>= λ o. tags_from o.place (found ++ option_to_list o.closed) ts ending

@@ -16,7 +16,7 @@ pub use Rattle.info65.specs.declared.syntax.assignment.Assignment.{Assignment}
 pub use Rattle.info65.specs.declared.syntax.assignment.Group.{Group}
 pub use Rattle.info65.specs.declared.syntax.assignment.Value.{Value}
 pub use Rattle.info65.specs.declared.syntax.attribute.Attribute.{Attribute}
-pub use Rattle.info65.specs.declared.syntax.attribute.Form.{Form}
+pub use Rattle.info65.specs.declared.syntax.attribute.ValueForm.{ValueForm}
 pub use Rattle.info65.specs.declared.syntax.attribute.GroupKind.{GroupKind}
 pub use Rattle.info65.specs.declared.syntax.lexeme.Class.{Class}
 pub use Rattle.info65.specs.declared.syntax.lexeme.Lexeme.{Lexeme}

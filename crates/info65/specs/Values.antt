@@ -1,7 +1,7 @@
 -- Values of attributes, and their faults.
 use Rattle.std.specs.Prelude.{◌≡◌, ◌≤◌, ℕ, Bool, true, false, ◌&&◌, ◌==◌, not, List, Option, Some, None, Result, Ok, Err, length, is_some, nat_le, if◌then◌else◌}
 use Rattle.std.specs.List.{list_all}
-use Rattle.info65.specs.Types.{Attribute, BadName, Cpu, Expected, Form, InfoFault, NameConflict, OutOfRange, RangeType}
+use Rattle.info65.specs.Types.{Attribute, BadName, Cpu, Expected, ValueForm, InfoFault, NameConflict, OutOfRange, RangeType}
 use Rattle.text65.specs.Names.{has_name_form}
 use Rattle.info65.specs.Attributes.{boolean_named, form_of, type_named}
 use Rattle.isa65.specs.Words.{cpu_named}
@@ -11,7 +11,7 @@ use Rattle.info65.specs.Names.{has_comment_form}
 use Rattle.info65.specs.Tokens.{TokenView}
 use Rattle.info65.specs.Views.{OptionsView}
 use Rattle.info65.specs.declared.syntax.attribute.Attribute.TheVariants as attribute
-use Rattle.info65.specs.declared.syntax.attribute.Form.TheVariants as form
+use Rattle.info65.specs.declared.syntax.attribute.ValueForm.TheVariants as form
 
 -- the value of an attribute
 pub data ValueView : Type 0 where
@@ -111,7 +111,7 @@ abbrev pub boolean_of : ℕ → Option Bool
 boolean_of n = if n == 0 then Some false else (if n == 1 then Some true else None)
 
 -- a token of the kind that the form takes, or something else was expected
-abbrev pub in_form : OptionsView → Attribute → ℕ → List ℕ → Form → KindView → Result ValueView InfoFault
+abbrev pub in_form : OptionsView → Attribute → ℕ → List ℕ → ValueForm → KindView → Result ValueView InfoFault
 in_form o a line source form.FileName (string text) = name_value o a line text
 in_form o a line source form.CpuText (string text) = cpu_value line (cpu_named text)
 in_form o a line source form.Address (number n) = address_value line n
@@ -130,7 +130,7 @@ unfoldable pub value_of : OptionsView → Attribute → TokenView → Result Val
 value_of o a t = in_form o a t.line t.text (form_of a) t.kind
 
 -- a value of this form
-abbrev pub HasForm : Form → ValueView → Type 0
+abbrev pub HasForm : ValueForm → ValueView → Type 0
 HasForm form.FileName (a_name text) = is_file_name text ≡ true
 HasForm form.CpuText (a_cpu c) = Unit {0}
 HasForm form.Address (an_address n) = n ≤ 0xFFFF

@@ -1,5 +1,5 @@
 -- The words of clauses and proofs, here and in the crates above, from one place.
-pub use Rattle.info65.specs.Types.{Address, Attribute, BadByte, BadInclude, BadName, BadNumber, BigEndian, Character, Class, Cpu, Expected, Form, Given, GivenTwice, Group, GroupKind, InfoFault, InfoFaultKind, Instruction, LittleEndian, Missing, NameTwice, Next, Number, OpenString, OutOfRange, RangeSpec, RangeType, RangesOverlap, ReservedName, Return, SegmentSpec, SegmentsOverlap, Skipped, Span, Start, TokenKind, TooLarge, UnknownAttribute, UnknownGroup, Value}
+pub use Rattle.info65.specs.Types.{Address, Attribute, BadByte, BadInclude, BadName, BadNumber, BigEndian, Character, Class, Cpu, Expected, ValueForm, Given, GivenTwice, Group, GroupKind, InfoFault, InfoFaultKind, Instruction, LittleEndian, Missing, NameTwice, Next, Number, OpenString, OutOfRange, RangeSpec, RangeType, RangesOverlap, ReservedName, Return, SegmentSpec, SegmentsOverlap, Skipped, Span, Start, TokenKind, TooLarge, UnknownAttribute, UnknownGroup, Value}
 unfoldable pub use Rattle.info65.specs.Attributes.{attribute_named, boolean_named, form_of, group_named, type_named}
 pub use Rattle.info65.specs.Closing.{label_fault, optional_name_fault, range_fault, segment_fault}
 unfoldable pub use Rattle.info65.specs.Closing.{closing_fault}
@@ -47,7 +47,7 @@ pub use Rattle.info65.specs.Names.{AreGiven, AreNames, IsComment, IsName, blank_
 unfoldable pub use Rattle.info65.specs.Names.{covering, covering_below, default_name, has_comment_form, is_like_default, is_reserved}
 pub use Rattle.info65.specs.Ranges.{AreRanges, has_address, last_from, range_between, range_from, range_part}
 unfoldable pub use Rattle.info65.specs.Ranges.{overlaps, range_in, range_of_parts, ranges_of}
-pub use Rattle.info65.specs.Reader.{Place, State, after_group, assigned, at_attribute, at_brace, at_end, at_group, at_semicolon, closed, closed_by, group, inside, one, opened, opening, outside, valued, wanted}
+pub use Rattle.info65.specs.Reader.{Stage, State, after_group, assigned, at_attribute, at_brace, at_end, at_group, at_semicolon, closed, closed_by, group, inside, one, opened, opening, outside, valued, wanted}
 unfoldable pub use Rattle.info65.specs.Reader.{attribute_at, finish, groups_of, information, read, read_from, read_token, step}
 pub use Rattle.info65.specs.SegmentLaws.{CoversOne, SaysSegment, SegmentsApart, SegmentsShare}
 pub use Rattle.info65.specs.Segments.{AreSegments, IsSegment, blank_segment, contains, segment_at, segment_from, segment_part}

@@ -23,8 +23,8 @@ abbrev pub byte_of : List ℕ → ℕ
 byte_of bytes = slice_index bytes 1
 
 -- the word after the opcode, low byte first
-abbrev pub word_of : List ℕ → ℕ
-word_of bytes = slice_index bytes 1 + 256 * slice_index bytes 2
+abbrev pub operand_word : List ℕ → ℕ
+operand_word bytes = slice_index bytes 1 + 256 * slice_index bytes 2
 
 -- The target of a branch: the address after the instruction plus a signed byte, if that lies in $0000 to $FFFF. A byte below $80 leads
 -- forward; any other leads back, by what it lacks of $100.
@@ -53,7 +53,7 @@ branch_target (Two first Distance) next bytes = target_of next (slice_index byte
 branch_target row next bytes = None
 
 abbrev pub row_target : ImageView → Mnemonic → Row → ℕ → List ℕ → Option ℕ
-row_target image m (One pattern Word) next bytes = word_target image m pattern (word_of bytes)
+row_target image m (One pattern Word) next bytes = word_target image m pattern (operand_word bytes)
 row_target image m row next bytes = branch_target row next bytes
 
 -- the target of an instruction in a mode, at an address, of these bytes

@@ -28,7 +28,7 @@ pub use Rattle.map65.specs.Segments.{borders}
 unfoldable pub use Rattle.map65.specs.Segments.{is_border, segment_at}
 unfoldable pub use Rattle.map65.specs.Spans.{addresses, left_at}
 pub use Rattle.map65.specs.Taking.{IsReadTo, TakeCount, TakesNoMore}
-pub use Rattle.map65.specs.Targets.{IsTarget, branch_target, byte_of, code_target, entry_of, entry_target, is_jump, only_inside, opcode_target, return_target, row_target, word_of, word_target}
+pub use Rattle.map65.specs.Targets.{IsTarget, branch_target, byte_of, code_target, entry_of, entry_target, is_jump, only_inside, opcode_target, return_target, row_target, operand_word, word_target}
 unfoldable pub use Rattle.map65.specs.Targets.{operand_target, target_at, target_for, target_of}
 pub use Rattle.map65.specs.Told.{told_failed, told_faults, told_of}
 pub use Rattle.info65.specs.declared.information.name.Given.{Given}

@@ -34,5 +34,6 @@ pub use name::{NameBuf, NameKind, Place};
 pub use reading::read_image;
 pub use roles::{is_skip, unit_of};
 pub use target::{
-    branch_target, entry_of, is_inside, is_jump, only_inside, return_target, target_of, word_of,
+    branch_target, entry_of, is_inside, is_jump, only_inside, operand_word, return_target,
+    target_of,
 };

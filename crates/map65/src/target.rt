@@ -2,7 +2,7 @@
 
 ghost use Rattle.std.specs.Prelude.{◌≡◌, ◌+◌, ◌<◌, ◌≤◌, IsTrue, length};
 ghost use Rattle.isa65.specs.Words.{len_of, row_len, table_of};
-ghost use Rattle.map65.specs.Words.{branch_target, bytes_from, end_of, entry_of, is_inside, is_jump, item_len, mapped, only_inside, opcode_target, operand_target, return_target, role_of, row_target, target_at, target_for, target_of, word_of, word_target};
+ghost use Rattle.map65.specs.Words.{branch_target, bytes_from, end_of, entry_of, is_inside, is_jump, item_len, mapped, only_inside, opcode_target, operand_target, return_target, role_of, row_target, target_at, target_for, target_of, operand_word, word_target};
 
 use crate::image::Image;
 use info65::{Entry, Info, RangeType};
@@ -10,10 +10,10 @@ use isa65::{DecodeTable, Mnemonic, Op, OpcodeSet, OperandKind, Pattern, Row};
 use std::alloc::Allocator;
 
 /// Returns the word after the opcode, low byte first.
-pub fn word_of(bytes: &[u8]) -> u16
+pub fn operand_word(bytes: &[u8]) -> u16
     requires { 3 ≤ length bytes.now }
     /// Returns the word after an opcode.
-    ensures { result ≡ word_of bytes.now }
+    ensures { result ≡ operand_word bytes.now }
 {
     u16::from(bytes[1]) + 256 * u16::from(bytes[2])
 }
@@ -134,7 +134,7 @@ fn row_target<A: Allocator>(
 {
     match row {
         Row::One(pattern, OperandKind::Word) => {
-            word_target(image, mnemonic, pattern, word_of(bytes))
+            word_target(image, mnemonic, pattern, operand_word(bytes))
         }
         _ => branch_target(row, next, bytes),
     }

@@ -5,14 +5,14 @@ use clap::ArgMatches;
 use isa65::Cpu;
 use std::alloc::Global;
 use usage65::{
-    Names, Request, RequestFault, UsageFault, address_of, addresses_of, cpu_of, info_named,
+    FileNames, Request, RequestFault, UsageFault, address_of, addresses_of, cpu_of, info_named,
     input_named, names_apart, output_named, text_of,
 };
 
 /// A listing is to be run here and later.
 #[derive(Drop)]
 pub struct Moving {
-    pub names: Names,
+    pub names: FileNames,
     /// The address of the first byte; without one the information file says where it is, or the last byte is at $FFFF.
     pub start: Option<u16>,
     pub cpu: Option<Cpu>,

@@ -240,7 +240,7 @@ impl Bus<Pair> for World {
         self.set(address, Some(value));
     }
 
-    fn word_of(&mut self, address: u16) -> Word<Pair> {
+    fn read_word(&mut self, address: u16) -> Word<Pair> {
         let [low, high] = address.to_le_bytes();
         let [later_low, later_high] = self.scene.wanted(address);
         Word {

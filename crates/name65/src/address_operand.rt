@@ -10,14 +10,14 @@ use crate::plan::{PlacedLine, Plan};
 use crate::reference::{Reference, put_reference};
 use crate::rewriting::{cut_at, put_rest};
 use crate::wishes::Wished;
-use stmt65::{Language, Part, Place, Places, Span};
+use stmt65::{Language, Part, PlacedPart, Places, Span};
 use text65::has_name_form;
 
 /// Whether an operation is that of an instruction, and no directive.
-fn is_instruction(operation: Option<Place<'_>>) -> bool {
+fn is_instruction(operation: Option<PlacedPart<'_>>) -> bool {
     match operation {
         Some(
-            Place {
+            PlacedPart {
                 part: Part::Word(word),
                 ..
             },

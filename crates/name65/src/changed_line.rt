@@ -10,11 +10,11 @@ use crate::operands::{Operands, Style, keep_free};
 use crate::plan::{PlacedLine, Plan};
 use crate::rewriting::{Run, are_blank, blank_len, cut_at, put_gap, put_list};
 use crate::wishes::{Wish, Wishes};
-use stmt65::{Half, Language, Part, Place, Places, Span};
+use stmt65::{Half, Language, Part, PlacedPart, Places, Span};
 
 /// What the operands of a line are, with their places.
 #[derive(Drop)]
-enum Form<'l> {
+enum LineOperands<'l> {
     /// One after the `#` that stands there.
     Immediate(Span, Places<'l>),
     /// The list of a `.byte` or `.word`, which stands there.
@@ -23,31 +23,31 @@ enum Form<'l> {
     Other,
 }
 
-fn form_of(language: Language, line: &[u8]) -> Form<'_> {
+fn form_of(language: Language, line: &[u8]) -> LineOperands<'_> {
     let mut places = Places::new(language, line);
     let Some(
-        Place {
+        PlacedPart {
             part: Part::Word(word),
             span,
         },
     ) = places.head().operation
     else {
-        return Form::Other;
+        return LineOperands::Other;
     };
     if word.eq_ignore_ascii_case(b".byte") {
-        return Form::List(Style::Bytes, span, places);
+        return LineOperands::List(Style::Bytes, span, places);
     }
     if word.eq_ignore_ascii_case(b".word") {
-        return Form::List(Style::Words, span, places);
+        return LineOperands::List(Style::Words, span, places);
     }
     match places.next() {
         Some(
-            Place {
+            PlacedPart {
                 part: Part::Mark(b'#'),
                 span,
             },
-        ) => Form::Immediate(span, places),
-        _ => Form::Other,
+        ) => LineOperands::Immediate(span, places),
+        _ => LineOperands::Other,
     }
 }
 
@@ -189,16 +189,18 @@ fn put_form(out: &mut Vec<u8>, plan: &Plan<'_, '_>, placed: &PlacedLine<'_>) -> 
 {
     let PlacedLine { line, at, end } = *placed;
     match form_of(plan.language, line) {
-        Form::Immediate(sign, places) => {
+        LineOperands::Immediate(sign, places) => {
             keep_free(plan.wishes, at, 1)?;
             put_immediate(out, plan, placed, sign, places)
         }
-        Form::List(Style::Bytes, word, places) => match common_half(plan.wishes, at, end) {
+        LineOperands::List(Style::Bytes, word, places) => match common_half(plan.wishes, at, end) {
             Some(half) => put_halves(out, plan, placed, half, word, places),
             None => put_table(out, plan, placed, Style::Bytes, word, places),
         },
-        Form::List(style, word, places) => put_table(out, plan, placed, style, word, places),
-        Form::Other => {
+        LineOperands::List(style, word, places) => put_table(
+            out, plan, placed, style, word, places,
+        ),
+        LineOperands::Other => {
             keep_free(plan.wishes, at, end.saturating_sub(at))?;
             Err(Refusal::Changed)
         }

@@ -8,15 +8,15 @@ use text65::first_line;
 
 /// The names of a listing by the addresses that are their values; and the names that its lines use, if that is asked for.
 #[derive(Drop)]
-pub struct Names<'t> {
+pub struct ListingNames<'t> {
     by_value: ByAddress<Definition<'t>>,
     used: Option<BTreeSet<&'t [u8]>>,
 }
 
-impl<'t> Names<'t> {
+impl<'t> ListingNames<'t> {
     /// No names yet.
-    pub fn none(alloc: Global) -> Names<'t> {
-        Names {
+    pub fn none(alloc: Global) -> ListingNames<'t> {
+        ListingNames {
             by_value: ByAddress::none(alloc),
             used: None,
         }

@@ -12,14 +12,14 @@ use crate::command::this_program;
 use clap::ArgMatches;
 use std::alloc::Global;
 use usage65::{
-    Names, Request, RequestFault, address_of, byte_of, info_named, input_named, is_set,
+    FileNames, Request, RequestFault, address_of, byte_of, info_named, input_named, is_set,
     names_apart, output_named, text_of,
 };
 
 /// A listing is to be written by names.
 #[derive(Drop)]
 pub struct Naming {
-    pub names: Names,
+    pub names: FileNames,
     /// The address of the first byte; without one the information file says where it is, or the last byte is at $FFFF.
     pub start: Option<u16>,
     /// The byte between segments that begin at their START; without one the segments move nothing.

@@ -2,7 +2,7 @@
 
 use crate::by_address::ByAddress;
 use crate::complaint::{Complaint, Refusal};
-use crate::names::Names;
+use crate::names::ListingNames;
 use crate::reference::{Offset, Reference};
 use info65::{Info, Tag, TagKind};
 use isa65::{Cpu, OpcodeSet, OperandKind, Row};
@@ -33,20 +33,20 @@ pub struct Wished<'t> {
 #[derive(Drop)]
 pub struct Wishes<'t> {
     by_address: ByAddress<Wished<'t>>,
-    names: Names<'t>,
+    names: ListingNames<'t>,
     end: u64,
 }
 
 /// A group, the information file in which it stands, and the bytes of the image that it is about, with the address of the first.
 #[derive(Clone, Copy)]
-struct Group<'b> {
+struct TagGroup<'b> {
     tag: Tag,
     info: &'b Info,
     start: u16,
     bytes: &'b [u8],
 }
 
-impl<'b> Group<'b> {
+impl<'b> TagGroup<'b> {
     fn refused<T>(self, complaint: Complaint) -> Result<T, Refusal> {
         Err(Refusal::Group(self.tag.line, complaint))
     }
@@ -117,7 +117,7 @@ impl<'t> Wishes<'t> {
         tags: &[Tag],
         used: bool,
     ) -> Result<Wishes<'t>, Refusal> {
-        let mut names = Names::none(alloc);
+        let mut names = ListingNames::none(alloc);
         if used {
             names.take_used(alloc, source)?;
         }
@@ -132,7 +132,7 @@ impl<'t> Wishes<'t> {
             end,
         };
         for &tag in tags {
-            wishes.take(Group {
+            wishes.take(TagGroup {
                 tag,
                 info,
                 start: source.start,
@@ -142,7 +142,7 @@ impl<'t> Wishes<'t> {
         Ok(wishes)
     }
 
-    fn take(&mut self, group: Group<'_>) -> Result<(), Refusal> {
+    fn take(&mut self, group: TagGroup<'_>) -> Result<(), Refusal> {
         match group.tag.kind {
             TagKind::Halves => {
                 for k in 0..group.tag.size.unwrap_or(1) {
@@ -158,7 +158,7 @@ impl<'t> Wishes<'t> {
     }
 
     /// The k-th pair of a group of halves. One half is enough if the group has the address.
-    fn take_pair(&mut self, group: Group<'_>, k: u16) -> Result<(), Refusal> {
+    fn take_pair(&mut self, group: TagGroup<'_>, k: u16) -> Result<(), Refusal> {
         let low = group.place(group.tag.low, k)?;
         let high = group.place(group.tag.high, k)?;
         let address = match (group.tag.address, low, high) {
@@ -180,7 +180,7 @@ impl<'t> Wishes<'t> {
         Ok(())
     }
 
-    fn take_difference(&mut self, group: Group<'_>) -> Result<(), Refusal> {
+    fn take_difference(&mut self, group: TagGroup<'_>) -> Result<(), Refusal> {
         let tag = group.tag;
         let (Some(at), Some(from), Some(to)) = (tag.address, tag.first, tag.last) else {
             return Ok(());
@@ -194,7 +194,7 @@ impl<'t> Wishes<'t> {
         self.wish(group, group.later(at, 1)?, Wish::Second)
     }
 
-    fn take_base(&mut self, group: Group<'_>) -> Result<(), Refusal> {
+    fn take_base(&mut self, group: TagGroup<'_>) -> Result<(), Refusal> {
         let (Some(at), Some(base)) = (group.tag.address, group.tag.first) else {
             return Ok(());
         };
@@ -208,14 +208,14 @@ impl<'t> Wishes<'t> {
         self.wish(group, at, Wish::Address(Reference { name, offset }))
     }
 
-    fn check_after(&self, group: Group<'_>) -> Result<(), Refusal> {
+    fn check_after(&self, group: TagGroup<'_>) -> Result<(), Refusal> {
         match group.tag.first {
             Some(first) if u64::from(first) < self.end => group.refused(Complaint::Inside(first)),
             _ => Ok(()),
         }
     }
 
-    fn name_at(&mut self, group: Group<'_>, address: u16) -> Result<&'t [u8], Refusal> {
+    fn name_at(&mut self, group: TagGroup<'_>, address: u16) -> Result<&'t [u8], Refusal> {
         match self.names.name_at(address)? {
             Some(name) => Ok(name),
             None => group.refused(Complaint::NoName(address)),
@@ -223,7 +223,11 @@ impl<'t> Wishes<'t> {
     }
 
     /// The name of the address after one. That of a constant line does not move with a byte of the image, so it is none for its address.
-    fn name_after(&mut self, group: Group<'_>, address: u16) -> Result<Option<&'t [u8]>, Refusal> {
+    fn name_after(
+        &mut self,
+        group: TagGroup<'_>,
+        address: u16,
+    ) -> Result<Option<&'t [u8]>, Refusal> {
         let Some(next) = address.checked_add(1) else {
             return Ok(None);
         };
@@ -235,7 +239,11 @@ impl<'t> Wishes<'t> {
 
     /// An address by a name: its own; or else that of which it is one of SIZE addresses; or else that of the next address, since a return
     /// address is one less than where the CPU goes on.
-    fn reference_to(&mut self, group: Group<'_>, address: u16) -> Result<Reference<'t>, Refusal> {
+    fn reference_to(
+        &mut self,
+        group: TagGroup<'_>,
+        address: u16,
+    ) -> Result<Reference<'t>, Refusal> {
         if let Some(name) = self.names.name_at(address)? {
             let offset = Offset::Zero;
             return Ok(Reference { name, offset });
@@ -255,7 +263,7 @@ impl<'t> Wishes<'t> {
         }
     }
 
-    fn wish(&mut self, group: Group<'_>, at: u16, wish: Wish<'t>) -> Result<(), Refusal> {
+    fn wish(&mut self, group: TagGroup<'_>, at: u16, wish: Wish<'t>) -> Result<(), Refusal> {
         if self.by_address.get(u64::from(at)).is_some() {
             return group.refused(Complaint::Twice(at));
         }

@@ -9,7 +9,7 @@ use Rattle.isa65.specs.Words.{decoded, len_of, row_of}
 use Rattle.isa65.specs.contracts.mnemonic.Mnemonic as mnemonic
 use Rattle.reach65.specs.Types.{Bra, Brk, Direct, Jmp, Jsr, Mnemonic, Mode, One, Op, RangeType, Row, Rti, Rts, Tag, Word}
 use Rattle.info65.specs.declared.information.range.RangeType.TheVariants as role
-use Rattle.map65.specs.Words.{ImageView, MapView, branch_target, byte_at, bytes_from, end_of, is_jump, only_inside, opcodes, role_at, word_of}
+use Rattle.map65.specs.Words.{ImageView, MapView, branch_target, byte_at, bytes_from, end_of, is_jump, only_inside, opcodes, role_at, operand_word}
 use Rattle.reach65.specs.Inlines.{inline_of, text_end}
 
 -- a map, and the groups `#: ..` of its information file
@@ -43,7 +43,7 @@ is_last m = is m Jmp || is m Bra || is m Rts || is m Rti || is m Brk
 
 -- a jump goes to its absolute operand
 abbrev pub row_goal : Mnemonic → Row → ℕ → List ℕ → Option ℕ
-row_goal m (One Direct Word) next bytes = if is_jump m then Some (word_of bytes) else None
+row_goal m (One Direct Word) next bytes = if is_jump m then Some (operand_word bytes) else None
 row_goal m row next bytes = branch_target row next bytes
 
 -- the address that an instruction of these bytes goes to by its operand

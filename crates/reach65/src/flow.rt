@@ -8,7 +8,7 @@ ghost use Rattle.reach65.specs.Words.{end_by, goal_of, inline_of, instruction_at
 use crate::inlines::{ends_of, firsts_of};
 use info65::{RangeType, Tag};
 use isa65::{DecodeTable, Mnemonic, Op, OpcodeSet, OperandKind, Pattern, Row};
-use map65::{Image, Map, branch_target, is_jump, word_of};
+use map65::{Image, Map, branch_target, is_jump, operand_word};
 use std::alloc::{AllocError, Global};
 use std::marker::Model;
 
@@ -69,7 +69,7 @@ fn row_goal(mnemonic: Mnemonic, row: Row, next: u32, bytes: &[u8]) -> Option<u16
     match row {
         Row::One(Pattern::Direct, OperandKind::Word) => {
             if is_jump(mnemonic) {
-                return Some(word_of(bytes));
+                return Some(operand_word(bytes));
             }
             None
         }

@@ -8,7 +8,7 @@ ghost use Rattle.reach65.specs.Words.{AreSteps, IsStep, instruction_at, next_by}
 use crate::flow::{Flow, bytes_from, goal_of, is_last};
 use info65::Tag;
 use isa65::{Mnemonic, Op, OperandKind, Row};
-use map65::{Image, Map, Marks, only_inside, word_of};
+use map65::{Image, Map, Marks, only_inside, operand_word};
 use std::alloc::{AllocError, Global};
 use std::marker::Model;
 
@@ -49,7 +49,7 @@ impl Step {
 /// The word and the byte that is the operand of an instruction of these bytes.
 fn operands(op: Op, bytes: &[u8]) -> (Option<u16>, Option<u8>) {
     match op.mode.row() {
-        Row::One(_, OperandKind::Word) if 3 <= bytes.len() => (Some(word_of(bytes)), None),
+        Row::One(_, OperandKind::Word) if 3 <= bytes.len() => (Some(operand_word(bytes)), None),
         Row::One(_, OperandKind::Byte | OperandKind::ZeroPage) => (None, bytes.get(1).copied()),
         _ => (None, None),
     }

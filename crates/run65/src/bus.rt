@@ -38,7 +38,7 @@ pub trait Bus<V> {
     fn write(&mut self, place: Option<u16>, value: V);
 
     /// The two bytes of an address of the code, as a call pushes them.
-    fn word_of(&mut self, address: u16) -> Word<V>;
+    fn read_word(&mut self, address: u16) -> Word<V>;
 
     /// Whether a branch is taken if the flag is 1, or if it is 0.
     fn takes(&mut self, flag: V, wanted: bool) -> bool;

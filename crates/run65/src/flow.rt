@@ -45,7 +45,7 @@ impl<V: Value, B: Bus<V>> Machine<V, B> {
 
     /// Pushes an address of the code.
     fn push_address(&mut self, address: u16) {
-        let word = self.bus.word_of(address);
+        let word = self.bus.read_word(address);
         self.push(word.high);
         self.push(word.low);
     }

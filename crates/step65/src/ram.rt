@@ -40,7 +40,7 @@ impl Bus<u8> for Ram {
         }
     }
 
-    fn word_of(&mut self, address: u16) -> Word<u8> {
+    fn read_word(&mut self, address: u16) -> Word<u8> {
         Word {
             low: (address % 256) as u8,
             high: (address / 256) as u8,

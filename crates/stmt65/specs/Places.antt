@@ -1,6 +1,6 @@
 -- Where the parts of a line stand.
 use Rattle.std.specs.Prelude.{◌≡◌, ℕ, ◌-◌, ◌≤◌, List, [], ◌∷◌, ◌++◌, drop, get_or, length, take, Option, Some}
-use Rattle.stmt65.specs.declared.reading.places.Place.{Place}
+use Rattle.stmt65.specs.declared.reading.places.PlacedPart.{PlacedPart}
 use Rattle.stmt65.specs.declared.reading.places.Span.{Span}
 use Rattle.stmt65.specs.Code.PartViews.{part_of}
 use Rattle.stmt65.specs.Types.{Language}
@@ -46,7 +46,7 @@ pub record IsAmong (s : Span) (old new : PlacesView) : Type 0 where
   pub to : s.to ≤ new.at
 
 -- the bytes at its place are those that a part is written with
-abbrev pub StandsIn : List ℕ → Place → Type 0
+abbrev pub StandsIn : List ℕ → PlacedPart → Type 0
 StandsIn line p = bytes_in p.span line ≡ part_text (part_of p.part)
 
 -- a `;` stands there, and the place goes on to the end of the line

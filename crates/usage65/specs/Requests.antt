@@ -44,20 +44,20 @@ or_refused (Ok x) = Ok x
 or_refused (Err e) = Err (BadUsage e)
 
 -- a listing, an information file, and the output; None is standard output
-pub record NamesView : Type 0 where
+pub record FileNamesView : Type 0 where
   pub listing : Text
   pub info : Option Text
   pub output : Option Text
 
 -- the output is none of the inputs
-abbrev pub names_into : Text → Option Text → Option Text → Result NamesView Refusal
+abbrev pub names_into : Text → Option Text → Option Text → Result FileNamesView Refusal
 names_into listing info None = Ok (record { listing = listing; info = info; output = None })
 names_into listing info (Some output) =
     if bytes_eq output listing || is_name info output then Err (SameName output)
     else Ok (record { listing = listing; info = info; output = Some output })
 
 -- standard input can be only one of the inputs
-unfoldable pub names_apart : Text → Option Text → Option Text → Result NamesView Refusal
+unfoldable pub names_apart : Text → Option Text → Option Text → Result FileNamesView Refusal
 names_apart listing info output = if is_taken info listing then Err TwoOfStandardInput else names_into listing info output
 
 -- what is asked for: a text about the program, or a run of it

@@ -11,7 +11,7 @@ pub use Rattle.usage65.specs.Help.{help_line, names, names_and_value, with_line_
 unfoldable pub use Rattle.usage65.specs.Help.{help_of, text_asked, version_of}
 pub use Rattle.usage65.specs.Number.{address_in, byte_in}
 unfoldable pub use Rattle.usage65.specs.Number.{decimal_in, number_in, numeral_in}
-pub use Rattle.usage65.specs.Requests.{BadUsage, LacksStart, NamesView, Refusal, TwoOfStandardInput, asked, fault_for, or_refused}
+pub use Rattle.usage65.specs.Requests.{BadUsage, LacksStart, FileNamesView, Refusal, TwoOfStandardInput, asked, fault_for, or_refused}
 unfoldable pub use Rattle.usage65.specs.Requests.{names_apart}
 pub use Rattle.usage65.specs.Values.{IsPlain, bare, cpu_in, given, is_set, ◌>>=◌}
 unfoldable pub use Rattle.usage65.specs.Values.{accepted}

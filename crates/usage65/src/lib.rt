@@ -21,7 +21,7 @@ pub use choice::Choice;
 pub use choices::{CPU, ENTRY, FILL, HELP, INFO, NEW_OUTPUT, OUTPUT, START, VERSION};
 pub use fault::UsageFault;
 pub use file_names::{info_named, input_named, is_taken, output_named};
-pub use names::{Names, names_apart};
+pub use names::{FileNames, names_apart};
 pub use number::{address_in, byte_in, decimal_in};
 pub use program::Program;
 pub use request::Request;

@@ -10,7 +10,7 @@ use std::alloc::Global;
 
 /// The files of a program that reads a listing.
 #[derive(Drop)]
-pub struct Names {
+pub struct FileNames {
     pub listing: String,
     /// The information file, if there is one.
     pub info: Option<String>,
@@ -25,7 +25,7 @@ pub fn names_apart(
     listing: &str,
     info: Option<&str>,
     output: Option<&str>,
-) -> Result<Names, RequestFault>
+) -> Result<FileNames, RequestFault>
     /// Returns the names of a listing, an information file and the output as given. At most one of them is standard
     /// input, and the output is none of the others; otherwise the first refusal in this order, or out of memory.
     ensures { Gives names_seen result (names_apart listing.now
@@ -39,7 +39,7 @@ pub fn names_apart(
             return Err(RequestFault::OutputIsInput(String::from_str(alloc, name)?));
         }
     }
-    Ok(Names {
+    Ok(FileNames {
         listing: String::from_str(alloc, listing)?,
         info: owned(alloc, info)?,
         output: owned(alloc, output)?,

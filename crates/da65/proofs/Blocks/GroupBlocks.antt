@@ -6,7 +6,7 @@ use Rattle.std.proofs.lemmas.Bool.{cases_lt, eqb-true, le-ltb}
 use Rattle.std.proofs.lemmas.Bool.Decides.{nat_tests}
 use Rattle.std.proofs.lemmas.List.{append-nil, drop-drop, drop_all, take-append-drop}
 use Rattle.std.proofs.lemmas.List.Elements.{All-drop, All-take}
-use Rattle.da65.specs.Words.{AreSound, Cpu, IsGroup, IsGroupPlace, Knows, KnowsAll, ListingLine, Names, base_name, begins, ending_lines, forwards, group_bytes, group_len, group_line, group_lines, groups_from, is_base, labelled, names_of, opening_lines, plain, skips, statement_at, statement_lines, style_of}
+use Rattle.da65.specs.Words.{AreSound, Cpu, IsGroup, IsGroupPlace, Knows, KnowsAll, ListingLine, AddressNames, base_name, begins, ending_lines, forwards, group_bytes, group_len, group_line, group_lines, groups_from, is_base, labelled, names_of, opening_lines, plain, skips, statement_at, statement_lines, style_of}
 use Rattle.stmt65.specs.Words.{Definition, Nothing, Operation, Statement, TakesLabel, defined_by, fits_label, operation_in, source_line}
 use Rattle.stmt65.specs.Views as view
 use Rattle.map65.specs.Words.{AreBytes, IsPlaced, MapView, bytes_from, end_of, opcodes, role_of}
@@ -23,23 +23,23 @@ use Rattle.da65.proofs.Statements.StandsLaws.{Stands}
 
 -- ---- what is known where a group begins and where it ends
 
-group-begins : (m : Names) (at v : ℕ) → names_to m at v ≡ forwards_to m at (at + 1) v
+group-begins : (m : AddressNames) (at v : ℕ) → names_to m at v ≡ forwards_to m at (at + 1) v
 group-begins m at v = grind (arith, nat_tests)
 
 -- a base that begins the group is not known before its label
-not-yet : (m : Names) (at u : ℕ) → m.has_constant at ≡ false → forwards_to m at u at ≡ false
+not-yet : (m : AddressNames) (at u : ℕ) → m.has_constant at ≡ false → forwards_to m at u at ≡ false
 not-yet m at u out = rw (out, le-ltb at at (omega arith)) refl
 
-below-label : (m : Names) (at n v : ℕ) → 0 < n → (forwards_to m at (at + 1 + (n - 1)) v || eqb at v) ≡ names_to m (at + n) v
+below-label : (m : AddressNames) (at n v : ℕ) → 0 < n → (forwards_to m at (at + 1 + (n - 1)) v || eqb at v) ≡ names_to m (at + n) v
 below-label m at n v some = let k : at + 1 + (n - 1) ≡ at + n = omega arith in rw k (grind (arith, nat_tests))
 
-without-label : (m : Names) (at n v : ℕ) → 0 < n → is_base m at ≡ false → is_base m v ≡ true → forwards_to m at (at + 1 + (n - 1)) v ≡ names_to m (at + n) v
+without-label : (m : AddressNames) (at n v : ℕ) → 0 < n → is_base m at ≡ false → is_base m v ≡ true → forwards_to m at (at + 1 + (n - 1)) v ≡ names_to m (at + n) v
 without-label m at n v some none base = grind (arith, forwards_to, names_to, eqb-true, nat_tests)
 
 -- ---- one group
 
 module _ (m : MapView) (names : AreSound m.image (names_of m)) (placed : IsPlaced m.image) (are : AreBytes m.image.bytes) where
-  abbrev n : Names
+  abbrev n : AddressNames
   n = names_of m
 
   abbrev cpu : Cpu

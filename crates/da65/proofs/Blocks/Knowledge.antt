@@ -7,7 +7,7 @@ use Rattle.std.proofs.lemmas.Bool.{eqb-true}
 use Rattle.std.proofs.lemmas.List.Elements.{filter-append}
 use Rattle.stmt65.specs.Words.{Definition, find_name}
 use Rattle.map65.specs.Words.{ImageView}
-use Rattle.da65.specs.Words.{AreSound, Knows, Names, base_name, definition_of, definitions_of, is_base}
+use Rattle.da65.specs.Words.{AreSound, Knows, AddressNames, base_name, definition_of, definitions_of, is_base}
 use Rattle.std.proofs.lemmas.Bool.Decides.{nat_tests}
 
 -- ---- the first definition
@@ -24,20 +24,20 @@ first-is w (d ∷ ds) = grind (arith, (first-is w ds))
 -- ---- one name
 
 -- the names of two bases are one where the bases are
-name-test : (image : ImageView) (m : Names) (u v : ℕ) → AreSound image m → is_base m u ≡ true → is_base m v ≡ true → bytes_eq (base_name m u) (base_name m v) ≡ eqb u v
+name-test : (image : ImageView) (m : AddressNames) (u v : ℕ) → AreSound image m → is_base m u ≡ true → is_base m v ≡ true → bytes_eq (base_name m u) (base_name m v) ≡ eqb u v
 name-test image m u v names hu hv = grind (arith, bytes_eq-Decides)
 
-pub knows_nothing : (m : Names) → Knows m (λ v. false) []
+pub knows_nothing : (m : AddressNames) → Knows m (λ v. false) []
 knows_nothing m = record { found = λ v h. refl }
 
-pub knows_same : (m : Names) (p q : ℕ → Bool) (ds : List Definition) → Knows m p ds → ((v : ℕ) → is_base m v ≡ true → p v ≡ q v) → Knows m q ds
+pub knows_same : (m : AddressNames) (p q : ℕ → Bool) (ds : List Definition) → Knows m p ds → ((v : ℕ) → is_base m v ≡ true → p v ≡ q v) → Knows m q ds
 knows_same m p q ds k h = record { found = λ v b. k.found v b ∙ ap (λ (t : Bool). cond t (definition_of m v ∷ []) []) (h v b) }
 
 -- one more base, that was not known
-pub knows_more : (image : ImageView) (m : Names) (p : ℕ → Bool) (ds : List Definition) (u : ℕ) → AreSound image m → Knows m p ds → is_base m u ≡ true → p u ≡ false
+pub knows_more : (image : ImageView) (m : AddressNames) (p : ℕ → Bool) (ds : List Definition) (u : ℕ) → AreSound image m → Knows m p ds → is_base m u ≡ true → p u ≡ false
     → Knows m (λ v. p v || eqb u v) (ds ++ definition_of m u ∷ [])
 knows_more image m p ds u names k hu new = grind (arith, filter-append, name-test, eqb-true, nat_tests)
 
 -- what is found of a base, if it passes the test or not
-pub knows_found : (m : Names) (p : ℕ → Bool) (ds : List Definition) (v : ℕ) (t : Bool) → Knows m p ds → is_base m v ≡ true → p v ≡ t → find_name (base_name m v) ds ≡ first_of (cond t (definition_of m v ∷ []) [])
+pub knows_found : (m : AddressNames) (p : ℕ → Bool) (ds : List Definition) (v : ℕ) (t : Bool) → Knows m p ds → is_base m v ≡ true → p v ≡ t → find_name (base_name m v) ds ≡ first_of (cond t (definition_of m v ∷ []) [])
 knows_found m p ds v t k h is = first-is (base_name m v) ds ∙ ap first_of (k.found v h) ∙ ap (λ (t : Bool). first_of (cond t (definition_of m v ∷ []) [])) is

@@ -6,7 +6,7 @@ use Rattle.std.proofs.lemmas.Bool.{le-ltb}
 use Rattle.std.proofs.lemmas.List.{append-nil}
 use Rattle.isa65.specs.Words.{cpu_text}
 use Rattle.isa65.proofs.CpuNames.{cpu_name}
-use Rattle.da65.specs.Words.{AreSound, Cpu, Knows, KnowsAll, ListingLine, Names, definition_of, is_base, plain, segment_statement, separator, with_empty_line}
+use Rattle.da65.specs.Words.{AreSound, Cpu, Knows, KnowsAll, ListingLine, AddressNames, definition_of, is_base, plain, segment_statement, separator, with_empty_line}
 use Rattle.stmt65.specs.Views as view
 use Rattle.stmt65.specs.Words.{Code, Definition, Nothing, Operation, Segment, SetCpu, SourceLine, State, Statement, coded, coding, cpu_after, defined_by, final, find_name, has_unknown_cpu, is_past_start, is_twice, operation_in, source_line, with_label}
 use Rattle.map65.specs.Words.{ImageView, MapView, segment_at}
@@ -21,13 +21,13 @@ abbrev pub Says : ListingLine → SourceLine → Type 0
 Says l source = with_label l.label (source_line l.statement) ≡ source
 
 -- the line defines what is new, in the address space; then these bases are known
-pub record Defines (m : Names) (s : State) (source : SourceLine) (knows : ℕ → Bool) : Type 0 where
+pub record Defines (m : AddressNames) (s : State) (source : SourceLine) (knows : ℕ → Bool) : Type 0 where
   pub known : Knows m knows (s.above ++ defined_by s.at source)
   pub new : is_twice s source ≡ false
   pub in_space : list_any (λ d. nat_lt 65535 d.value) (defined_by s.at source) ≡ false
 
 -- a line whose operation stands
-pub line_gives : (m : Names) (p : Point) (l : ListingLine) (source : SourceLine) (bytes : List ℕ) (at : ℕ) (cpu : Cpu) (knows : ℕ → Bool) → Says l source
+pub line_gives : (m : AddressNames) (p : Point) (l : ListingLine) (source : SourceLine) (bytes : List ℕ) (at : ℕ) (cpu : Cpu) (knows : ℕ → Bool) → Says l source
     → ((above : List Definition) → Knows m p.knows above → StandsTo (λ all. KnowsAll m all) (state p above) (operation_in source) cpu bytes)
     → ((above : List Definition) → Knows m p.knows above → Defines m (state p above) source knows)
     → p.at + length bytes ≡ at → at ≤ 65536 → Gives m p (l ∷ []) bytes (point at cpu knows)
@@ -37,12 +37,12 @@ line_gives m p l source bytes at cpu knows says stands defines next room = grind
 -- ---- what a line defines
 
 -- a line with an operation and no label
-pub defines_nothing : (m : Names) (s : State) (o : Operation) (knows : ℕ → Bool) → Knows m knows s.above → Defines m s (Statement None o) knows
+pub defines_nothing : (m : AddressNames) (s : State) (o : Operation) (knows : ℕ → Bool) → Knows m knows s.above → Defines m s (Statement None o) knows
 unfolding is_twice defined_by
 defines_nothing m s o knows known = record { known = rw (append-nil s.above) known; new = refl; in_space = refl }
 
 -- a line that defines a base which is not known before
-pub base_gives : (image : ImageView) (m : Names) (p : Point) (l : ListingLine) (source : SourceLine) (bytes : List ℕ) (at u : ℕ) → AreSound image m → Says l source
+pub base_gives : (image : ImageView) (m : AddressNames) (p : Point) (l : ListingLine) (source : SourceLine) (bytes : List ℕ) (at u : ℕ) → AreSound image m → Says l source
     → ((above : List Definition) → Knows m p.knows above → Stands (λ all. KnowsAll m all) (state p above) (operation_in source) bytes)
     → is_base m u ≡ true → p.knows u ≡ false → defined_by p.at source ≡ definition_of m u ∷ [] → p.at + length bytes ≡ at → at ≤ 65536
     → Gives m p (l ∷ []) bytes (point at p.cpu (λ v. p.knows v || eqb u v))
@@ -88,7 +88,7 @@ pub quiet_beside : (m : MapView) → HoldsBeside m IsQuiet
 unfolding separator
 quiet_beside m = record { blank = quiet_blank; separates = quiet_remark _; enters = λ a. quiet_segment (segment_at m a); comment = λ a text e. quiet_remark text }
 
-pub quiet_gives : (m : Names) (at : ℕ) (cpu : Cpu) (knows : ℕ → Bool) (ls : List ListingLine) → Each IsQuiet ls → at ≤ 65536 → Gives m (point at cpu knows) ls [] (point at cpu knows)
+pub quiet_gives : (m : AddressNames) (at : ℕ) (cpu : Cpu) (knows : ℕ → Bool) (ls : List ListingLine) → Each IsQuiet ls → at ≤ 65536 → Gives m (point at cpu knows) ls [] (point at cpu knows)
 quiet_gives m at cpu knows [] quiet room = gives_none m (point at cpu knows)
 quiet_gives m at cpu knows (l ∷ ls) quiet room =
     gives_append (l ∷ []) ls
@@ -96,13 +96,13 @@ quiet_gives m at cpu knows (l ∷ ls) quiet room =
     (quiet_gives m at cpu knows ls quiet.1 room)
 
 -- with an empty line after the last
-pub empty_line_gives : (m : Names) (p : Point) (ls : List ListingLine) (at : ℕ) (cpu : Cpu) (knows : ℕ → Bool) → at ≤ 65536 → Gives m p ls [] (point at cpu knows) → Gives m p (with_empty_line ls) [] (point at cpu knows)
+pub empty_line_gives : (m : AddressNames) (p : Point) (ls : List ListingLine) (at : ℕ) (cpu : Cpu) (knows : ℕ → Bool) → at ≤ 65536 → Gives m p ls [] (point at cpu knows) → Gives m p (with_empty_line ls) [] (point at cpu knows)
 empty_line_gives m p [] at cpu knows room h = h
 empty_line_gives m p (l ∷ ls) at cpu knows room h = gives_append (l ∷ ls) (plain view.blank ∷ []) h (quiet_gives m at cpu knows (plain view.blank ∷ []) (quiet_blank, tt) room)
 
 -- ---- `.setcpu`
 
-pub cpu_gives : (m : Names) (at : ℕ) (old cpu : Cpu) (knows : ℕ → Bool) → at ≤ 65536 → Gives m (point at old knows) (plain (view.set_cpu cpu) ∷ []) [] (point at cpu knows)
+pub cpu_gives : (m : AddressNames) (at : ℕ) (old cpu : Cpu) (knows : ℕ → Bool) → at ≤ 65536 → Gives m (point at old knows) (plain (view.set_cpu cpu) ∷ []) [] (point at cpu knows)
 unfolding has_unknown_cpu cpu_after coding is_past_start
 cpu_gives m at old cpu knows room =
     line_gives m (point at old knows) (plain (view.set_cpu cpu)) (Statement None (SetCpu (cpu_text cpu))) [] at cpu knows refl (λ above known. record { fragments = []; known_cpu = rw ((cpu_name cpu).named) refl; next_cpu = rw ((cpu_name cpu).named) refl; coded = refl; starts = refl; gives = no_fragments _ _ }) (λ above known. defines_nothing m _ _ knows known) (omega arith) room

@@ -2,7 +2,7 @@
 use Rattle.std.proofs.Common.{arith, ◌≡◌, ℕ, ◌+◌, Bool, true, List, ◌∷◌, ◌++◌, map, Option, Some, None, refl, append_assoc, []}
 use Rattle.std.specs.Prelude.{Result, Ok, Err}
 use Rattle.std.proofs.lemmas.List.{map-append}
-use Rattle.da65.specs.Words.{AsmFault, AsmFaultKind, Cpu, Knows, KnowsAll, ListingLine, Names, is_base, reading_of_line}
+use Rattle.da65.specs.Words.{AsmFault, AsmFaultKind, Cpu, Knows, KnowsAll, ListingLine, AddressNames, is_base, reading_of_line}
 use Rattle.stmt65.specs.Words.{Definition, SourceLine, State, after, bytes_of, coded, fault_of, final, free, unless, with_front}
 use Rattle.da65.proofs.Blocks.Knowledge.{knows_same}
 
@@ -20,17 +20,17 @@ abbrev pub state : Point → List Definition → State
 state p above = record { at = p.at; cpu = p.cpu; above = above; layout = free }
 
 -- From the state at a point the lines lead to another; and in a text that defines all bases they give the bytes without a fault.
-pub record Leads (m : Names) (p : Point) (above : List Definition) (ls : List ListingLine) (bytes : List ℕ) (q : Point) : Type 0 where
+pub record Leads (m : AddressNames) (p : Point) (above : List Definition) (ls : List ListingLine) (bytes : List ℕ) (q : Point) : Type 0 where
   pub all_above : List Definition
   pub known : Knows m q.knows all_above
   pub reaches : final (state p above) (map reading_of_line ls) ≡ state q all_above
   pub codes : (all : List Definition) → KnowsAll m all → (n : ℕ) → coded all n (state p above) (map reading_of_line ls) ≡ Ok bytes
 
 -- the same from each state at the point
-pub record Gives (m : Names) (p : Point) (ls : List ListingLine) (bytes : List ℕ) (q : Point) : Type 0 where
+pub record Gives (m : AddressNames) (p : Point) (ls : List ListingLine) (bytes : List ℕ) (q : Point) : Type 0 where
   pub leads : (above : List Definition) → Knows m p.knows above → Leads m p above ls bytes q
 
-pub gives_none : (m : Names) (p : Point) → Gives m p [] [] p
+pub gives_none : (m : AddressNames) (p : Point) → Gives m p [] [] p
 unfolding final coded
 gives_none m p = record { leads = λ above known. record { all_above = above; known = known; reaches = refl; codes = λ all k n. refl } }
 
@@ -59,16 +59,16 @@ coded-append all n s (x ∷ xs) ys bs cs h g =
     go None e (Err b) f h ih = let h' = rw (e, f) at h in absurd cc
     go (Some k) e r f h ih = let h' = rw e at h in absurd cc
 
-pub gives_append : {m : Names} {p q r : Point} {bs cs : List ℕ} (xs ys : List ListingLine) → Gives m p xs bs q → Gives m q ys cs r → Gives m p (xs ++ ys) (bs ++ cs) r
+pub gives_append : {m : AddressNames} {p q r : Point} {bs cs : List ℕ} (xs ys : List ListingLine) → Gives m p xs bs q → Gives m q ys cs r → Gives m p (xs ++ ys) (bs ++ cs) r
 gives_append {m} {p} {q} {r} {bs} {cs} xs ys g h = grind (arith, map-append, final-append, coded-append)
 
 -- ---- what is known, in other words
 
-pub gives_to : {m : Names} {p : Point} {at : ℕ} {cpu : Cpu} {knows : ℕ → Bool} {ls : List ListingLine} {bytes : List ℕ} (same : ℕ → Bool)
+pub gives_to : {m : AddressNames} {p : Point} {at : ℕ} {cpu : Cpu} {knows : ℕ → Bool} {ls : List ListingLine} {bytes : List ℕ} (same : ℕ → Bool)
     → ((v : ℕ) → is_base m v ≡ true → knows v ≡ same v) → Gives m p ls bytes (point at cpu knows) → Gives m p ls bytes (point at cpu same)
 gives_to {m} same is g = grind arith
 
-pub gives_from : {m : Names} {q : Point} {at : ℕ} {cpu : Cpu} {knows : ℕ → Bool} {ls : List ListingLine} {bytes : List ℕ} (same : ℕ → Bool)
+pub gives_from : {m : AddressNames} {q : Point} {at : ℕ} {cpu : Cpu} {knows : ℕ → Bool} {ls : List ListingLine} {bytes : List ℕ} (same : ℕ → Bool)
     → ((v : ℕ) → is_base m v ≡ true → same v ≡ knows v) → Gives m (point at cpu knows) ls bytes q → Gives m (point at cpu same) ls bytes q
 gives_from {m} same is g = record {
   leads = λ above known.

@@ -4,7 +4,7 @@ use Rattle.std.specs.Prelude.{◌||◌, ◌&&◌, nat_lt, if◌then◌else◌}
 use Rattle.std.proofs.Math.Bool.{or-false}
 use Rattle.std.proofs.lemmas.Bool.{and_parts, eqb-true, false_from_ne_true, le-ltb, le-leb, lt-ltb}
 use Rattle.std.proofs.lemmas.Bool.Decides.{nat_tests}
-use Rattle.da65.specs.Words.{AreSound, Cpu, Names, assignment_line, base_name, comment_lines, constant_lines, constants, forward_line, forward_lines, forwards, has_constant_line, is_base, names_of}
+use Rattle.da65.specs.Words.{AreSound, Cpu, AddressNames, assignment_line, base_name, comment_lines, constant_lines, constants, forward_line, forward_lines, forwards, has_constant_line, is_base, names_of}
 use Rattle.stmt65.specs.Words.{Assignment, PlaceAssignment, defined_by}
 use Rattle.map65.specs.Words.{ImageView, MapView, addresses, end_of}
 use Rattle.da65.proofs.Blocks.EachLine.{each_comment}
@@ -14,15 +14,15 @@ use Rattle.da65.proofs.Blocks.LineLaws.{Gives, gives_append, gives_from, gives_n
 -- ---- what is known at each place
 
 -- of the constants, those below an address
-abbrev pub constants_to : Names → ℕ → ℕ → Bool
+abbrev pub constants_to : AddressNames → ℕ → ℕ → Bool
 constants_to m k v = m.has_constant v && nat_lt v k
 
 -- the constants, and all bases below an address
-abbrev pub names_to : Names → ℕ → ℕ → Bool
+abbrev pub names_to : AddressNames → ℕ → ℕ → Bool
 names_to m at v = m.has_constant v || nat_lt v at
 
 -- and those after it up to another
-abbrev pub forwards_to : Names → ℕ → ℕ → ℕ → Bool
+abbrev pub forwards_to : AddressNames → ℕ → ℕ → ℕ → Bool
 forwards_to m at u v = m.has_constant v || (nat_lt v at || (nat_lt at v && nat_lt v u))
 
 -- ---- constants
@@ -31,31 +31,31 @@ apart : (k v : ℕ) → eqb k v ≡ false → nat_lt v k ≡ nat_lt v (k + 1)
 apart k v e = grind (arith, nat_tests)
 
 -- one more: it is k, or it is below
-constants_step : (m : Names) (k v : ℕ) → m.has_constant k ≡ true → (constants_to m k v || eqb k v) ≡ constants_to m (k + 1) v
+constants_step : (m : AddressNames) (k v : ℕ) → m.has_constant k ≡ true → (constants_to m k v || eqb k v) ≡ constants_to m (k + 1) v
 constants_step m k v h = grind (arith, eqb-true, lt-ltb, le-ltb, apart, or-false)
 
-constants_skip : (m : Names) (k v : ℕ) → has_constant_line m k ≡ false → is_base m v ≡ true → constants_to m k v ≡ constants_to m (k + 1) v
+constants_skip : (m : AddressNames) (k v : ℕ) → has_constant_line m k ≡ false → is_base m v ≡ true → constants_to m k v ≡ constants_to m (k + 1) v
 constants_skip m k v h b = grind (arith, eqb-true, apart)
 
 -- ---- forward lines
 
 -- a base inside the image has no constant line
-pub no-constant : (image : ImageView) (m : Names) (u : ℕ) → AreSound image m → is_base m u ≡ true → image.start ≤ u → u < end_of image → m.has_constant u ≡ false
+pub no-constant : (image : ImageView) (m : AddressNames) (u : ℕ) → AreSound image m → is_base m u ≡ true → image.start ≤ u → u < end_of image → m.has_constant u ≡ false
 no-constant image m u names base low high = names.constants u base ∙ rw (le-leb image.start u low, lt-ltb u (end_of image) high) refl
 
-forwards_step : (m : Names) (at u v : ℕ) → at < u → (forwards_to m at u v || eqb u v) ≡ forwards_to m at (u + 1) v
+forwards_step : (m : AddressNames) (at u v : ℕ) → at < u → (forwards_to m at u v || eqb u v) ≡ forwards_to m at (u + 1) v
 forwards_step m at u v h = grind (arith, nat_tests)
 
-forwards_skip : (m : Names) (at u v : ℕ) → is_base m u ≡ false → is_base m v ≡ true → forwards_to m at u v ≡ forwards_to m at (u + 1) v
+forwards_skip : (m : AddressNames) (at u v : ℕ) → is_base m u ≡ false → is_base m v ≡ true → forwards_to m at u v ≡ forwards_to m at (u + 1) v
 forwards_skip m at u v h b = ap (λ (t : Bool). m.has_constant v || (nat_lt v at || (nat_lt at v && t))) (apart u v (false_from_ne_true (eqb u v) (λ e. let base : is_base m u ≡ true = rw (eqb-true u v e) b in absurd cc)))
 
-forwards_new : (m : Names) (at u : ℕ) → m.has_constant u ≡ false → at < u → forwards_to m at u u ≡ false
+forwards_new : (m : AddressNames) (at u : ℕ) → m.has_constant u ≡ false → at < u → forwards_to m at u u ≡ false
 forwards_new m at u out low = rw (out, le-ltb u at (omega arith), le-ltb u u (omega arith), lt-ltb at u low) refl
 
 -- ---- of a map
 
 module _ (m : MapView) (names : AreSound m.image (names_of m)) (at : ℕ) (room : at ≤ 65536) (cpu : Cpu) where
-  abbrev n : Names
+  abbrev n : AddressNames
   n = names_of m
 
   constant_gives : (v : ℕ) → Gives n (point at cpu (constants_to n v)) (constant_lines m v) [] (point at cpu (constants_to n (v + 1)))

@@ -5,7 +5,7 @@ use Rattle.std.specs.List.{flat_map}
 use Rattle.std.proofs.Math.Bool.{and-false}
 use Rattle.std.proofs.lemmas.Bool.{le-ltb}
 use Rattle.std.proofs.lemmas.Bool.Decides.{nat_tests}
-use Rattle.da65.specs.Words.{AreSound, Cpu, ListingGivesImage, ListingLine, M6502, Names, NamesAreDefinedOnce, constants, group_addresses, group_lines, is_base, listing, listing_below, names_of, plain, readings_of, skips, with_empty_line}
+use Rattle.da65.specs.Words.{AreSound, Cpu, ListingGivesImage, ListingLine, M6502, AddressNames, NamesAreDefinedOnce, constants, group_addresses, group_lines, is_base, listing, listing_below, names_of, plain, readings_of, skips, with_empty_line}
 use Rattle.info65.specs.Names as given
 use Rattle.stmt65.specs.Views as view
 use Rattle.stmt65.specs.Words.{final, free, initial, meaning_of}
@@ -18,18 +18,18 @@ use Rattle.da65.proofs.Blocks.NameBlocks.{constants_give, constants_to, names_to
 use Rattle.da65.proofs.Groups.GroupLemmas.{first_place, groups-first}
 use Rattle.da65.proofs.Names.MapNames.{names_are_sound}
 
-no-constants : (m : Names) (v : ℕ) → false ≡ constants_to m 0 v
+no-constants : (m : AddressNames) (v : ℕ) → false ≡ constants_to m 0 v
 no-constants m v = rw (le-ltb v 0 (omega arith)) (sym (and-false (m.has_constant v)))
 
 -- below all constants those of the addresses before the image are known, since all bases there are constants
-all-constants : (image : ImageView) (m : Names) (v n : ℕ) → AreSound image m → is_base m v ≡ true → v < n → constants_to m n v ≡ names_to m image.start v
+all-constants : (image : ImageView) (m : AddressNames) (v n : ℕ) → AreSound image m → is_base m v ≡ true → v < n → constants_to m n v ≡ names_to m image.start v
 all-constants image m v n names base h = grind (arith, nat_tests)
 
-all-names : (image : ImageView) (m : Names) (v : ℕ) → AreSound image m → is_base m v ≡ true → names_to m (end_of image) v ≡ true
+all-names : (image : ImageView) (m : AddressNames) (v : ℕ) → AreSound image m → is_base m v ≡ true → names_to m (end_of image) v ≡ true
 all-names image m v names base = rw (names.constants v base) (grind (arith, nat_tests))
 
 module _ (m : MapView) (placed : IsPlaced m.image) (are : AreBytes m.image.bytes) (known : given.AreNames m.info.names) (none : skips m ≡ false) where
-  abbrev n : Names
+  abbrev n : AddressNames
   n = names_of m
 
   abbrev cpu : Cpu

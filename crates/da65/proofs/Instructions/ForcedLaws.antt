@@ -3,17 +3,17 @@ use Rattle.std.proofs.Common.{arith, ◌≡◌, ℕ, ◌+◌, Bool, true, false,
 use Rattle.std.specs.Prelude.{IsSome, is_some, nat_lt}
 use Rattle.std.proofs.lemmas.Bool.{and_parts, false_from_ne_true}
 use Rattle.isa65.specs.Words.{Table, encoded, encoded-decoded, len_of, row_of, row_text, sibling_in, table_of, table_of-sound, written, zero_page_of}
-use Rattle.da65.specs.Words.{AreSound, CodesInMode, Cpu, ForcedWhereNeeded, HasKnownSize, IsWritten, KnowsConstants, Mode, Names, Op, Row, address_expr, fragments_in, is_forced, operands_of, zero_page_expr}
+use Rattle.da65.specs.Words.{AreSound, CodesInMode, Cpu, ForcedWhereNeeded, HasKnownSize, IsWritten, KnowsConstants, Mode, AddressNames, Op, Row, address_expr, fragments_in, is_forced, operands_of, zero_page_expr}
 use Rattle.stmt65.specs.Words.{Fixed, IsModeOf, OperandsView, State, address_size, has_zero_page_size, row_form, source_form, source_value}
 use Rattle.stmt65.proofs.Public.{takes_modes}
-use Rattle.map65.specs.Words.{ImageView, word_of}
+use Rattle.map65.specs.Words.{ImageView, operand_word}
 use Rattle.da65.proofs.Instructions.ModeLaws.{of_form, pair, row_prefix, word_size}
 use Rattle.da65.proofs.Statements.GroupStands.{mode_is_chosen_back}
 use Rattle.da65.proofs.Statements.StandsLaws.{begins_with}
 use Rattle.da65.proofs.Instructions.ValueLaws.{zero_page_small}
 
 -- of an address with a known size both expressions are one
-one-expr : (m : Names) (a : ℕ) → HasKnownSize m a → zero_page_expr m a ≡ address_expr m a
+one-expr : (m : AddressNames) (a : ℕ) → HasKnownSize m a → zero_page_expr m a ≡ address_expr m a
 unfolding zero_page_expr address_expr
 one-expr m a h = grind arith
 
@@ -37,11 +37,11 @@ one_mode cpu op y b c h g same =
     ap (λ (o : Op). o.mode) same_op
 
 -- without `a:` it is coded in its mode only where none stands
-not_forced : (image : ImageView) (m : Names) (p : ℕ → Bool) (s : State) (a : ℕ) (bytes : List ℕ) (op : Op) (os : OperandsView)
-    → AreSound image m → KnowsConstants m p s.above → IsWritten m (table_of s.cpu) a bytes op os → HasKnownSize m (word_of bytes) → CodesInMode s op false os → is_forced (table_of s.cpu) op bytes ≡ true → ⊥
+not_forced : (image : ImageView) (m : AddressNames) (p : ℕ → Bool) (s : State) (a : ℕ) (bytes : List ℕ) (op : Op) (os : OperandsView)
+    → AreSound image m → KnowsConstants m p s.above → IsWritten m (table_of s.cpu) a bytes op os → HasKnownSize m (operand_word bytes) → CodesInMode s op false os → is_forced (table_of s.cpu) op bytes ≡ true → ⊥
 unfolding operands_of source_form
 not_forced image m p s a bytes op os names known h sized codes forced =
-    let both = and_parts (is_some (sibling_in (table_of s.cpu) op)) (nat_lt (word_of bytes) 256) forced in
+    let both = and_parts (is_some (sibling_in (table_of s.cpu) op)) (nat_lt (operand_word bytes) 256) forced in
     let sibling = has_sibling (table_of s.cpu) op both.0 in
     let pairs = pair (row_of op.mode) sibling.mode sibling.is in
     let form = row_form (row_of op.mode) (address_size false) os in
@@ -52,7 +52,7 @@ not_forced image m p s a bytes op os names known h sized codes forced =
     let of : IsModeOf form op.mode = of_form image m p names s.cpu s.above known op.mnemonic codes.opcode op.mode codes.is_opcode a bytes h.are_bytes long os h.has false (λ no. absurd cc) in
     let alike : written sibling.mode ≡ written op.mode = ap (λ (r : Row). row_text r) pairs.short ∙ sym (ap (λ (r : Row). row_text r) pairs.long) in
     let is_long = takes.long sibling.mode (ap (λ (y : Mode). zero_page_of y) same ∙ sibling.is) (alike ∙ of.0, λ prefix. let no = row_prefix (row_of op.mode) false os prefix in absurd cc) sibling.has in
-    let small = ap (λ e. has_zero_page_size s.above (source_value e)) (sym (one-expr m (word_of bytes) sized)) ∙ zero_page_small image m p s.above (word_of bytes) names known both.1 in
+    let small = ap (λ e. has_zero_page_size s.above (source_value e)) (sym (one-expr m (operand_word bytes) sized)) ∙ zero_page_small image m p s.above (operand_word bytes) names known both.1 in
     let is_short = word_size image m p names s.cpu s.above known pairs.direct (row_of op.mode) pairs.long (address_size false) (a + len_of op.mode) bytes os h.has ∙ small in
     let no : true ≡ false = sym is_short ∙ is_long in cc
 

@@ -4,7 +4,7 @@ use Rattle.std.specs.Prelude.{IfSome, IsSome, is_some, nat_lt, slice_index}
 use Rattle.std.specs.Option.{option_map}
 use Rattle.std.proofs.lemmas.Bool.{false_from_ne_true, lt-ltb}
 use Rattle.isa65.specs.Words.{IsZeroPageOf, encoded, len_of, pattern_text, row_of, row_text, size_of, table_of, table_of-sound, written_alike, zero_page_of, zero_page_row}
-use Rattle.da65.specs.Words.{Absolute, AddressSize, AreSound, Automatic, Cpu, KnowsConstants, Mnemonic, Mode, Names, OperandKind, Pattern, Row, Zprel, address_expr, fragments_in, operand_expr, operand_fragment, operands_of, row_fragments, row_operands}
+use Rattle.da65.specs.Words.{Absolute, AddressSize, AreSound, Automatic, Cpu, KnowsConstants, Mnemonic, Mode, AddressNames, OperandKind, Pattern, Row, Zprel, address_expr, fragments_in, operand_expr, operand_fragment, operands_of, row_fragments, row_operands}
 use Rattle.isa65.specs.declared.row.OperandKind.TheVariants as kind
 use Rattle.isa65.specs.declared.row.Pattern.TheVariants as pattern
 use Rattle.isa65.specs.declared.row.Row.TheVariants as row
@@ -12,7 +12,7 @@ use Rattle.stmt65.specs.Words.{Definition, ExprView, Fixed, Form, Fragment, Inst
 use Rattle.stmt65.specs.Views as view
 use Rattle.stmt65.specs.ModeLaws as mode
 use Rattle.stmt65.proofs.Public.{needs_mode, takes_modes}
-use Rattle.map65.specs.Words.{AreBytes, ImageView, target_of, word_of}
+use Rattle.map65.specs.Words.{AreBytes, ImageView, target_of, operand_word}
 use Rattle.da65.proofs.Statements.StandsLaws.{at_some}
 use Rattle.da65.proofs.Names.TargetBounds.{byte-small}
 use Rattle.da65.proofs.Instructions.ValueLaws.{address_large, zero_page_small}
@@ -61,7 +61,7 @@ pair _ x e = absurd cc
 
 -- ---- how an instruction is coded
 
-module _ (image : ImageView) (n : Names) (p : ℕ → Bool) (names : AreSound image n) (cpu : Cpu) (above : List Definition) (known : KnowsConstants n p above) where
+module _ (image : ImageView) (n : AddressNames) (p : ℕ → Bool) (names : AreSound image n) (cpu : Cpu) (above : List Definition) (known : KnowsConstants n p above) where
   -- an operand in the zero page has that size
   abbrev IsSmall : OperandKind → ℕ → ExprView → Type 0
   IsSmall kind.ZeroPage at e = has_zero_page_size above (source_value e) ≡ true
@@ -118,10 +118,10 @@ module _ (image : ImageView) (n : Names) (p : ℕ → Bool) (names : AreSound im
 
   -- a word has the size of its expression
   pub word_size : (q : Pattern) (r : Row) → r ≡ row.One q kind.Word → (size : AddressSize) (next : ℕ) (bytes : List ℕ) (os : OperandsView) → row_operands n r next bytes ≡ Some os
-      → is_short above (row_form r size os) ≡ has_zero_page_size above (source_value (address_expr n (word_of bytes)))
+      → is_short above (row_form r size os) ≡ has_zero_page_size above (source_value (address_expr n (operand_word bytes)))
   word_size q (row.One s kind.Word) e size next bytes (view.one x) has =
-      let is : Some (view.one (address_expr n (word_of bytes))) ≡ Some (view.one x) = has in
-      let same : address_expr n (word_of bytes) ≡ x = cc in
+      let is : Some (view.one (address_expr n (operand_word bytes))) ≡ Some (view.one x) = has in
+      let same : address_expr n (operand_word bytes) ≡ x = cc in
       rw same refl
   word_size q (row.One s kind.Word) e size next bytes view.none has = absurd cc
   word_size q (row.One s kind.Word) e size next bytes (view.two x y) has = absurd cc
@@ -146,7 +146,7 @@ module _ (image : ImageView) (n : Names) (p : ℕ → Bool) (names : AreSound im
     of_form u may = (row_is IsSmall (row_of x) (address_size u) os all_small, λ h. may (row_prefix (row_of x) u os h))
 
     -- `a:` stands exactly where the operand is small, if the mnemonic has the zero-page mode
-    small_forced : (z : Mode) (c : ℕ) → zero_page_of x ≡ Some z → encoded (table_of cpu) m z ≡ Some c → needs cpu m x bytes ≡ nat_lt (word_of bytes) 256
+    small_forced : (z : Mode) (c : ℕ) → zero_page_of x ≡ Some z → encoded (table_of cpu) m z ≡ Some c → needs cpu m x bytes ≡ nat_lt (operand_word bytes) 256
     small_forced z c near code = rw (near, code) refl
 
     module _ (u : Bool) (forced : needs cpu m x bytes ≡ u) (fragments : List Fragment) (takes : TakesMode cpu above m (form u) fragments) where
@@ -168,9 +168,9 @@ module _ (image : ImageView) (n : Names) (p : ℕ → Bool) (names : AreSound im
           let free : u ≡ false = false_from_ne_true u
           (λ e. let prefix : has_prefix (form u) ≡ true = rw e (forced_prefix h.direct (row_of x) h.long h.prefix IsSmall os all_small) in
           let no : false ≡ true = ap (λ (o : Option Mode). is_some o) (sym h.alone) ∙ takes.of_form.1 prefix in cc) in
-          let large : nat_lt (word_of bytes) 256 ≡ false = sym (small_forced takes.mode takes.opcode short takes.has) ∙ forced ∙ free in
+          let large : nat_lt (operand_word bytes) 256 ≡ false = sym (small_forced takes.mode takes.opcode short takes.has) ∙ forced ∙ free in
           let size = sym (takes.short x short (of_form u may) (ap is_some is))
-          ∙ word_size h.direct (row_of x) h.long (address_size u) (a + len_of x) bytes os has ∙ address_large image n p above (word_of bytes) names known.knows large in
+          ∙ word_size h.direct (row_of x) h.long (address_size u) (a + len_of x) bytes os has ∙ address_large image n p above (operand_word bytes) names known.knows large in
           cc
 
       -- nor in the absolute one

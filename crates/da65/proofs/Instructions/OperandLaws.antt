@@ -5,7 +5,7 @@ use Rattle.std.specs.Prelude.{IfSome, slice_index}
 use Rattle.std.specs.Option.{option_map}
 use Rattle.std.proofs.lemmas.List.{append-nil, drop-drop, drop-take, drop_more}
 use Rattle.isa65.specs.Words.{len_of, row_len, row_of, size_of}
-use Rattle.da65.specs.Words.{Addr, AreSound, KnowsAll, Mode, Names, OperandKind, Row, address_expr, fragments_in, operand_expr, operand_fragment, operands_of, row_fragments, row_operands, zero_page_expr}
+use Rattle.da65.specs.Words.{Addr, AreSound, KnowsAll, Mode, AddressNames, OperandKind, Row, address_expr, fragments_in, operand_expr, operand_fragment, operands_of, row_fragments, row_operands, zero_page_expr}
 use Rattle.isa65.specs.declared.row.OperandKind.TheVariants as kind
 use Rattle.isa65.specs.declared.row.Row.TheVariants as row
 use Rattle.stmt65.specs.Words.{Definition, ExprView, Fragment, OperandsView, source_value}
@@ -26,7 +26,7 @@ past_two n m bytes =
     ap (λ (k : ℕ). drop 1 (take k bytes)) sum ∙ drop-take 1 (n + m) bytes ∙ take-add n m (drop 1 bytes)
     ∙ ap (λ (bs : List ℕ). take n (drop 1 bytes) ++ take m bs) (drop-drop n 1 bytes)
 
-module _ (image : ImageView) (n : Names) (names : AreSound image n) (next : ℕ) (room : next ≤ 65536) (bytes : List ℕ) (are : AreBytes bytes) where
+module _ (image : ImageView) (n : AddressNames) (names : AreSound image n) (next : ℕ) (room : next ≤ 65536) (bytes : List ℕ) (are : AreBytes bytes) where
   abbrev Full : List Definition → Type 0
   Full all = KnowsAll n all
 
@@ -71,7 +71,7 @@ module _ (image : ImageView) (n : Names) (names : AreSound image n) (next : ℕ)
   of_row : (r : Row) (os : OperandsView) → row_len r ≤ length bytes → row_operands n r next bytes ≡ Some os → FragmentsGive Full next (row_fragments r os) (drop 1 (take (row_len r) bytes))
   of_row r os long e = row_gives r os (at_some (AreAll Gives r) (row_operands n r next bytes) os e (of_each Gives n next bytes operand_gives r long))
 
-pub bytes_of_operands : (image : ImageView) (n : Names) → AreSound image n → (mode : Mode) (a : ℕ) (bytes : List ℕ) (os : OperandsView) → AreBytes bytes → len_of mode ≤ length bytes → a + len_of mode ≤ 65536
+pub bytes_of_operands : (image : ImageView) (n : AddressNames) → AreSound image n → (mode : Mode) (a : ℕ) (bytes : List ℕ) (os : OperandsView) → AreBytes bytes → len_of mode ≤ length bytes → a + len_of mode ≤ 65536
     → operands_of n mode a bytes ≡ Some os → FragmentsGive (KnowsAll n) (a + len_of mode) (fragments_in mode os) (drop 1 (take (len_of mode) bytes))
 unfolding operands_of
 bytes_of_operands image n names mode a bytes os are long room e = of_row image n names (a + len_of mode) room bytes are (row_of mode) os long e

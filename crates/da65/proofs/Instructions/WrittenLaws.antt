@@ -4,7 +4,7 @@ use Rattle.std.specs.Prelude.{IfSome}
 use Rattle.std.proofs.lemmas.Bool.{and_parts}
 use Rattle.std.proofs.lemmas.List.Elements.{All-head, All-tail}
 use Rattle.isa65.specs.Words.{Table, row_len, size_of, table_of}
-use Rattle.da65.specs.Words.{Cpu, Mnemonic, Mode, Names, OperandKind, Row, is_forced, operand_expr, row_operands}
+use Rattle.da65.specs.Words.{Cpu, Mnemonic, Mode, AddressNames, OperandKind, Row, is_forced, operand_expr, row_operands}
 use Rattle.isa65.specs.declared.row.Row.TheVariants as row
 use Rattle.stmt65.specs.Words.{ExprView, MayBeForced, OperandsView}
 use Rattle.stmt65.specs.Views as view
@@ -28,7 +28,7 @@ AreAll P (row.One pattern kind) (view.one e) = P kind 1 e
 AreAll P (row.Two first second) (view.two e f) = P first 1 e × P second (1 + size_of first) f
 AreAll P _ _ = ⊥
 
-pub of_each : (P : OperandKind → ℕ → ExprView → Type 0) (n : Names) (next : ℕ) (bytes : List ℕ)
+pub of_each : (P : OperandKind → ℕ → ExprView → Type 0) (n : AddressNames) (next : ℕ) (bytes : List ℕ)
     → ((k : OperandKind) (at : ℕ) → at + size_of k ≤ length bytes → IfSome (operand_expr n k next at bytes) (P k at))
     → (r : Row) → row_len r ≤ length bytes → IfSome (row_operands n r next bytes) (AreAll P r)
 of_each P n next bytes each row.Implied long = tt

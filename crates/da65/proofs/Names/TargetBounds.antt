@@ -10,7 +10,7 @@ use Rattle.isa65.specs.declared.row.Row.TheVariants.{One}
 use Rattle.info65.specs.Words.{AreNames, NameView, blank_name, covering, layout_of, name_at}
 use Rattle.info65.specs.declared.information.range.Entry.{Entry}
 use Rattle.info65.proofs.Public.{last_name}
-use Rattle.map65.specs.Words.{AreBytes, Base, ImageView, IsPlaced, IsReferenced, MapView, base_at, byte_of, bytes_from, code_target, entry_of, entry_target, is_inside, is_jump, is_referenced, item_len, only_inside, opcodes, operand_target, return_target, role_of, row_target, size_at, target_at, target_for, target_of, word_of, word_target}
+use Rattle.map65.specs.Words.{AreBytes, Base, ImageView, IsPlaced, IsReferenced, MapView, base_at, byte_of, bytes_from, code_target, entry_of, entry_target, is_inside, is_jump, is_referenced, item_len, only_inside, opcodes, operand_target, return_target, role_of, row_target, size_at, target_at, target_for, target_of, operand_word, word_target}
 use Rattle.map65.proofs.Public.{begun, size-fits, reference_law}
 use Rattle.da65.proofs.Names.NameTexts.{base-cases}
 use Rattle.da65.proofs.Statements.FragmentLaws.{target_is}
@@ -21,7 +21,7 @@ byte-small [] are i = omega arith
 byte-small (b ∷ bytes) are zero = All-head (λ b. b < 256) b bytes are
 byte-small (b ∷ bytes) are (suc i) = byte-small bytes (All-tail (λ b. b < 256) b bytes are) i
 
-pub word-small : (bytes : List ℕ) → AreBytes bytes → word_of bytes < 65536
+pub word-small : (bytes : List ℕ) → AreBytes bytes → operand_word bytes < 65536
 word-small bytes are = let low = byte-small bytes are 1 in let high = byte-small bytes are 2 in omega arith
 
 pub entry-small : (bytes : List ℕ) → AreBytes bytes → entry_of bytes < 65536
@@ -48,7 +48,7 @@ distance-small next b room small = go (target_of next b) refl
     go (Some t) e = (target_is next b t room small e).room
 
 row-small : (image : ImageView) (m : Mnemonic) (r : Row) (next : ℕ) (bytes : List ℕ) → AreBytes bytes → next ≤ 65536 → IsSmall (row_target image m r next bytes)
-row-small image m (One p Word) next bytes are room = word-target-small image m p (word_of bytes) (word-small bytes are)
+row-small image m (One p Word) next bytes are room = word-target-small image m p (operand_word bytes) (word-small bytes are)
 row-small image m (One p Distance) next bytes are room = distance-small next (byte_of bytes) room (byte-small bytes are 1)
 row-small image m (Two k Distance) next bytes are room = distance-small next (slice_index bytes (1 + size_of k)) room (byte-small bytes are (1 + size_of k))
 row-small image m _ next bytes are room = tt

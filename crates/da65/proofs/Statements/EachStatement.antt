@@ -4,7 +4,7 @@ use Rattle.std.proofs.lemmas.Bool.{cond_both, eqb-false, eqb-true, ltb-false, lt
 use Rattle.std.proofs.lemmas.List.{take_all}
 use Rattle.isa65.specs.Words.{Table, len_of}
 use Rattle.isa65.proofs.ModeLaws.{len-positive, len-small}
-use Rattle.da65.specs.Words.{Address, Character, Directive, Instruction, IsGroupOf, Names, Number, Op, RangeType, Return, Skipped, address_entry, bytes_statement, directive_of, entries_or_byte, instruction_in, is_forced, item_in, limit_of, operands_of, return_entry, statement_by, statement_for, statement_in, target_by}
+use Rattle.da65.specs.Words.{Address, Character, Directive, Instruction, IsGroupOf, AddressNames, Number, Op, RangeType, Return, Skipped, address_entry, bytes_statement, directive_of, entries_or_byte, instruction_in, is_forced, item_in, limit_of, operands_of, return_entry, statement_by, statement_for, statement_in, target_by}
 use Rattle.info65.proofs.Public.{layout_entry}
 use Rattle.info65.specs.Words.{IsEntry, layout_of}
 use Rattle.info65.specs.declared.information.range.Entry.{Entry}
@@ -17,12 +17,12 @@ use Rattle.da65.proofs.Statements.EntryLemmas.{address_bytes, are_table, directi
 use Rattle.da65.proofs.Statements.StandsLaws.{begins_with}
 
 -- of the statements that an item of code can have, each with its bytes: some of the first bytes, or an instruction
-pub record OfCode (m : Names) (t : Table) (a : ℕ) (bytes : List ℕ) (P : StatementView → List ℕ → Type 0) : Type 0 where
+pub record OfCode (m : AddressNames) (t : Table) (a : ℕ) (bytes : List ℕ) (P : StatementView → List ℕ → Type 0) : Type 0 where
   pub front : (n : ℕ) → 1 ≤ n → n ≤ 8 → (0 < length bytes → n ≤ length bytes) → P (bytes_statement n bytes) (take n bytes)
   pub instruction : (op : Op) (os : OperandsView) → instruction_in t bytes ≡ Some op → operands_of m op.mode a bytes ≡ Some os → P (view.instr op (is_forced t op bytes) os) (take (len_of op.mode) bytes)
 
 -- of those that a line of a table can have: bytes, a text, numbers, an address, the entry $FFFF of a return table, and another one
-pub record OfTable (m : Names) (bytes : List ℕ) (P : StatementView → List ℕ → Type 0) : Type 0 where
+pub record OfTable (m : AddressNames) (bytes : List ℕ) (P : StatementView → List ℕ → Type 0) : Type 0 where
   pub plain : length bytes ≤ 8 → P (view.bytes bytes) bytes
   pub text : length bytes ≤ 16 → P (view.text bytes) bytes
   pub numbers : (d : Directive) → IsTable d bytes → P (view.numbers d bytes) bytes
@@ -30,11 +30,11 @@ pub record OfTable (m : Names) (bytes : List ℕ) (P : StatementView → List �
   pub nowhere : length bytes ≡ 2 → entry_of bytes ≡ 65535 → P (view.rts None) bytes
   pub return : (b : Base) → length bytes ≡ 2 → (entry_of bytes ≡ 65535 → ⊥) → m.base_at (entry_of bytes + 1) ≡ Some b → P (view.rts (Some (target_by (entry_of bytes + 1) b))) bytes
 
-pub of_item : (m : Names) (t : Table) (a : ℕ) (bytes : List ℕ) (P : StatementView → List ℕ → Type 0) → OfCode m t a bytes P → P (statement_in m t a bytes) (item_in t bytes)
+pub of_item : (m : AddressNames) (t : Table) (a : ℕ) (bytes : List ℕ) (P : StatementView → List ℕ → Type 0) → OfCode m t a bytes P → P (statement_in m t a bytes) (item_in t bytes)
 unfolding statement_in
 of_item m t a bytes P h = grind (arith, len-positive, len-small, begins_with)
 
-module _ (m : Names) (t : Table) (a : ℕ) (bytes : List ℕ) (P : StatementView → List ℕ → Type 0) (code : OfCode m t a bytes P) (table : OfTable m bytes P) where
+module _ (m : AddressNames) (t : Table) (a : ℕ) (bytes : List ℕ) (P : StatementView → List ℕ → Type 0) (code : OfCode m t a bytes P) (table : OfTable m bytes P) where
   -- entries, or the leftover byte
   either : (unit : ℕ) (entries : StatementView) → unit ≤ 8 → (unit ≤ length bytes → P entries bytes) → P (entries_or_byte unit entries bytes) bytes
   either unit entries small many = grind (arith, cond_both, ltb-true, ltb-false)

@@ -1,7 +1,7 @@
 -- Entries of tables, by the bytes of a line.
 use Rattle.std.proofs.Common.{◌≡◌, ◌≢◌, ◌∙◌, inl, inr, ℕ, ◌==◌, ◌*◌, ◌%◌, ◌<◌, ◌≤◌, false, List, length, refl, sym, ap, arith}
 use Rattle.std.proofs.lemmas.Bool.{cond-true, eqb-false, lt-ltb}
-use Rattle.da65.specs.Words.{AddrTable, Address, AreEntries, ByteOrder, Directive, Instruction, IsGroupOf, Names, RangeType, Return, RtsTable, Skip, Skipped, TextTable, directive_of, statement_for}
+use Rattle.da65.specs.Words.{AddrTable, Address, AreEntries, ByteOrder, Directive, Instruction, IsGroupOf, AddressNames, RangeType, Return, RtsTable, Skip, Skipped, TextTable, directive_of, statement_for}
 use Rattle.isa65.specs.Words.{Table}
 use Rattle.info65.specs.Words.{IsNumber, layout_of}
 use Rattle.info65.specs.declared.information.range.RangeType.TheVariants.{Code}
@@ -49,7 +49,7 @@ return_of_role t RtsTable bytes is of more = address_bytes 2 1 bytes (refl, omeg
 return_of_role t _ bytes is of more = absurd cc
 
 -- a line without a whole entry is a leftover byte
-pub leftover : (t u : Table) (n : Names) (r : RangeType) (a : ℕ) (bytes : List ℕ) → r ≢ Code → IsGroupOf t r bytes → 0 < length bytes → length bytes < (layout_of r).unit
+pub leftover : (t u : Table) (n : AddressNames) (r : RangeType) (a : ℕ) (bytes : List ℕ) → r ≢ Code → IsGroupOf t r bytes → 0 < length bytes → length bytes < (layout_of r).unit
     → view.bytes bytes ≡ statement_for n u r a bytes
 unfolding statement_for
 leftover t u n Code a bytes other is some few = absurd (other refl)

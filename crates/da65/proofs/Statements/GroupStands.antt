@@ -4,7 +4,7 @@ use Rattle.std.specs.List.{flat_map}
 use Rattle.std.proofs.lemmas.List.{append-nil, length-take, length-take-le}
 use Rattle.std.proofs.lemmas.List.Elements.{All-take}
 use Rattle.isa65.specs.Words.{encoded-decoded, len_of, table_of, table_of-sound}
-use Rattle.da65.specs.Words.{Addr, AreSound, Directive, GivesBytes, GroupGivesItsBytes, IsGroupOf, IsWritten, ItemGivesItsBytes, KnowsAll, KnowsConstants, LittleEndian, ModeIsChosenBack, Names, Op, RangeType, Zero, fragments_in, instruction_in, is_forced, item_in, statement_for, statement_in}
+use Rattle.da65.specs.Words.{Addr, AreSound, Directive, GivesBytes, GroupGivesItsBytes, IsGroupOf, IsWritten, ItemGivesItsBytes, KnowsAll, KnowsConstants, LittleEndian, ModeIsChosenBack, AddressNames, Op, RangeType, Zero, fragments_in, instruction_in, is_forced, item_in, statement_for, statement_in}
 use Rattle.stmt65.specs.Words.{Data, Definition, Entry, Fixed, Instr, NameValue, NumberValue, OperandsView, Operation, SourceLine, State, Statement, StatementView, Value, Values, coding, cpu_after, cut_text, datum_fragments, defined_by, entries, entry_len, entry_value, has_unknown_cpu, is_past_start, is_twice, operation_in, order_of, source_form, source_line}
 use Rattle.stmt65.specs.declared.source_line.Minus.TheVariants.{One}
 use Rattle.stmt65.specs.declared.directive.Directive.TheVariants.{Word}
@@ -38,7 +38,7 @@ first_again : (n b : ℕ) (past bytes : List ℕ) → bytes ≡ b ∷ past → 1
 first_again zero b past bytes e some = absurd (omega arith)
 first_again (suc n) b past bytes e some = rw e refl
 
-module _ (image : ImageView) (m : Names) (names : AreSound image m) where
+module _ (image : ImageView) (m : AddressNames) (names : AreSound image m) where
   abbrev Full : List Definition → Type 0
   Full all = KnowsAll m all
 

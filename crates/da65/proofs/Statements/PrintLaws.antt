@@ -7,7 +7,7 @@ use Rattle.std.proofs.lemmas.Bool.{and_from, cond_both, lt-ltb}
 use Rattle.std.proofs.lemmas.List.{length-take-le}
 use Rattle.std.proofs.lemmas.List.Elements.{All-head, All-tail, All-take}
 use Rattle.isa65.specs.Words.{Table, len_of, row_of, size_of}
-use Rattle.da65.specs.Words.{IsGroupOf, ListingLine, Mode, Names, OperandKind, RangeType, Row, Style, address_expr, begins, constant_base, expr_from, group_bytes, line_text, names_of, operand_expr, operands_of, statement_at, statement_for, zero_page_expr}
+use Rattle.da65.specs.Words.{IsGroupOf, ListingLine, Mode, AddressNames, OperandKind, RangeType, Row, Style, address_expr, begins, constant_base, expr_from, group_bytes, line_text, names_of, operand_expr, operands_of, statement_at, statement_for, zero_page_expr}
 use Rattle.isa65.specs.declared.row.OperandKind.TheVariants as kind
 use Rattle.isa65.specs.declared.row.Row.TheVariants as row
 use Rattle.info65.specs.Words.{AreNames}
@@ -48,7 +48,7 @@ bytes_pass (b ∷ bytes) h = and_from _ _ (lt-ltb b 256 (All-head (λ b. b < 256
 -- ---- expressions
 
 -- the names have texts that read as names
-record HaveTexts (m : Names) : Type 0 where
+record HaveTexts (m : AddressNames) : Type 0 where
   texts : (a : ℕ) (b : Base) → m.base_at a ≡ Some b → IsNameText b.text
 
 -- what an operand of a kind keeps, and the operands of a row
@@ -62,7 +62,7 @@ record Keep (r : Row) (os : OperandsView) : Type 0 where
   width : AreWordWide os
   names : HasNamesIn os
 
-short_prints_expr : (m : Names) (a : ℕ) → HaveTexts m → a < 256 → OperandPrints kind.ZeroPage (zero_page_expr m a)
+short_prints_expr : (m : AddressNames) (a : ℕ) → HaveTexts m → a < 256 → OperandPrints kind.ZeroPage (zero_page_expr m a)
 unfolding zero_page_expr
 short_prints_expr m a h low = go (m.base_at a) refl
   where
@@ -75,7 +75,7 @@ short_prints_expr m a h low = go (m.base_at a) refl
         let text : IsNameText b.text = h.texts a b e in
         cond_both (m.has_constant b.address) (Some b) None (λ o. OperandPrints kind.ZeroPage (expr_from a o)) (λ _. record { form = text.long; width = omega (arith, low); name = text.name }) (λ _. number)
 
-long_prints_expr : (m : Names) (a : ℕ) → HaveTexts m → a < 65536 → OperandPrints kind.Word (address_expr m a)
+long_prints_expr : (m : AddressNames) (a : ℕ) → HaveTexts m → a < 65536 → OperandPrints kind.Word (address_expr m a)
 unfolding address_expr
 long_prints_expr m a h low = go (m.base_at a) refl
   where
@@ -85,7 +85,7 @@ long_prints_expr m a h low = go (m.base_at a) refl
 
 -- ---- operands
 
-operand_prints : (m : Names) → HaveTexts m → (next : ℕ) (bytes : List ℕ) → AreBytes bytes → next ≤ 65536 → (k : OperandKind) (at : ℕ) → at + size_of k ≤ length bytes
+operand_prints : (m : AddressNames) → HaveTexts m → (next : ℕ) (bytes : List ℕ) → AreBytes bytes → next ≤ 65536 → (k : OperandKind) (at : ℕ) → at + size_of k ≤ length bytes
     → IfSome (operand_expr m k next at bytes) (OperandPrints k)
 operand_prints m h next bytes are room kind.Byte at long = let small = byte-small bytes are at in record { form = small; width = omega (arith, small); name = tt }
 operand_prints m h next bytes are room kind.ZeroPage at long = short_prints_expr m (slice_index bytes at) h (byte-small bytes are at)
@@ -105,7 +105,7 @@ kept (row.One p k) (view.one e) h = record { form = h.form; width = h.width; nam
 kept (row.Two k l) (view.two e f) h = record { form = (h.0.form, h.1.form); width = (h.0.width, h.1.width); names = (h.0.name, h.1.name) }
 kept _ _ h = absurd h
 
-operands_print : (m : Names) → HaveTexts m → (mode : Mode) (a : ℕ) (bytes : List ℕ) (os : OperandsView) → AreBytes bytes → len_of mode ≤ length bytes → a + len_of mode ≤ 65536
+operands_print : (m : AddressNames) → HaveTexts m → (mode : Mode) (a : ℕ) (bytes : List ℕ) (os : OperandsView) → AreBytes bytes → len_of mode ≤ length bytes → a + len_of mode ≤ 65536
     → operands_of m mode a bytes ≡ Some os → Keep (row_of mode) os
 unfolding operands_of
 operands_print m h mode a bytes os are long room e =
@@ -117,7 +117,7 @@ operands_print m h mode a bytes os are long room e =
 data_prints : (bytes : List ℕ) → AreBytes bytes → 1 ≤ length bytes → length bytes ≤ 8 → StatementPrints (view.bytes bytes)
 data_prints bytes are some high = record { printable = (some, high); width = bytes_pass bytes are; names = tt }
 
-group_prints : (m : Names) → HaveTexts m → (t : Table) (r : RangeType) (a : ℕ) (bytes : List ℕ) → AreBytes bytes → 0 < length bytes → a + length bytes ≤ 65536 → IsGroupOf t r bytes → StatementPrints (statement_for m t r a bytes)
+group_prints : (m : AddressNames) → HaveTexts m → (t : Table) (r : RangeType) (a : ℕ) (bytes : List ℕ) → AreBytes bytes → 0 < length bytes → a + length bytes ≤ 65536 → IsGroupOf t r bytes → StatementPrints (statement_for m t r a bytes)
 group_prints m h t r a bytes are some room of =
     of_group m t a bytes (λ s bs. StatementPrints s)
     (record {

@@ -13,10 +13,10 @@ use Rattle.da65.specs.Lines.{IsGroupStart, AreUnnamed, IsLineOf, IsNext, MayFoll
 use Rattle.da65.specs.Listing.{has_empty_line, line_text, segment_lines}
 use Rattle.da65.specs.Statements.{operands_of, statement_at}
 use Rattle.da65.specs.Style.{style_of}
-use Rattle.da65.specs.declared.listing.group.Group.{Group}
+use Rattle.da65.specs.declared.listing.group.ListedGroup.{ListedGroup}
 
 -- the group of the map that begins with its first byte; its statement can be printed, after its label if it has one
-pub record IsGroupIn (m : MapView) (g : Group) : Type 0 where
+pub record IsGroupIn (m : MapView) (g : ListedGroup) : Type 0 where
   pub start : IsGroupStart m g.index
   pub address_is : g.address ≡ m.image.start + g.index
   pub bytes_are : g.bytes.now ≡ group_bytes m (m.image.start + g.index)
@@ -26,40 +26,40 @@ pub record IsGroupIn (m : MapView) (g : Group) : Type 0 where
   pub printable : IsPrintable (statement_at m (m.image.start + g.index))
 
 -- the text is that of the group's statement, after its label; `ends`: an empty line follows
-pub record IsGroupLine (m : MapView) (g : Group) (text : List ℕ) (ends : Bool) : Type 0 where
+pub record IsGroupLine (m : MapView) (g : ListedGroup) (text : List ℕ) (ends : Bool) : Type 0 where
   pub text_is : text ≡ line_text (style_of m.info.settings) (statement_line m g.index (option_copied g.label))
   pub ends_is : ends ≡ has_empty_line (style_of m.info.settings) (statement_at m (m.image.start + g.index))
 
 -- the same, and the place from which the lines after it are left
-abbrev pub IsGroupNext : MapView → Group → List ℕ → ListingPlace → Type 0
+abbrev pub IsGroupNext : MapView → ListedGroup → List ℕ → ListingPlace → Type 0
 IsGroupNext m g text next = IsNext m (labelled_left m g.index (option_copied g.label)) text next
 
 -- the same of the first of its lines from what has this number before its label on
-abbrev pub IsNextFrom : MapView → Group → ℕ → List ℕ → ListingPlace → Type 0
+abbrev pub IsNextFrom : MapView → ListedGroup → ℕ → List ℕ → ListingPlace → Type 0
 IsNextFrom m g n text next = IsNext m (group_left m g.index n) text next
 
 -- what has this number before its label is this line, or there is none
-abbrev pub IsHeading : MapView → Group → ℕ → List ℕ → Bool → Type 0
+abbrev pub IsHeading : MapView → ListedGroup → ℕ → List ℕ → Bool → Type 0
 IsHeading m g n text some = IsLineOf m (heading_lines m g.address n) text some
 
 -- it enters its segment
-abbrev pub IsSegmentLine : MapView → Group → List ℕ → Bool → Type 0
+abbrev pub IsSegmentLine : MapView → ListedGroup → List ℕ → Bool → Type 0
 IsSegmentLine m g text some = IsLineOf m (segment_lines m g.address) text some
 
 -- before this number there is none
-abbrev pub HasNoneBefore : MapView → Group → ℕ → Type 0
+abbrev pub HasNoneBefore : MapView → ListedGroup → ℕ → Type 0
 HasNoneBefore m g n = group_left m g.index n ≡ groups_left m g.index
 
 -- none of its addresses has a name
-abbrev pub IsUnnamed : MapView → Group → Type 0
+abbrev pub IsUnnamed : MapView → ListedGroup → Type 0
 IsUnnamed m g = AreUnnamed m g.address (length g.bytes.now)
 
 -- the same group with a label
-abbrev pub labelled_group : Group → Bor (List ℕ) → Group
+abbrev pub labelled_group : ListedGroup → Bor (List ℕ) → ListedGroup
 labelled_group g label = record { index = g.index; address = g.address; bytes = g.bytes; label = Some label }
 
 -- the group of the map is an item of code that begins with this instruction
-pub record IsInstructionIn (m : MapView) (g : Group) (op : Op) : Type 0 where
+pub record IsInstructionIn (m : MapView) (g : ListedGroup) (op : Op) : Type 0 where
   pub group : IsGroupIn m g
   pub code : role_of m.info g.address ≡ Code
   pub begins : instruction_in (opcodes m) g.bytes.now ≡ Some op
@@ -69,5 +69,5 @@ abbrev pub operands_at : MapView → Op → ℕ → List ℕ → Option Operands
 operands_at m op a bytes = operands_of (names_of m) op.mode a bytes
 
 -- these are those of a group
-abbrev pub AreOperandsIn : MapView → Group → Op → OperandsView → Type 0
+abbrev pub AreOperandsIn : MapView → ListedGroup → Op → OperandsView → Type 0
 AreOperandsIn m g op operands = Some operands ≡ operands_at m op g.address g.bytes.now

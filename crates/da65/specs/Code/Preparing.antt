@@ -22,9 +22,9 @@ Prepares (Ok i) expected = expected ≡ Ok i
 Prepares (Err stop) expected = Stops stop expected
 
 -- the same of a call that returns the names of the information
-abbrev pub Names : Result (List NameView) Stop → InfoView → Result InfoView (List ℕ) → Type 0
-Names (Ok names) i expected = (expected ≡ Ok (with_names i names)) × AreNames names
-Names (Err stop) i expected = Stops stop expected
+abbrev pub GivesNames : Result (List NameView) Stop → InfoView → Result InfoView (List ℕ) → Type 0
+GivesNames (Ok names) i expected = (expected ≡ Ok (with_names i names)) × AreNames names
+GivesNames (Err stop) i expected = Stops stop expected
 
 -- what an information that was accepted gives with the files that are handed in
 abbrev pub listed_by : List FileView → InfoView → Result InfoView (List ℕ)
@@ -45,7 +45,7 @@ PreparesWith result files index i = (x : IncludeView) → x ≡ get_or i.include
 
 -- it is the names with those of all include files
 abbrev pub NamesAll : Result (List NameView) Stop → List FileView → InfoView → Type 0
-NamesAll result files i = Names result i (with_all_includes files i)
+NamesAll result files i = GivesNames result i (with_all_includes files i)
 
 -- it is what an information file gives that was read or refused
 abbrev pub PreparesBy : Result InfoView Stop → Result InfoView InfoFault → List FileView → Type 0

@@ -5,7 +5,7 @@ ghost use Rattle.da65.specs.Words.{labelled_group};
 
 /// The group that a line lists: bytes of one role that follow each other.
 #[derive(Clone, Copy)]
-pub struct Group<'a> {
+pub struct ListedGroup<'a> {
     /// The index of its first byte in the image.
     pub index: usize,
     /// The address of its first byte.
@@ -16,13 +16,13 @@ pub struct Group<'a> {
     pub label: Option<&'a [u8]>,
 }
 
-impl<'a> Group<'a> {
+impl<'a> ListedGroup<'a> {
     /// This group, with this label.
-    pub fn with_label(self, label: &'a [u8]) -> Group<'a>
+    pub fn with_label(self, label: &'a [u8]) -> ListedGroup<'a>
         ensures { result ≡ labelled_group self.entry label.entry }
     {
         let label = Some(label);
-        Group {
+        ListedGroup {
             index: self.index,
             address: self.address,
             bytes: self.bytes,

@@ -7,7 +7,7 @@ ghost use Rattle.map65.specs.Words.{AreBytes, role_of};
 ghost use Rattle.da65.specs.Words.{AreOperandsIn, IsGroupIn, IsGroupLine, IsGroupNext, IsGroupStart, IsInstructionIn, IsLabelNext, IsNextFrom, IsStatementOf};
 
 use crate::listing::base_names::put_base;
-use crate::listing::group::Group;
+use crate::listing::group::ListedGroup;
 use crate::listing::heading_lines::put_heading;
 use crate::listing::line_groups::{group_len, role_inside};
 use crate::listing::listed_image::ListedImage;
@@ -33,7 +33,7 @@ fn are_bytes(bytes: &[u8])
 /// The group that begins with the byte of this index, so far without a label.
 #[inline(always)]
 #[tactic(auto, using(crate::proofs::Rules::group_at_rules, std::proofs::lemmas::Grind::common_steps))]
-pub fn group_at<'a, A: Allocator>(listed: &ListedImage<'a, A>, index: usize) -> Group<'a>
+pub fn group_at<'a, A: Allocator>(listed: &ListedImage<'a, A>, index: usize) -> ListedGroup<'a>
     requires { IsGroupStart listed.now index }
     ensures index { result.index ≡ index }
     ensures bare { result.label ≡ None }
@@ -46,7 +46,7 @@ pub fn group_at<'a, A: Allocator>(listed: &ListedImage<'a, A>, index: usize) -> 
     let (bytes, _) = rest.split_at(len);
     // This does nothing; its clause says that each is a byte.
     are_bytes(bytes);
-    Group {
+    ListedGroup {
         index,
         address,
         bytes,
@@ -60,7 +60,7 @@ pub fn group_at<'a, A: Allocator>(listed: &ListedImage<'a, A>, index: usize) -> 
 fn put_group_statement<A: Allocator>(
     out: &mut Line,
     listed: &ListedImage<'_, A>,
-    group: Group<'_>,
+    group: ListedGroup<'_>,
     statement: &Statement<'_>,
 ) -> bool
     requires group { IsGroupIn listed.now group }
@@ -85,7 +85,7 @@ fn put_group_statement<A: Allocator>(
 fn put_table_line<A: Allocator>(
     out: &mut Line,
     listed: &ListedImage<'_, A>,
-    group: Group<'_>,
+    group: ListedGroup<'_>,
 ) -> bool
     requires table { role_of listed.now.info group.address ≢ RangeType.Code }
     requires group { IsGroupIn listed.now group }
@@ -103,7 +103,7 @@ fn put_table_line<A: Allocator>(
 fn put_bytes_line<A: Allocator>(
     out: &mut Line,
     listed: &ListedImage<'_, A>,
-    group: Group<'_>,
+    group: ListedGroup<'_>,
 ) -> bool
     requires group { IsGroupIn listed.now group }
     requires bytes { IsStatementOf listed.now group.index (view.bytes group.bytes.now) }
@@ -117,7 +117,7 @@ fn put_bytes_line<A: Allocator>(
 fn put_instruction<A: Allocator>(
     out: &mut Line,
     listed: &ListedImage<'_, A>,
-    group: Group<'_>,
+    group: ListedGroup<'_>,
     op: Op,
     operands: Operands<'_>,
 ) -> bool
@@ -137,7 +137,7 @@ fn put_instruction<A: Allocator>(
 fn put_with_operands<A: Allocator>(
     out: &mut Line,
     listed: &ListedImage<'_, A>,
-    group: Group<'_>,
+    group: ListedGroup<'_>,
     op: Op,
 ) -> bool
     requires { IsInstructionIn listed.now group op }
@@ -156,7 +156,7 @@ fn put_with_operands<A: Allocator>(
 fn put_with_operand<A: Allocator>(
     out: &mut Line,
     listed: &ListedImage<'_, A>,
-    group: Group<'_>,
+    group: ListedGroup<'_>,
     op: Op,
 ) -> bool
     requires { IsInstructionIn listed.now group op }
@@ -179,7 +179,7 @@ fn put_with_operand<A: Allocator>(
 fn put_code_line<A: Allocator>(
     out: &mut Line,
     listed: &ListedImage<'_, A>,
-    group: Group<'_>,
+    group: ListedGroup<'_>,
 ) -> bool
     requires code { role_of listed.now.info group.address ≡ RangeType.Code }
     requires group { IsGroupIn listed.now group }
@@ -201,7 +201,7 @@ fn put_code_line<A: Allocator>(
 fn put_statement_line<A: Allocator>(
     out: &mut Line,
     listed: &ListedImage<'_, A>,
-    group: Group<'_>,
+    group: ListedGroup<'_>,
 ) -> bool
     requires { IsGroupIn listed.now group }
     ensures { IsGroupLine listed.now group.entry out.new.items result }
@@ -218,7 +218,7 @@ fn put_statement_line<A: Allocator>(
 pub fn put_statement<A: Allocator>(
     out: &mut Line,
     listed: &ListedImage<'_, A>,
-    group: Group<'_>,
+    group: ListedGroup<'_>,
 ) -> ListingPlace
     requires { IsGroupIn listed.now group }
     ensures { IsGroupNext listed.now group.entry out.new.items result }
@@ -239,7 +239,7 @@ pub fn put_statement<A: Allocator>(
 fn put_label<A: Allocator>(
     out: &mut Line,
     listed: &ListedImage<'_, A>,
-    group: Group<'_>,
+    group: ListedGroup<'_>,
 ) -> ListingPlace
     requires group { IsGroupIn listed.now group }
     requires bare { group.label ≡ None }
@@ -264,7 +264,7 @@ fn put_label<A: Allocator>(
 fn put_labelled<A: Allocator>(
     out: &mut Line,
     listed: &ListedImage<'_, A>,
-    group: Group<'_>,
+    group: ListedGroup<'_>,
 ) -> ListingPlace
     requires group { IsGroupIn listed.now group }
     requires bare { group.label ≡ None }
@@ -283,7 +283,7 @@ fn put_labelled<A: Allocator>(
 pub fn put_group_line<A: Allocator>(
     out: &mut Line,
     listed: &ListedImage<'_, A>,
-    group: Group<'_>,
+    group: ListedGroup<'_>,
     from: usize,
 ) -> ListingPlace
     requires group { IsGroupIn listed.now group }

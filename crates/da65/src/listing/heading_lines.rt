@@ -10,7 +10,7 @@ ghost use Rattle.map65.specs.Words.{segment_at};
 
 use crate::listing::base_names::put_base;
 use crate::listing::comment_lines::comment_at;
-use crate::listing::group::Group;
+use crate::listing::group::ListedGroup;
 use crate::listing::line_groups::is_skipped;
 use crate::listing::listed_image::ListedImage;
 use crate::listing::statement_line::{put_plain, put_remark};
@@ -84,7 +84,11 @@ fn put_segment_line(out: &mut Line, style: &Style, segment: Option<&[u8]>)
 
 /// Replaces the buffer by the line that enters the segment of this group, if it is not that of the group before.
 #[tactic(auto, using(crate::proofs::Rules::put_segment_rules, std::proofs::lemmas::Grind::common_steps))]
-fn put_segment<A: Allocator>(out: &mut Line, listed: &ListedImage<'_, A>, group: Group<'_>) -> bool
+fn put_segment<A: Allocator>(
+    out: &mut Line,
+    listed: &ListedImage<'_, A>,
+    group: ListedGroup<'_>,
+) -> bool
     requires { IsGroupIn listed.now group }
     ensures { IsSegmentLine listed.now group.entry out.new.items result }
 {
@@ -157,7 +161,7 @@ fn put_forward<A: Allocator>(
 pub fn put_heading<A: Allocator>(
     out: &mut Line,
     listed: &ListedImage<'_, A>,
-    group: Group<'_>,
+    group: ListedGroup<'_>,
     number: usize,
 ) -> bool
     requires group { IsGroupIn listed.now group }
@@ -186,7 +190,7 @@ pub fn put_heading<A: Allocator>(
 
 /// Whether no address of a group has a name.
 #[inline(always)]
-fn is_unnamed<A: Allocator>(listed: &ListedImage<'_, A>, group: Group<'_>) -> bool
+fn is_unnamed<A: Allocator>(listed: &ListedImage<'_, A>, group: ListedGroup<'_>) -> bool
     requires { IsGroupIn listed.now group }
     ensures { OnTrue result (IsUnnamed listed.now group.entry) }
 {
@@ -202,7 +206,7 @@ fn is_unnamed<A: Allocator>(listed: &ListedImage<'_, A>, group: Group<'_>) -> bo
 /// Whether a separator or a segment line may stand before a group. It stands only before the first group of a run.
 #[inline(always)]
 #[tactic(auto, using(crate::proofs::Rules::may_have_head_rules, std::proofs::lemmas::Grind::common_steps))]
-fn may_have_head<A: Allocator>(listed: &ListedImage<'_, A>, group: Group<'_>) -> bool
+fn may_have_head<A: Allocator>(listed: &ListedImage<'_, A>, group: ListedGroup<'_>) -> bool
     requires { IsGroupIn listed.now group }
     ensures { OnFalse result (HasNoneBefore listed.now group.entry 2) }
 {
@@ -218,7 +222,7 @@ fn may_have_head<A: Allocator>(listed: &ListedImage<'_, A>, group: Group<'_>) ->
 /// A number before which a group has no such lines. Most listings have none but forward lines, and most groups have no names.
 #[inline(always)]
 #[tactic(auto, using(crate::proofs::Rules::first_heading_rules, std::proofs::lemmas::Grind::common_steps))]
-pub fn first_heading<A: Allocator>(listed: &ListedImage<'_, A>, group: Group<'_>) -> usize
+pub fn first_heading<A: Allocator>(listed: &ListedImage<'_, A>, group: ListedGroup<'_>) -> usize
     requires { IsGroupIn listed.now group }
     ensures { HasNoneBefore listed.now group.entry result }
 {

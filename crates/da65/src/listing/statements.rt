@@ -9,7 +9,7 @@ ghost use Rattle.da65.specs.Words.{IsGroupOf, address_entry, instruction_in, is_
 use crate::listing::base_names::{address_expr, target, zero_page_expr};
 use info65::{Entry, RangeType};
 use isa65::{ByteOrder, Op, OpcodeSet, OperandKind, Row};
-use map65::{Map, NameBuf, entry_of, target_of, word_of};
+use map65::{Map, NameBuf, entry_of, operand_word, target_of};
 use std::alloc::Allocator;
 use stmt65::{AddressSize, Expr, Operands, Statement};
 
@@ -116,7 +116,7 @@ fn is_forced<S: OpcodeSet>(set: &S, op: Op, bytes: &[u8]) -> bool
     ensures { result ≡ is_forced (S.table set.now) op bytes.now }
 {
     match op.mode.row() {
-        Row::One(_, OperandKind::Word) => word_of(bytes) < 256 && op.sibling(set).is_some(),
+        Row::One(_, OperandKind::Word) => operand_word(bytes) < 256 && op.sibling(set).is_some(),
         _ => false,
     }
 }

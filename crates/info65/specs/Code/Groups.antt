@@ -3,8 +3,8 @@ use Rattle.std.specs.Prelude.{◌≡◌, ◌≤◌, ℕ, List, None, map}
 use Rattle.info65.specs.Values.{ValueView, a_comment, a_name, a_number, an_address, a_boolean, a_character, a_cpu, a_type}
 use Rattle.info65.specs.Closing.{closing_fault}
 use Rattle.info65.specs.Groups.{AssignmentView, GroupView, global_given}
-use Rattle.info65.specs.Types.{Assignment, Form, Group, Value}
-use Rattle.info65.specs.declared.syntax.attribute.Form.TheVariants as form
+use Rattle.info65.specs.Types.{Assignment, ValueForm, Group, Value}
+use Rattle.info65.specs.declared.syntax.attribute.ValueForm.TheVariants as form
 use Rattle.info65.specs.declared.syntax.assignment.Value.TheVariants as value
 
 abbrev pub value_seen : Value → ValueView
@@ -38,6 +38,6 @@ abbrev pub MayClose : {Z : Type 0} → List GroupView → Group Z → Type 0
 MayClose before g = closing_fault before g.kind (assigned_seen g.given.items) ≡ None
 
 -- a number of this form is at most so large
-abbrev pub IsAtMost : ℕ → Form → Type 0
+abbrev pub IsAtMost : ℕ → ValueForm → Type 0
 IsAtMost limit (form.Number low high) = high ≤ limit
 IsAtMost limit _ = ⊥

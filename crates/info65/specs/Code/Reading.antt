@@ -4,7 +4,7 @@ use Rattle.info65.specs.Code.Groups.{group_seen}
 use Rattle.info65.specs.Code.Results.{Fails}
 use Rattle.info65.specs.Groups.{GroupView}
 use Rattle.info65.specs.Lexemes.{KindView, semicolon}
-use Rattle.info65.specs.Reader.{Place, closed, outside, read, read_token}
+use Rattle.info65.specs.Reader.{Stage, closed, outside, read, read_token}
 use Rattle.info65.specs.Tokens.{Stream, TokenView}
 use Rattle.info65.specs.Views.{OptionsView}
 use Rattle.info65.specs.Types.{Group, InfoFault}
@@ -14,7 +14,7 @@ is_semicolon semicolon = true
 is_semicolon _ = false
 
 -- where a reader stands between two groups
-abbrev pub place_after : Bool → Place
+abbrev pub place_after : Bool → Stage
 place_after true = closed
 place_after false = outside
 
@@ -31,15 +31,15 @@ Grows whole (Err e) on = Fails e whole
 -- ---- from one place of the reader to the next
 
 -- under these options and after these groups, a part reads on from a place to where `next` is due
-abbrev pub Moves : {X : Type 0} → OptionsView → List GroupView → Place → Stream → Result X InfoFault → (X → Place) → Stream → Type 0
+abbrev pub Moves : {X : Type 0} → OptionsView → List GroupView → Stage → Stream → Result X InfoFault → (X → Stage) → Stream → Type 0
 Moves o before place old result next new = Leads (read o place before old) result (λ x. read o (next x) before new)
 
 -- the same under all options, after any groups and to one place
-abbrev pub Advances : {X : Type 0} → Place → Stream → Result X InfoFault → Place → Stream → Type 0
+abbrev pub Advances : {X : Type 0} → Stage → Stream → Result X InfoFault → Stage → Stream → Type 0
 Advances place old result next new = (o : OptionsView) (before : List GroupView) → Moves o before place old result (λ x. next) new
 
 -- a part takes this token, whatever comes after it
-abbrev pub TakesToken : {X : Type 0} → List GroupView → Place → TokenView → Result X InfoFault → (X → Place) → Type 0
+abbrev pub TakesToken : {X : Type 0} → List GroupView → Stage → TokenView → Result X InfoFault → (X → Stage) → Type 0
 TakesToken before place t result next =
     (o : OptionsView) (rest : Stream) → Leads (read_token o place before t rest) result (λ x. read o (next x) before rest)
 

@@ -7,7 +7,7 @@ use Rattle.info65.specs.Tokens.{Stream}
 use Rattle.info65.specs.Types.{InfoFault, Next, Tag}
 use Rattle.info65.specs.declared.syntax.lexer.Next.TheVariants as next
 use Rattle.info65.specs.declared.tags.place.Outcome.{Outcome}
-use Rattle.info65.specs.declared.tags.place.Place.{Place}
+use Rattle.info65.specs.declared.tags.place.Stage.{Stage}
 use Rattle.info65.specs.declared.tags.place.Turn.{Turn}
 use Rattle.info65.specs.declared.tags.place.Turn.TheVariants.{Step, Done}
 
@@ -19,13 +19,13 @@ abbrev pub done : Result Bool InfoFault → Result Turn InfoFault
 done (Ok b) = Ok Done
 done (Err e) = Err e
 
-abbrev pub turn_of : Place → Result Next InfoFault → Result Turn InfoFault
+abbrev pub turn_of : Stage → Result Next InfoFault → Result Turn InfoFault
 turn_of p (Ok (next.Token t)) = stepped (tag_step p (seen t))
 turn_of p (Ok (next.End line)) = done (tag_end p line)
 turn_of p (Err e) = Err e
 
 -- the groups of a stream, by what is done at a place and what is left then
-abbrev pub Turns : Place → Stream → Result Turn InfoFault → Stream → Type 0
+abbrev pub Turns : Stage → Stream → Result Turn InfoFault → Stream → Type 0
 Turns p old (Ok (Step o)) new =
     ((found : List Tag) → tags_from p found old.tokens old.ending ≡ tags_from o.place (found ++ option_to_list o.closed) new.tokens new.ending) × (length new.tokens < length old.tokens)
 Turns p old (Ok Done) new = (found : List Tag) → tags_from p found old.tokens old.ending ≡ Ok found

@@ -80,7 +80,7 @@ pub enum Attribute {
 
 /// What the value of an attribute has to be.
 #[derive(Clone, Copy)]
-pub enum Form {
+pub enum ValueForm {
     /// A string that can name a file.
     FileName,
     /// A string with the text of a CPU.
@@ -182,38 +182,38 @@ pub fn attribute_named(kind: GroupKind, text: &[u8]) -> Option<Attribute>
 
 /// What the value of an attribute has to be.
 #[tactic(auto, unfolding(crate::specs::Attributes::form_of))]
-pub fn form_of(attribute: Attribute) -> Form
+pub fn form_of(attribute: Attribute) -> ValueForm
     ensures { result ≡ form_of attribute }
 {
     match attribute {
-        Attribute::InputName | Attribute::OutputName | Attribute::File => Form::FileName,
-        Attribute::InputOffset => Form::Number {
+        Attribute::InputName | Attribute::OutputName | Attribute::File => ValueForm::FileName,
+        Attribute::InputOffset => ValueForm::Number {
             low: 0,
             high: 16_777_216,
         },
-        Attribute::InputSize | Attribute::Size => Form::Number {
+        Attribute::InputSize | Attribute::Size => ValueForm::Number {
             low: 1,
             high: 0x1_0000,
         },
         Attribute::StartAddress | Attribute::Start | Attribute::End | Attribute::Address => {
-            Form::Address
+            ValueForm::Address
         }
-        Attribute::Cpu => Form::CpuText,
-        Attribute::Comments => Form::Number { low: 0, high: 4 },
+        Attribute::Cpu => ValueForm::CpuText,
+        Attribute::Comments => ValueForm::Number { low: 0, high: 4 },
         Attribute::MnemonicColumn
         | Attribute::ArgumentColumn
         | Attribute::CommentColumn
-        | Attribute::TextColumn => Form::Number { low: 1, high: 120 },
-        Attribute::LabelBreak => Form::Number { low: 0, high: 120 },
-        Attribute::PageLength => Form::Number { low: 0, high: 0 },
-        Attribute::Role => Form::TypeWord,
-        Attribute::Name => Form::Name,
-        Attribute::Comment => Form::Comment,
-        Attribute::CommentStart => Form::Character,
+        | Attribute::TextColumn => ValueForm::Number { low: 1, high: 120 },
+        Attribute::LabelBreak => ValueForm::Number { low: 0, high: 120 },
+        Attribute::PageLength => ValueForm::Number { low: 0, high: 0 },
+        Attribute::Role => ValueForm::TypeWord,
+        Attribute::Name => ValueForm::Name,
+        Attribute::Comment => ValueForm::Comment,
+        Attribute::CommentStart => ValueForm::Character,
         Attribute::HexOffsets
         | Attribute::NewlineAfterJmp
         | Attribute::NewlineAfterRts
-        | Attribute::IgnoreUnknown => Form::Boolean,
+        | Attribute::IgnoreUnknown => ValueForm::Boolean,
     }
 }
 

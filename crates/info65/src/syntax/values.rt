@@ -7,7 +7,7 @@ use crate::fault::{InfoFault, InfoFaultKind};
 use crate::information::options::Options;
 use crate::information::range::RangeType;
 use crate::syntax::assignment::Value;
-use crate::syntax::attribute::{Attribute, Form, boolean_named, form_of, type_named};
+use crate::syntax::attribute::{Attribute, ValueForm, boolean_named, form_of, type_named};
 use crate::syntax::names::has_comment_form;
 use crate::syntax::token::{Token, TokenKind};
 use isa65::Cpu;
@@ -144,18 +144,18 @@ pub fn value_of<'a, A: Allocator>(
 {
     let line = token.line;
     match (form_of(attribute), token.kind) {
-        (Form::FileName, TokenKind::Text(text)) => name_value(options, attribute, line, text),
-        (Form::CpuText, TokenKind::Text(text)) => cpu_value(line, Cpu::from_bytes(text)),
-        (Form::Address, TokenKind::Number(number)) => address_value(line, number),
-        (Form::Number { low, high }, TokenKind::Number(number)) => {
+        (ValueForm::FileName, TokenKind::Text(text)) => name_value(options, attribute, line, text),
+        (ValueForm::CpuText, TokenKind::Text(text)) => cpu_value(line, Cpu::from_bytes(text)),
+        (ValueForm::Address, TokenKind::Number(number)) => address_value(line, number),
+        (ValueForm::Number { low, high }, TokenKind::Number(number)) => {
             number_value(low, high, line, number)
         }
-        (Form::Name, TokenKind::Text(text)) => label_value(line, text),
-        (Form::Comment, TokenKind::Text(text)) => comment_value(line, text),
-        (Form::Boolean, TokenKind::Word) => boolean_value(line, boolean_named(token.text)),
-        (Form::Boolean, TokenKind::Number(number)) => boolean_value(line, boolean_of(number)),
-        (Form::TypeWord, TokenKind::Word) => type_value(line, type_named(token.text)),
-        (Form::Character, TokenKind::Character(byte)) => Ok(Value::Character(byte)),
+        (ValueForm::Name, TokenKind::Text(text)) => label_value(line, text),
+        (ValueForm::Comment, TokenKind::Text(text)) => comment_value(line, text),
+        (ValueForm::Boolean, TokenKind::Word) => boolean_value(line, boolean_named(token.text)),
+        (ValueForm::Boolean, TokenKind::Number(number)) => boolean_value(line, boolean_of(number)),
+        (ValueForm::TypeWord, TokenKind::Word) => type_value(line, type_named(token.text)),
+        (ValueForm::Character, TokenKind::Character(byte)) => Ok(Value::Character(byte)),
         _ => Err(InfoFault::new(line, InfoFaultKind::Expected)),
     }
 }

@@ -10,7 +10,7 @@ use crate::tags::tag::{Tag, TagAttribute, TagKind, is_value, tag_attribute, tag_
 
 /// Where the reader is: outside of groups, right after one, before its brace, inside it, before a value, and after one.
 #[derive(Clone, Copy)]
-pub(crate) enum Place {
+pub(crate) enum Stage {
     Outside,
     Closed,
     Opening(TagKind),
@@ -22,7 +22,7 @@ pub(crate) enum Place {
 /// Where the reader is after a token, and the group that it closes.
 #[derive(Clone, Copy)]
 pub(crate) struct Outcome {
-    pub(crate) place: Place,
+    pub(crate) place: Stage,
     pub(crate) closed: Option<Tag>,
 }
 
@@ -34,7 +34,7 @@ fn refused(line: u32, kind: InfoFaultKind) -> Result<Outcome, InfoFault>
 }
 
 /// No group is closed.
-fn at(place: Place) -> Result<Outcome, InfoFault>
+fn at(place: Stage) -> Result<Outcome, InfoFault>
     ensures { result ≡ Ok (record { place = place; closed = None }) }
 {
     Ok(Outcome {
@@ -50,7 +50,7 @@ fn outside(token: Token<'_>) -> Result<Outcome, InfoFault>
         return refused(token.line, InfoFaultKind::Expected);
     }
     match tag_named(token.text) {
-        Some(kind) => at(Place::Opening(kind)),
+        Some(kind) => at(Stage::Opening(kind)),
         None => refused(token.line, InfoFaultKind::UnknownGroup),
     }
 }
@@ -59,7 +59,7 @@ fn closed(token: Token<'_>) -> Result<Outcome, InfoFault>
     ensures { result ≡ by_token at_closed (seen token.entry) }
 {
     match token.kind {
-        TokenKind::Semicolon => at(Place::Outside),
+        TokenKind::Semicolon => at(Stage::Outside),
         _ => outside(token),
     }
 }
@@ -68,7 +68,7 @@ fn opening(kind: TagKind, token: Token<'_>) -> Result<Outcome, InfoFault>
     ensures { result ≡ at_opening kind (kind_seen token.entry.kind) token.entry.line }
 {
     match token.kind {
-        TokenKind::OpenBrace => at(Place::Inside(Tag::new(kind, token.line))),
+        TokenKind::OpenBrace => at(Stage::Inside(Tag::new(kind, token.line))),
         _ => refused(token.line, InfoFaultKind::Expected),
     }
 }
@@ -81,7 +81,7 @@ fn attributed(tag: Tag, line: u32, attribute: Option<TagAttribute>) -> Result<Ou
             if tag.value_at(attribute).is_some() {
                 return refused(line, InfoFaultKind::GivenTwice);
             }
-            at(Place::Valued(tag, attribute))
+            at(Stage::Valued(tag, attribute))
         }
         None => refused(line, InfoFaultKind::UnknownAttribute),
     }
@@ -97,7 +97,7 @@ fn ended_at(tag: Tag, line: u32) -> Result<Outcome, InfoFault>
         return refused(line, InfoFaultKind::OutOfRange);
     }
     Ok(Outcome {
-        place: Place::Closed,
+        place: Stage::Closed,
         closed: Some(tag),
     })
 }
@@ -118,7 +118,7 @@ fn valued(tag: Tag, attribute: TagAttribute, token: Token<'_>) -> Result<Outcome
     match token.kind {
         TokenKind::Number(number) => {
             if is_value(attribute, number) {
-                return at(Place::Assigned(tag.with_value(attribute, number as u16)));
+                return at(Stage::Assigned(tag.with_value(attribute, number as u16)));
             }
             refused(token.line, InfoFaultKind::OutOfRange)
         }
@@ -130,33 +130,33 @@ fn assigned(tag: Tag, token: Token<'_>) -> Result<Outcome, InfoFault>
     ensures { result ≡ at_assigned tag (kind_seen token.entry.kind) token.entry.line }
 {
     match token.kind {
-        TokenKind::Semicolon => at(Place::Inside(tag)),
+        TokenKind::Semicolon => at(Stage::Inside(tag)),
         _ => refused(token.line, InfoFaultKind::Expected),
     }
 }
 
 /// Where a token leads.
 #[tactic(auto, unfolding(crate::specs::Tags::tag_step))]
-pub(crate) fn step(place: Place, token: Token<'_>) -> Result<Outcome, InfoFault>
+pub(crate) fn step(place: Stage, token: Token<'_>) -> Result<Outcome, InfoFault>
     ensures { result ≡ tag_step place (seen token.entry) }
 {
     match place {
-        Place::Outside => outside(token),
-        Place::Closed => closed(token),
-        Place::Opening(kind) => opening(kind, token),
-        Place::Inside(tag) => inside(tag, token),
-        Place::Valued(tag, attribute) => valued(tag, attribute, token),
-        Place::Assigned(tag) => assigned(tag, token),
+        Stage::Outside => outside(token),
+        Stage::Closed => closed(token),
+        Stage::Opening(kind) => opening(kind, token),
+        Stage::Inside(tag) => inside(tag, token),
+        Stage::Valued(tag, attribute) => valued(tag, attribute, token),
+        Stage::Assigned(tag) => assigned(tag, token),
     }
 }
 
 /// Whether the end may stand here.
 #[tactic(auto, unfolding(crate::specs::Tags::tag_end))]
-pub(crate) fn end(place: Place, line: u32) -> Result<bool, InfoFault>
+pub(crate) fn end(place: Stage, line: u32) -> Result<bool, InfoFault>
     ensures { result ≡ tag_end place line }
 {
     match place {
-        Place::Outside | Place::Closed => Ok(true),
+        Stage::Outside | Stage::Closed => Ok(true),
         _ => Err(InfoFault {
             line,
             kind: InfoFaultKind::Expected,
@@ -192,7 +192,7 @@ fn done(end: Result<bool, InfoFault>) -> Result<Turn, InfoFault>
 }
 
 /// What the reader does with what it has read.
-pub(crate) fn turn_of(place: Place, read: Result<Next<'_>, InfoFault>) -> Result<Turn, InfoFault>
+pub(crate) fn turn_of(place: Stage, read: Result<Next<'_>, InfoFault>) -> Result<Turn, InfoFault>
     ensures { result ≡ turn_of place read.entry }
 {
     match read {

@@ -6,7 +6,7 @@ ghost use Rattle.info65.specs.Words.{Adds, Gives, Turns, tags_in, tags_of};
 
 use crate::fault::InfoFault;
 use crate::syntax::lexer::Lexer;
-use crate::tags::place::{Place, Turn, turn_of};
+use crate::tags::place::{Stage, Turn, turn_of};
 use crate::tags::tag::Tag;
 use crate::tags::tagged_text::tagged_text;
 use std::alloc::{AllocError, Allocator};
@@ -23,7 +23,7 @@ fn put<A: Allocator>(found: &mut Vec<Tag, A>, tag: Option<Tag>) -> Result<(), Al
 
 /// What the reader does next.
 #[tactic(auto, using(crate::proofs::TagLemmas::turns))]
-fn turn(lexer: &mut Lexer<'_>, place: Place) -> Result<Turn, InfoFault>
+fn turn(lexer: &mut Lexer<'_>, place: Stage) -> Result<Turn, InfoFault>
     ensures { Turns place lexer.old result lexer.new }
 {
     turn_of(place, lexer.next())
@@ -35,7 +35,7 @@ fn tags_in<A: Allocator>(alloc: A, tokens: Lexer<'_>) -> Result<Vec<Tag, A>, Inf
 {
     let mut found = Vec::new(alloc);
     let mut lexer = tokens;
-    let mut place = Place::Outside;
+    let mut place = Stage::Outside;
     'tokens: loop {
         match turn(&mut lexer, place) {
             Ok(Turn::Step(outcome)) => {

@@ -9,7 +9,7 @@ use crate::rules::obstacles::{Stops, worst_of};
 use crate::rules::readers::{Table, tables_of};
 use crate::rules::search::{Least, Search};
 use crate::rules::step::Steps;
-use crate::rules::words::Words;
+use crate::rules::words::DataWords;
 use map65::ADDRESSES;
 use std::alloc::{AllocError, Global};
 use std::mem;
@@ -232,7 +232,7 @@ pub fn follow(
         search.join(info.given(k).address, Least::Count(LEAST))?;
     }
     grow(alloc, &mut search)?;
-    let words = Words::of(alloc, &search)?;
+    let words = DataWords::of(alloc, &search)?;
     for _scan in 0..SCANS {
         join_tables(alloc, &mut search)?;
         words.join_rows(alloc, &mut search)?;

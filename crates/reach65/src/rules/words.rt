@@ -14,7 +14,7 @@ pub const ROW: usize = 3;
 
 /// Marks of what the ranges of the information file have, and of where code may begin.
 #[derive(Drop)]
-pub struct Words<'i> {
+pub struct DataWords<'i> {
     image: &'i Image,
     given: Marks,
     hopeful: Marks,
@@ -74,10 +74,13 @@ fn begins_code(
     search.would_join(address, Least::Count(IN_TABLE))
 }
 
-impl<'i> Words<'i> {
+impl<'i> DataWords<'i> {
     /// Looks at an image of which these instructions are reached. What leads to the end of a routine is hopeful, as far as that is known
     /// from the instructions after it: few bytes of data do. That saves trials, and no more.
-    pub fn of<'m: 'i>(alloc: Global, search: &Search<'_, '_, 'm>) -> Result<Words<'i>, AllocError> {
+    pub fn of<'m: 'i>(
+        alloc: Global,
+        search: &Search<'_, '_, 'm>,
+    ) -> Result<DataWords<'i>, AllocError> {
         let steps = search.steps;
         let reached = &search.marks;
         let image = steps.image();
@@ -103,7 +106,7 @@ impl<'i> Words<'i> {
                 worth.push(at)?;
             }
         }
-        Ok(Words {
+        Ok(DataWords {
             image,
             given,
             hopeful,

@@ -5,7 +5,7 @@ ghost use Rattle.stmt65.specs.Words.{out_of_memory};
 
 use crate::assembling::fault::{AsmFault, AsmFaultKind};
 use crate::assembling::layout::Layout;
-use crate::assembling::symbols::Names;
+use crate::assembling::symbols::KnownNames;
 use crate::assembling::values::word_in;
 use crate::reading::numeral::Numeral;
 use crate::source_line::{Datum, Form, Minus, Notation, Operation, SourceLine, Value};
@@ -78,7 +78,7 @@ fn value_at<'a, B: Allocator>(operation: &Operation<'a, B>, place: usize) -> Opt
 
 /// The first name of an expression that has no definition.
 fn unknown_in<'a, A: Allocator + Clone>(
-    names: &Names<'_, '_, A>,
+    names: &KnownNames<'_, '_, A>,
     value: Value<'a>,
 ) -> Option<About<'a>> {
     match value {
@@ -94,7 +94,7 @@ fn unknown_in<'a, A: Allocator + Clone>(
 
 /// How far a difference of two addresses is below 0.
 fn below_zero<'a, A: Allocator + Clone>(
-    names: &Names<'_, '_, A>,
+    names: &KnownNames<'_, '_, A>,
     value: Value<'_>,
 ) -> Option<About<'a>> {
     let Value::Difference(name, other) = value else {
@@ -122,7 +122,7 @@ fn target_of<'a, B: Allocator>(operation: &Operation<'a, B>) -> Option<Value<'a>
 
 /// How far it is from the address after a branch to its target, if that is too far.
 fn too_far<'a, A: Allocator + Clone, B: Allocator>(
-    names: &Names<'_, '_, A>,
+    names: &KnownNames<'_, '_, A>,
     next: u64,
     operation: &Operation<'_, B>,
 ) -> Option<About<'a>> {
@@ -137,7 +137,7 @@ fn too_far<'a, A: Allocator + Clone, B: Allocator>(
 /// What the first expression that a fault of this kind is about says of it.
 fn of_values<'a, A: Allocator + Clone, B: Allocator>(
     kind: AsmFaultKind,
-    names: &Names<'_, '_, A>,
+    names: &KnownNames<'_, '_, A>,
     operation: &Operation<'a, B>,
 ) -> Option<About<'a>> {
     for place in 0..usize::MAX {
@@ -168,7 +168,7 @@ fn past_start<'a, L: Allocator + Clone, B: Allocator>(
 
 fn of_operation<'a, L: Allocator + Clone, A: Allocator + Clone, B: Allocator>(
     kind: AsmFaultKind,
-    names: &Names<'_, '_, A>,
+    names: &KnownNames<'_, '_, A>,
     layout: &Layout<'_, L>,
     next: u64,
     operation: &Operation<'a, B>,
@@ -188,7 +188,7 @@ fn of_operation<'a, L: Allocator + Clone, A: Allocator + Clone, B: Allocator>(
 /// What a fault of a line is about, by names among which are all of the line that have a definition, and the address after the line.
 pub fn explain<'a, L: Allocator + Clone, A: Allocator + Clone, B: Allocator>(
     kind: Option<AsmFaultKind>,
-    names: &Names<'_, '_, A>,
+    names: &KnownNames<'_, '_, A>,
     layout: &Layout<'_, L>,
     next: u64,
     source: &SourceLine<'a, B>,

@@ -5,7 +5,7 @@ ghost use Rattle.stmt65.specs.Words.{Definition, IsCoding, IsFirstOf, IsFirstWay
 ghost use Rattle.stmt65.specs.Code.SourceLineViews.{form_of, operation_of};
 
 use crate::assembling::state::State;
-use crate::assembling::symbols::Names;
+use crate::assembling::symbols::KnownNames;
 use crate::assembling::values::has_zero_page_size;
 use crate::directive::Directive;
 use crate::reading::numeral::Numeral;
@@ -77,7 +77,7 @@ pub enum Coded<'s, 'a> {
 struct Coder<'c, 'n, 't, A: Allocator + Clone> {
     opcodes: &'c EncodeTable,
     mnemonic: Mnemonic,
-    above: &'c Names<'n, 't, A>,
+    above: &'c KnownNames<'n, 't, A>,
 }
 
 /// The modes of a notation, each with the kind of its operand, in the order in which they are tried.
@@ -219,7 +219,7 @@ fn gap<'s, 'a, L: Allocator + Clone>(state: &State<'_, '_, L>, name: &[u8]) -> C
 #[tactic(auto, unfolding(crate::specs::Coding::coding))]
 pub fn coding<'s, 'a, L: Allocator + Clone, A: Allocator + Clone, B: Allocator>(
     state: &State<'_, '_, L>,
-    above: &Names<'_, '_, A>,
+    above: &KnownNames<'_, '_, A>,
     operation: &'s Operation<'a, B>,
 ) -> Option<Coded<'s, 'a>>
     ensures { IsCoding result (state_of state.now above.now) (operation_of operation.now) }

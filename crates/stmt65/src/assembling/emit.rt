@@ -7,7 +7,7 @@ ghost use Rattle.stmt65.specs.Code.CodingViews.{instruction_of};
 use crate::assembling::coding::{Coded, Fragment, Instruction, Operand};
 use crate::assembling::entries::size;
 use crate::assembling::fragment_bytes::{is_fragment_known, put_fragment};
-use crate::assembling::symbols::Names;
+use crate::assembling::symbols::KnownNames;
 use crate::assembling::values::is_known;
 use crate::directive::Directive;
 use crate::source_line::{Datum, Value};
@@ -93,7 +93,7 @@ pub fn coded_len(coded: Coded) -> u64
 
 // ---- whether each name has a definition
 
-fn is_datum_known<A: Allocator + Clone>(names: &Names<'_, '_, A>, datum: &Datum) -> bool
+fn is_datum_known<A: Allocator + Clone>(names: &KnownNames<'_, '_, A>, datum: &Datum) -> bool
     ensures { result ≡ are_known names.now (datum_fragments (datum_of datum.now)) }
 {
     match datum {
@@ -104,7 +104,7 @@ fn is_datum_known<A: Allocator + Clone>(names: &Names<'_, '_, A>, datum: &Datum)
 }
 
 #[tactic(auto, using(crate::proofs::CodingLemmas::list_all_append))]
-fn are_data_known<A: Allocator + Clone>(names: &Names<'_, '_, A>, items: &[Datum]) -> bool
+fn are_data_known<A: Allocator + Clone>(names: &KnownNames<'_, '_, A>, items: &[Datum]) -> bool
     ensures { result ≡ are_known names.now (data_fragments items.now) }
 {
     'data: for datum in items {
@@ -116,7 +116,7 @@ fn are_data_known<A: Allocator + Clone>(names: &Names<'_, '_, A>, items: &[Datum
 }
 
 fn are_values_known<A: Allocator + Clone>(
-    names: &Names<'_, '_, A>,
+    names: &KnownNames<'_, '_, A>,
     directive: Directive,
     values: &[Value],
 ) -> bool
@@ -130,7 +130,7 @@ fn are_values_known<A: Allocator + Clone>(
     true
 }
 
-fn is_operand_known<A: Allocator + Clone>(names: &Names<'_, '_, A>, operand: Operand) -> bool
+fn is_operand_known<A: Allocator + Clone>(names: &KnownNames<'_, '_, A>, operand: Operand) -> bool
     ensures { result ≡ are_known names.now (operand_of operand.entry) }
 {
     match operand {
@@ -143,7 +143,7 @@ fn is_operand_known<A: Allocator + Clone>(names: &Names<'_, '_, A>, operand: Ope
 }
 
 /// Whether each name in the coding has a definition.
-pub fn are_known<A: Allocator + Clone>(names: &Names<'_, '_, A>, coded: Coded) -> bool
+pub fn are_known<A: Allocator + Clone>(names: &KnownNames<'_, '_, A>, coded: Coded) -> bool
     ensures { result ≡ are_known names.now (coded_of coded.entry) }
 {
     match coded {
@@ -160,7 +160,7 @@ pub fn are_known<A: Allocator + Clone>(names: &Names<'_, '_, A>, coded: Coded) -
 #[tactic(auto, using(crate::proofs::CodingLemmas::one_put, crate::proofs::CodingLemmas::string_put))]
 fn put_datum<A: Allocator + Clone, B: Allocator>(
     out: &mut Vec<u8, B>,
-    names: &Names<'_, '_, A>,
+    names: &KnownNames<'_, '_, A>,
     next: u64,
     datum: &Datum,
 ) -> Result<bool, AllocError>
@@ -183,7 +183,7 @@ fn put_datum<A: Allocator + Clone, B: Allocator>(
 #[tactic(auto, using(crate::proofs::CodingLemmas::list_all_append))]
 fn put_data<A: Allocator + Clone, B: Allocator>(
     out: &mut Vec<u8, B>,
-    names: &Names<'_, '_, A>,
+    names: &KnownNames<'_, '_, A>,
     next: u64,
     items: &[Datum],
 ) -> Result<bool, AllocError>
@@ -199,7 +199,7 @@ fn put_data<A: Allocator + Clone, B: Allocator>(
 
 fn put_values<A: Allocator + Clone, B: Allocator>(
     out: &mut Vec<u8, B>,
-    names: &Names<'_, '_, A>,
+    names: &KnownNames<'_, '_, A>,
     next: u64,
     directive: Directive,
     values: &[Value],
@@ -217,7 +217,7 @@ fn put_values<A: Allocator + Clone, B: Allocator>(
 #[tactic(auto, using(crate::proofs::CodingLemmas::one_put))]
 fn put_operand<A: Allocator + Clone, B: Allocator>(
     out: &mut Vec<u8, B>,
-    names: &Names<'_, '_, A>,
+    names: &KnownNames<'_, '_, A>,
     next: u64,
     operand: Operand,
 ) -> Result<bool, AllocError>
@@ -233,7 +233,7 @@ fn put_operand<A: Allocator + Clone, B: Allocator>(
 #[tactic(auto, using(crate::proofs::CodingLemmas::two_put, crate::proofs::CodingLemmas::first_missed_put))]
 fn put_two<A: Allocator + Clone, B: Allocator>(
     out: &mut Vec<u8, B>,
-    names: &Names<'_, '_, A>,
+    names: &KnownNames<'_, '_, A>,
     next: u64,
     first: Fragment,
     second: Fragment,
@@ -250,7 +250,7 @@ fn put_two<A: Allocator + Clone, B: Allocator>(
 #[tactic(auto, using(crate::proofs::CodingLemmas::opcode_put))]
 fn put_instruction<A: Allocator + Clone, B: Allocator>(
     out: &mut Vec<u8, B>,
-    names: &Names<'_, '_, A>,
+    names: &KnownNames<'_, '_, A>,
     next: u64,
     instruction: Instruction,
 ) -> Result<bool, AllocError>
@@ -263,7 +263,7 @@ fn put_instruction<A: Allocator + Clone, B: Allocator>(
 /// Adds the bytes of a coding if it has room for its values, and returns whether it has; `next` is the address after it.
 pub fn put_coded<A: Allocator + Clone, B: Allocator>(
     out: &mut Vec<u8, B>,
-    names: &Names<'_, '_, A>,
+    names: &KnownNames<'_, '_, A>,
     next: u64,
     coded: Coded,
 ) -> Result<bool, AllocError>

@@ -8,7 +8,7 @@ use crate::assembling::emit::put_coded;
 use crate::assembling::fault::{AsmFault, AsmFaultKind};
 use crate::assembling::line_faults::{are_names_known, fault_of};
 use crate::assembling::state::{Placed, State, place, select};
-use crate::assembling::symbols::{Names, Symbols};
+use crate::assembling::symbols::{KnownNames, Symbols};
 use crate::source_line::SourceLine;
 use isa65::Cpu;
 use std::alloc::{AllocError, Allocator};
@@ -54,7 +54,7 @@ pub fn idle<'a, 'b, A: Allocator>(alloc: &'b A) -> Result<Work<'a, &'b A>, Alloc
 
 fn put_placed<A: Allocator + Clone, B: Allocator>(
     out: &mut Vec<u8, B>,
-    all: &Names<'_, '_, A>,
+    all: &KnownNames<'_, '_, A>,
     placed: &Placed,
 ) -> Result<bool, AllocError>
     ensures { AddsAll result all.now placed.now.next (fragments_in placed.now.coded) out.old out.new }
@@ -76,9 +76,9 @@ pub fn code_placed<
     B: Allocator,
     C: Allocator,
 >(
-    all: &Names<'t, 'n, A>,
+    all: &KnownNames<'t, 'n, A>,
     state: &State<'_, '_, L>,
-    above: &Names<'t, 'n, A>,
+    above: &KnownNames<'t, 'n, A>,
     source: &SourceLine<'a, B>,
     placed: &Placed<'_, 'a>,
     out: &mut Vec<u8, C>,
@@ -97,7 +97,7 @@ pub fn code_early<'a, L: Allocator + Clone, A: Allocator + Clone, B: Allocator>(
     work: &mut Work<'a, A>,
     number: usize,
     state: &State<'_, '_, L>,
-    above: &Names<'_, 'a, A>,
+    above: &KnownNames<'_, 'a, A>,
     source: &SourceLine<'a, B>,
     placed: &Placed<'_, 'a>,
 ) -> Result<bool, AllocError>

@@ -7,7 +7,7 @@ ghost use Rattle.stmt65.specs.Words.{IsPlaced, State, definitions_in, fault_of, 
 use crate::assembling::emit::are_known;
 use crate::assembling::fault::AsmFaultKind;
 use crate::assembling::state::{Placed, cpu_set};
-use crate::assembling::symbols::{Definition, Names};
+use crate::assembling::symbols::{Definition, KnownNames};
 use crate::source_line::{Operation, SourceLine};
 use std::alloc::Allocator;
 
@@ -25,7 +25,7 @@ fn has_unknown_cpu<'a, B: Allocator>(source: &SourceLine<'a, B>) -> bool
 }
 
 /// Whether each name in the coding has a definition.
-pub fn are_names_known<A: Allocator + Clone>(all: &Names<'_, '_, A>, placed: &Placed) -> bool
+pub fn are_names_known<A: Allocator + Clone>(all: &KnownNames<'_, '_, A>, placed: &Placed) -> bool
     ensures { result ≡ are_known all.now (fragments_in placed.now.coded) }
 {
     match placed.coded {
@@ -36,7 +36,11 @@ pub fn are_names_known<A: Allocator + Clone>(all: &Names<'_, '_, A>, placed: &Pl
 
 /// Whether each name in the coding has a definition. It has if the values have room, and then none is looked up again.
 #[tactic(auto, using(crate::proofs::CodingLemmas::known_where_fit))]
-fn is_known<A: Allocator + Clone>(all: &Names<'_, '_, A>, placed: &Placed, has_room: bool) -> bool
+fn is_known<A: Allocator + Clone>(
+    all: &KnownNames<'_, '_, A>,
+    placed: &Placed,
+    has_room: bool,
+) -> bool
     requires { has_room ≡ have_room all.now placed.now }
     ensures { result ≡ are_known all.now (fragments_in placed.now.coded) }
 {
@@ -46,7 +50,10 @@ fn is_known<A: Allocator + Clone>(all: &Names<'_, '_, A>, placed: &Placed, has_r
     are_names_known(all, placed)
 }
 
-fn is_above<A: Allocator + Clone>(above: &Names<'_, '_, A>, definition: Option<Definition>) -> bool
+fn is_above<A: Allocator + Clone>(
+    above: &KnownNames<'_, '_, A>,
+    definition: Option<Definition>,
+) -> bool
     ensures { result ≡ list_any (λ d. is_some (find_name d.name above.now)) (definitions_in definition.entry) }
 {
     match definition {
@@ -85,8 +92,8 @@ fn first_of(tests: &[(AsmFaultKind, bool)]) -> Option<AsmFaultKind>
 /// The lowest fault of a line in its state; `all` are the definitions of the whole text, `above` those above the line.
 #[tactic(auto, using(crate::proofs::HeldLemmas::fault_is))]
 pub fn fault_of<'a, A: Allocator + Clone, B: Allocator>(
-    all: &Names<'_, '_, A>,
-    above: &Names<'_, '_, A>,
+    all: &KnownNames<'_, '_, A>,
+    above: &KnownNames<'_, '_, A>,
     source: &SourceLine<'a, B>,
     placed: &Placed<'_, 'a>,
     has_room: bool,

@@ -6,7 +6,7 @@ ghost use Rattle.stmt65.specs.Words.{Definition as ADefinition, IsCoding, IsPlac
 use crate::assembling::coding::{Coded, coding};
 use crate::assembling::emit::coded_len;
 use crate::assembling::layout::Layout;
-use crate::assembling::symbols::{Definition, Names};
+use crate::assembling::symbols::{Definition, KnownNames};
 use crate::source_line::{Operation, SourceLine};
 use isa65::{Cpu, EncodeTable};
 use std::alloc::Allocator;
@@ -46,7 +46,7 @@ pub fn first_state<'l, 'n, L: Allocator>(layout: &'l Layout<'n, L>, start: u16) 
 #[tactic(auto, unfolding(crate::specs::Coding::coding))]
 fn coding_in<'s, 'a, L: Allocator + Clone, A: Allocator + Clone, B: Allocator>(
     state: &State<'_, '_, L>,
-    above: &Names<'_, '_, A>,
+    above: &KnownNames<'_, '_, A>,
     source: &'s SourceLine<'a, B>,
 ) -> Option<Coded<'s, 'a>>
     ensures { IsCoding result (state_of state.now above.now) (line_operation source.now) }
@@ -122,7 +122,7 @@ fn is_past_start<'a, L: Allocator + Clone, B: Allocator>(
 /// The line in its state.
 pub fn place<'s, 'a, L: Allocator + Clone, A: Allocator + Clone, B: Allocator>(
     state: &State<'_, '_, L>,
-    above: &Names<'_, '_, A>,
+    above: &KnownNames<'_, '_, A>,
     source: &'s SourceLine<'a, B>,
 ) -> Placed<'s, 'a>
     ensures { IsPlaced result (state_of state.now above.now) (source_of source.now) }

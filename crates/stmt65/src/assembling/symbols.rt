@@ -147,7 +147,7 @@ impl<'a, A: Allocator + Clone> Symbols<'a, A> {
 
     /// All names.
     #[tactic(auto, using(crate::proofs::SymbolLaws::all_names))]
-    pub fn all(&self) -> Names<'_, 'a, A>
+    pub fn all(&self) -> KnownNames<'_, 'a, A>
         ensures names { result ≡ self.now }
         ensures small { length self.now < 9223372036854775808 }
     {
@@ -155,10 +155,10 @@ impl<'a, A: Allocator + Clone> Symbols<'a, A> {
     }
 
     /// The names of this many definitions.
-    pub fn first(&self, count: usize) -> Names<'_, 'a, A>
+    pub fn first(&self, count: usize) -> KnownNames<'_, 'a, A>
         ensures { result ≡ take count self.now }
     {
-        Names { table: self, count }
+        KnownNames { table: self, count }
     }
 
     /// The definition at a place.
@@ -197,12 +197,12 @@ impl<'a, A: Allocator + Clone> Symbols<'a, A> {
 
 /// The names of the first definitions of a table: those above a line, or all.
 #[derive(Drop)]
-pub struct Names<'t, 'a, A: Allocator> {
+pub struct KnownNames<'t, 'a, A: Allocator> {
     table: &'t Symbols<'a, A>,
     count: usize,
 }
 
-impl<'t, 'a, A: Allocator> Model for Names<'t, 'a, A> {
+impl<'t, 'a, A: Allocator> Model for KnownNames<'t, 'a, A> {
     ghost use Rattle.std.specs.Prelude.{List, take};
     ghost use Rattle.stmt65.specs.Symbols.{Definition};
 
@@ -211,7 +211,7 @@ impl<'t, 'a, A: Allocator> Model for Names<'t, 'a, A> {
     ghost view = { λ n. take n.count n.table.now };
 }
 
-impl<'t, 'a, A: Allocator + Clone> Names<'t, 'a, A> {
+impl<'t, 'a, A: Allocator + Clone> KnownNames<'t, 'a, A> {
     /// The first definition of the name.
     #[tactic(auto, using(crate::proofs::SymbolLaws::finds))]
     pub fn find(&self, name: &[u8]) -> Option<Definition<'a>>

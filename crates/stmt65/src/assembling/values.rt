@@ -4,7 +4,7 @@ ghost use Rattle.std.specs.Prelude.{◌≡◌, ◌+◌, Some};
 ghost use Rattle.stmt65.specs.Words.{address_of, apart, below, definition_of, entry_in, entry_limit, has_zero_page_size, held, held_value, is_known, is_small, lowered, numeral_of, value_in, value_of, word_in};
 
 use crate::assembling::entries::limit;
-use crate::assembling::symbols::{Definition, Names};
+use crate::assembling::symbols::{Definition, KnownNames};
 use crate::directive::Directive;
 use crate::reading::numeral::Numeral;
 use crate::source_line::{Minus, Value};
@@ -13,7 +13,7 @@ use std::alloc::Allocator;
 /// The value, or `None` if it is below 0 or the name is undefined. A number of the expression that
 /// is greater than 2^64 - 1 counts as that.
 #[tactic(auto, unfolding(crate::specs::Symbols::value_in))]
-fn value_in<A: Allocator + Clone>(names: &Names<'_, '_, A>, value: &Value) -> Option<u128>
+fn value_in<A: Allocator + Clone>(names: &KnownNames<'_, '_, A>, value: &Value) -> Option<u128>
     ensures { result ≡ value_in names.now (held_value (value_of value.now)) }
 {
     match *value {
@@ -72,7 +72,7 @@ fn lowered(minus: Minus, n: u128) -> Option<u128>
 
 /// Whether each name in the expression has a definition.
 #[tactic(auto, unfolding(crate::specs::Symbols::is_known))]
-pub fn is_known<A: Allocator + Clone>(names: &Names<'_, '_, A>, value: &Value) -> bool
+pub fn is_known<A: Allocator + Clone>(names: &KnownNames<'_, '_, A>, value: &Value) -> bool
     ensures { result ≡ is_known names.now (value_of value.now) }
 {
     match *value {
@@ -110,7 +110,7 @@ fn in_an_entry(directive: Directive, value: Option<u128>) -> Option<u32>
 
 /// The value if it is from 0 to $FFFF.
 #[tactic(auto, using(crate::proofs::HeldLemmas::held_values))]
-pub fn word_in<A: Allocator + Clone>(names: &Names<'_, '_, A>, value: &Value) -> Option<u16>
+pub fn word_in<A: Allocator + Clone>(names: &KnownNames<'_, '_, A>, value: &Value) -> Option<u16>
     ensures { result ≡ word_in names.now (value_of value.now) }
 {
     in_a_word(value_in(names, value))
@@ -119,7 +119,7 @@ pub fn word_in<A: Allocator + Clone>(names: &Names<'_, '_, A>, value: &Value) ->
 /// The value if an entry of the directive has room for it.
 #[tactic(auto, using(crate::proofs::HeldLemmas::held_values))]
 pub fn entry_in<A: Allocator + Clone>(
-    names: &Names<'_, '_, A>,
+    names: &KnownNames<'_, '_, A>,
     directive: Directive,
     value: &Value,
 ) -> Option<u32>
@@ -130,7 +130,7 @@ pub fn entry_in<A: Allocator + Clone>(
 
 /// Whether the expression has zero-page size, with its number held in 64 bits.
 #[tactic(auto, unfolding(crate::specs::Symbols::has_zero_page_size, crate::specs::Symbols::value_in))]
-fn held_zero_page_size<A: Allocator + Clone>(above: &Names<'_, '_, A>, value: &Value) -> bool
+fn held_zero_page_size<A: Allocator + Clone>(above: &KnownNames<'_, '_, A>, value: &Value) -> bool
     ensures { result ≡ has_zero_page_size above.now (held_value (value_of value.now)) }
 {
     match *value {
@@ -155,7 +155,10 @@ fn held_zero_page_size<A: Allocator + Clone>(above: &Names<'_, '_, A>, value: &V
 
 /// Whether the value is below $100, and a name in it is defined as `name := number`.
 #[tactic(auto, using(crate::proofs::HeldLemmas::held_values))]
-pub fn has_zero_page_size<A: Allocator + Clone>(above: &Names<'_, '_, A>, value: &Value) -> bool
+pub fn has_zero_page_size<A: Allocator + Clone>(
+    above: &KnownNames<'_, '_, A>,
+    value: &Value,
+) -> bool
     ensures { result ≡ has_zero_page_size above.now (value_of value.now) }
 {
     held_zero_page_size(above, value)

@@ -23,7 +23,7 @@ pub struct Span {
 
 /// A part of a line, and where it stands.
 #[derive(Clone, Copy)]
-pub struct Place<'a> {
+pub struct PlacedPart<'a> {
     pub part: Part<'a>,
     pub span: Span,
 }
@@ -40,8 +40,8 @@ pub struct Operand<'a> {
 /// What stands before the operands of a line: the name before `:`, `:=` or `=`, and the mnemonic or directive.
 #[derive(Clone, Copy)]
 pub struct Head<'a> {
-    pub name: Option<Place<'a>>,
-    pub operation: Option<Place<'a>>,
+    pub name: Option<PlacedPart<'a>>,
+    pub operation: Option<PlacedPart<'a>>,
 }
 
 /// Goes over the parts of a line.
@@ -146,7 +146,7 @@ impl<'a> Places<'a> {
 
     /// The next part, and where it stands. At the end the answer is `None`, again and again.
     #[tactic(auto, using(crate::proofs::PlaceLemmas::places))]
-    pub fn next(&mut self) -> Option<Place<'a>>
+    pub fn next(&mut self) -> Option<PlacedPart<'a>>
         /// Goes over the parts of a line as the reading has them, in order, each once. The bytes at the place of
         /// each part are those that it is written with, and its place is after those of the parts before.
         ensures over { GoesOver self.old self.new }
@@ -159,14 +159,14 @@ impl<'a> Places<'a> {
         let (part, len) = part_here(self.language, &self.line[from..])?;
         let to = from + len;
         self.at = to;
-        Some(Place {
+        Some(PlacedPart {
             part,
             span: Span { from, to },
         })
     }
 
     /// The next part and where it stands, if it is a word.
-    fn word(&mut self) -> Option<Place<'a>>
+    fn word(&mut self) -> Option<PlacedPart<'a>>
         ensures over { GoesOver self.old self.new }
         ensures text { IfSome result (StandsIn self.old.line) }
     {
@@ -188,7 +188,7 @@ impl<'a> Places<'a> {
         let mut ahead = self.copied();
         match ahead.next() {
             Some(
-                Place {
+                PlacedPart {
                     part: Part::Mark(b':'),
                     ..
                 },
@@ -201,7 +201,7 @@ impl<'a> Places<'a> {
                 }
             }
             Some(
-                Place {
+                PlacedPart {
                     part: Part::Define | Part::Mark(b'='),
                     ..
                 },
@@ -227,13 +227,13 @@ impl<'a> Places<'a> {
             match (ahead.next(), ahead.next()) {
                 (
                     Some(
-                        Place {
+                        PlacedPart {
                             part: Part::Mark(b'+' | b'-'),
                             ..
                         },
                     ),
                     Some(
-                        Place {
+                        PlacedPart {
                             part: Part::Number(_) | Part::Word(_),
                             span,
                         },
@@ -257,7 +257,7 @@ impl<'a> Places<'a> {
         let (language, line) = (self.language, self.line);
         let mut half = None;
         'parts: for _ in 0..=line.len() {
-            let Place { part, span } = self.next()?;
+            let PlacedPart { part, span } = self.next()?;
             match part {
                 Part::Text(text) => {
                     let datum = Datum::String(text);

@@ -2,14 +2,18 @@
 
 use crate::tests::asserts::{assert_equal_at, assert_that_at};
 use std::alloc::{AllocError, Global};
-use stmt65::{Datum, Half, Language, Place, Places, Span};
+use stmt65::{Datum, Half, Language, PlacedPart, Places, Span};
 
 fn put(out: &mut String, before: &str, line: &str, span: Span) -> Result<(), AllocError> {
     let there = line.get(span.from..span.to).unwrap_or("?");
     write!(out, "{before}[{there}]")
 }
 
-fn put_place(out: &mut String, line: &str, place: Option<Place<'_>>) -> Result<(), AllocError> {
+fn put_place(
+    out: &mut String,
+    line: &str,
+    place: Option<PlacedPart<'_>>,
+) -> Result<(), AllocError> {
     match place {
         Some(place) => put(out, "", line, place.span),
         None => write!(out, "-"),

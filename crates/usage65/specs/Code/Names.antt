@@ -4,8 +4,8 @@ use Rattle.std.specs.Borrow.{Bor}
 use Rattle.std.specs.String.{string_bytes}
 use Rattle.clap.specs.Words.{Text}
 use Rattle.info65.specs.Words.{name_seen}
-use Rattle.usage65.specs.Requests.{AskRun, AskText, Asked, NamesView}
-use Rattle.usage65.specs.declared.names.Names.{Names}
+use Rattle.usage65.specs.Requests.{AskRun, AskText, Asked, FileNamesView}
+use Rattle.usage65.specs.declared.names.FileNames.{FileNames}
 use Rattle.usage65.specs.declared.request.Request.{Request}
 use Rattle.usage65.specs.declared.request.Request.TheVariants.{Run, Text as TextOf}
 
@@ -16,7 +16,7 @@ text_seen text = option_map (λ s. s.now) text
 abbrev pub texts_seen : {Z : Type 0} → List (String Z) → List Text
 texts_seen texts = map string_bytes texts
 
-abbrev pub names_seen : Names → NamesView
+abbrev pub names_seen : FileNames → FileNamesView
 names_seen n = record { listing = string_bytes n.listing; info = name_seen n.info; output = name_seen n.output }
 
 -- a request as what it asks for, of which a run is seen by `seen`

@@ -1,14 +1,14 @@
 use Rattle.std.proofs.Common.{◌≡◌, ◌∙◌, ◌+◌, ℕ, List, Option, ap, refl, sym}
 use Rattle.std.specs.Option.{option_map}
 use Rattle.isa65.specs.Words.{len_of, row_of}
-use Rattle.da65.specs.Words.{Mode, Names, OperandKind, Pattern, operand_expr, operands_of}
+use Rattle.da65.specs.Words.{Mode, AddressNames, OperandKind, Pattern, operand_expr, operands_of}
 use Rattle.isa65.specs.declared.row.Row.TheVariants as row
 use Rattle.stmt65.specs.Words.{ExprView, expr_seen}
 use Rattle.stmt65.specs.Views as view
 use Rattle.da65.proofs.NextLine.ListedGroupLemmas.{no-operands}
 use Rattle.da65.proofs.listing.group_lines.put_with_operand.Goals as goal
 
-one-operand : (n : Names) (mode : Mode) (pattern : Pattern) (kind : OperandKind) (a : ℕ) (bytes : List ℕ) (o : Option ExprView) → row_of mode ≡ row.One pattern kind
+one-operand : (n : AddressNames) (mode : Mode) (pattern : Pattern) (kind : OperandKind) (a : ℕ) (bytes : List ℕ) (o : Option ExprView) → row_of mode ≡ row.One pattern kind
     → o ≡ operand_expr n kind (a + len_of mode) 1 bytes → option_map (λ e. view.one e) o ≡ operands_of n mode a bytes
 unfolding operands_of
 one-operand n mode pattern kind a bytes o one is = rw is (rw one refl)

@@ -1,6 +1,6 @@
 use Rattle.std.proofs.Common.{◌≡◌, [], length}
 use Rattle.info65.specs.Words.{tags_from}
-use Rattle.info65.specs.declared.tags.place.Place.TheVariants as place
+use Rattle.info65.specs.declared.tags.place.Stage.TheVariants as place
 use Rattle.info65.proofs.tags.reader.tags_in.Given as goal
 
 abbrev pub invariant-tokens : goal.invariant-tokens
