@@ -6,7 +6,7 @@ import re
 
 from source import ALL_CRATES, sources
 
-TESTS = ("conformance", "unit_tests")
+TESTS = ("conformance",)
 ANSWERS = ("AllocError", "AllocFailed", "OutOfMemory", "out_of_memory")
 # Those that stand after `::` alone.
 VARIANTS = ("Memory", "MEMORY")

@@ -1,4 +1,4 @@
-//! Tests that cross crates: whole runs over memory, over devices that fail, and over memory that is
+//! Tests of what the crates below the programs make public, and of whole runs over memory, over devices that fail, and over memory that is
 //! refused.
 #![tactic(auto)]
 

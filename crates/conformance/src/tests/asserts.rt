@@ -67,3 +67,27 @@ pub fn assert_that_at<R: Display>(rt: &impl Abort, is_so: bool, row: &R)
         rt.panic(format_args!("it is not so at {row}"))
     }
 }
+
+#[test]
+#[should_panic(expected = "1 is not 2")]
+fn unequal(rt: HostRuntime) {
+    assert_equal(&rt, &1, &2);
+}
+
+#[test]
+#[should_panic(expected = "1 is not 2 at row")]
+fn unequal_at(rt: HostRuntime) {
+    assert_equal_at(&rt, &1, &2, &"row");
+}
+
+#[test]
+#[should_panic(expected = "it is not so")]
+fn untrue(rt: HostRuntime) {
+    assert_that(&rt, 1 == 2);
+}
+
+#[test]
+#[should_panic(expected = "it is not so at row")]
+fn untrue_at(rt: HostRuntime) {
+    assert_that_at(&rt, 1 == 2, &"row");
+}
