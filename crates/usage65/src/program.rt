@@ -79,7 +79,7 @@ impl<'a> Program<'a> {
         alloc: Global,
         matches: &ArgMatches,
     ) -> Result<Option<Vec<u8>>, AllocError>
-        /// Help comes before the version; or out of memory.
+        /// Returns the help text if that is asked for, else the version if that is, else nothing; or out of memory.
         ensures { IfOk result (λ text. option_map (λ t. t.items) text
             ≡ text_asked (program_of self.now) (rows_of (found_of matches.now))) }
     {
