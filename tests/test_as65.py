@@ -1,33 +1,18 @@
 """as65 on real files: what it writes, where, and with which status. Most rows are in tests/rows/as65.txt."""
 import os
 import pytest
-from conftest import FULL, command, in_pieces, holds, listed, read, rows, same, tables, write
+from conftest import command, in_pieces, holds, read, tables, write
 
-TEXTS = tables("as65").texts
-
-
-@pytest.fixture(autouse=True)
-def files(folder):
-    os.symlink("other.bin", "link.bin")
-    for name, text in (("three.s", TEXTS["THREE"]), ("three.bin", "\xa9\x01\x60"), ("other.bin", "\xa9\x02\x60"),
-                       ("here.s", TEXTS["HERE"]), ("empty", "")):
-        write(name, text)
+TEXTS, _ = tables(__name__)
 
 
-@rows("name shown", [
-    ("a listing with a name of two lines", "a\nb", "a\\nb"),
-    ("a listing with control bytes in its name", "a\x1b[2J\x7fb", "a?[2J?b"),
-    ("a listing with a control of 8 bits in its name, and a letter", "\xc3\x9c\xc2\x9bb", "\xc3\x9c\xc2?b"),
-])
 def test_shows_names(as65, name, shown):
     write(os.fsdecode(name.encode("latin-1")), TEXTS["THREE"])
     as65.refuses(["-S", "0xFFFE", name], f"{shown}:6: past the end of the address space: rts")
 
 
-@listed()
 def test_gives(as65, text, wanted, words, info):
-    """The text gives these bytes on the words, by default from $1000 on, and does not differ from them, unless the
-    information file asks for more."""
+    """The text gives these bytes, and does not differ from them, unless the information file asks for more."""
     write("a.info", info or TEXTS["PLACES"])
     words = [*(words or "-S 0x1000").split(), write("text.s", text)]
     as65(words, 0, bytes.fromhex(wanted))
@@ -35,8 +20,8 @@ def test_gives(as65, text, wanted, words, info):
         as65(["--compare", write("wanted.bin", bytes.fromhex(wanted)), *words])
 
 
-@listed()
 def test_runs(as65, given, words, status, out, err, after, stdin):
+    os.symlink("other.bin", "link.bin")
     as65.does(given, words, status, out, err, after, stdin)
 
 
@@ -51,26 +36,23 @@ def test_pipes(as65):
     assert len(pipe.read()) == 8191
 
 
-@listed()
-def test_refuses(as65, text, line, cause):
-    """The text is refused at this line, which is shown, and the output stays as it was."""
-    refuses(as65, text, line, f"{cause}: {text.splitlines()[line - 1].strip()}")
-
-
-@listed()
-def test_refuses_with_another_line(as65, text, line, cause):
-    """The same, where the line is not shown as it is."""
-    refuses(as65, text, line, cause)
-
-
 def refuses(as65, text, line, cause, words="-S 0x1000"):
+    """The text is refused at this line, and the output stays as it was."""
     write("text.s", text)
     write("out.bin", "old\n")
     as65.refuses(f"{words} -o out.bin text.s", f"text.s:{line}: {cause}")
     holds("out.bin", "old\n")
 
 
-@listed()
+def test_refuses(as65, text, line, cause):
+    refuses(as65, text, line, f"{cause}: {text.splitlines()[line - 1].strip()}")
+
+
+def test_refuses_with_another_line(as65, text, line, cause):
+    """The line is not shown as it is."""
+    refuses(as65, text, line, cause)
+
+
 def test_refuses_places(as65, text, line, cause):
     """The text is refused with the segments at their place, also beside an image."""
     write("a.info", TEXTS["PLACES"])
@@ -88,14 +70,12 @@ def test_the_names_of_ld65(as65):
     assert sorted(as65("-S 0x1000 --labels named.s", 0, None).out.splitlines()) == theirs
 
 
-@listed()
 def test_compares(as65, words, image, text, out, begin):
     write("image.bin", bytes.fromhex(image))
     said = f"as65: image.bin is taken to begin at ${begin}\n" if begin else ""
     as65([*words.split(), "--compare", "image.bin", write("text.s", text)], 1 if out else 0, out, said)
 
 
-@listed()
 def test_suggests_a_start(as65, text, labels, start):
     """The text is compared with three bytes that differ, without a start, and this is said of its labels."""
     said = f"as65: {labels} of the labels LXXXX would be at $XXXX with -S 0x{start}\n" if labels else ""
@@ -103,14 +83,9 @@ def test_suggests_a_start(as65, text, labels, start):
          "as65: other.bin is taken to begin at $FFFD\n" + said)
 
 
-@FULL
-@rows("image full status out err", [
-    ("no difference, and a full output", "three.bin", "stdout", 0),
-    ("a full standard error before differences", "other.bin", "stderr", 2),
-])
-def test_full(as65, image, full, status, out, err):
+def test_full(as65, image, full, status):
     with open("/dev/full", "wb") as file:
-        as65(f"--compare {image} three.s", status, out, err, **{full: file})
+        as65(f"--compare {image} three.s", status, **{full: file})
 
 
 @pytest.mark.parametrize("words, status", (("", 1), ("--compare other.bin", 2)))

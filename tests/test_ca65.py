@@ -1,38 +1,29 @@
-"""The programs beside those of cc65. Each information file of tests/peer goes through this da65 and through cc65's. The
-names of names/ have the values of cc65's include files. ca65 with ld65, and as65, assemble the listings of random
-images and of the examples to the image. Both assemblers give the same bytes for random texts, as people write them who
-edit a listing, or both refuse them.
+"""The programs beside those of cc65: what both da65 say of an information file, the values of the names of names/, and
+the bytes of listings and of random texts, as people write them who edit a listing, or that both assemblers refuse them.
 
-The same seed gives the same images and texts; --images, --texts and --seed say which. A failure shows a smaller case
-that fails too. Left out, since ca65 treats them in its own way: a segment named ZEROPAGE, a byte $FF in a comment, and
-what `excused` names."""
-import os, random, re, shutil, subprocess
+The same seed gives the same images and texts; --images, --texts and --seed say which. Left out, since ca65 treats them
+in its own way: a segment named ZEROPAGE, a byte $FF in a comment, and what EXCUSED names."""
+import itertools, os, random, re, shutil, subprocess
 import pytest
-from conftest import CPUS, IMAGES, INFORMATION, ROOT, Program, command, example, fails, read, write
+from conftest import CPUS, IMAGES, INFORMATION, ROOT, Program, command, fails, read, write
 
 pytestmark = pytest.mark.ca65
 PEER = os.environ.get("PEER", "/usr/bin/da65")
+IS_CC65S = shutil.which(PEER) and b"da65 V" in subprocess.run([PEER, "--version"], capture_output=True).stderr
 PAGE = (ROOT / "docs/DIFFERENCES.md").read_text()
+PEERS = [*sorted(path.stem for path in (ROOT / "tests/peer").glob("*.info")), "above_1_mib"]
 
 
-def shrunk(items, is_bad, most=300):
-    """A part of a list that is bad too: as long as it stays so, pieces are left out, first large and then small
-    ones."""
-    size = len(items) // 2
-    while size:
-        at = 0
-        while at < len(items) and most:
-            rest, most = items[:at] + items[at + size:], most - 1
+def shrunk(items, is_bad):
+    """A part of a list that is bad too: pieces are left out as long as it stays so, first large and then small ones."""
+    size, least = len(items) // 2, len(items) // 128
+    while size > least:
+        for at in reversed(range(0, len(items), size)):
+            rest = items[:at] + items[at + size:]
             if rest and is_bad(rest):
                 items = rest
-            else:
-                at += size
         size //= 2
     return items
-
-
-def is_cc65s():
-    return shutil.which(PEER) and b"da65 V" in subprocess.run([PEER, "--version"], capture_output=True).stderr
 
 
 def body(listing):
@@ -46,17 +37,11 @@ def body(listing):
     return lines
 
 
-@pytest.mark.skipif(not is_cc65s(), reason=f"{PEER} is not cc65's da65")
-@pytest.mark.parametrize("name", [*sorted(path.stem for path in (ROOT / "tests/peer").glob("*.info")), "above_1_mib"])
+@pytest.mark.skipif(not IS_CC65S, reason=f"{PEER} is not cc65's da65")
+@pytest.mark.parametrize("name", PEERS)
 def test_differences(da65, name):
     """What both say of a file is a row of docs/DIFFERENCES.md."""
-    for path in (ROOT / "tests/peer").iterdir():
-        shutil.copy(path, ".")
-    for file, text in (("image.bin", "\xa5\x10\xe8\xd0\xfb\x85\x11\xea"), ("jumps.bin", "\x4c\x04\x10\x60\x60"),
-                       ("stop.bin", "\xdb\xcb"),
-                       ("indirect.bin", "\xa5\x10\x6c\x10\x00"), ("ffff.bin", "\xff\xff\x60"),
-                       ("above_1_mib.info", f"# {0:01048600}\nLABEL {{ ADDR $1000; NAME \"start\"; }};\n")):
-        write(file, text)
+    shutil.copytree(ROOT / "tests/peer", ".", dirs_exist_ok=True)
     words = ["-i", name + ".info"] + ([] if b"INPUTNAME" in read(name + ".info") else ["-S", "0x1000", "image.bin"])
     here, there = (program.run(words) for program in (da65, Program(PEER)))
     said = f"`{here.err.decode().rstrip()}`" if here.status else "accepted"
@@ -66,8 +51,7 @@ def test_differences(da65, name):
 
 
 def test_the_page_has_no_other_row():
-    names = {path.stem for path in (ROOT / "tests/peer").glob("*.info")} | {"above_1_mib"}
-    assert sorted(re.findall(r"^\| `([a-z0-9_]+)` \|", PAGE, re.M)) == sorted(names)
+    assert sorted(re.findall(r"^\| `([a-z0-9_]+)` \|", PAGE, re.M)) == sorted(PEERS)
 
 
 # cc65 has other names for the NES, and none for the BBC Micro and the Atari 7800. Its PTRIG6 is PTRIG5, and it has the
@@ -87,32 +71,29 @@ def test_names_agree(name, count, others, includes):
         lines += [f".ifdef {word}", f'.assert {word} = {value}, warning, "{word}"',
                   "names_of_both .set names_of_both + 1", ".endif"]
     write("names.s", "\n".join([*lines, '.out .sprintf("%d", names_of_both)\n']))
-    run = subprocess.run(["ca65", "-o", "names.o", "-D", f"__{name.upper()}__", "names.s"], capture_output=True,
-                         check=True)
-    assert int(run.stdout) >= count
-    assert {line.rsplit(b": ", 1)[1].decode() for line in run.stderr.splitlines()} <= set(others.split())
+    run = Program("ca65")(f"-o names.o -D __{name.upper()}__ names.s", 0, None, None)
+    assert int(run.out) >= count
+    assert {line.rsplit(b": ", 1)[1].decode() for line in run.err.splitlines()} <= set(others.split())
 
 
-def segments(text, renamed=False):
-    """The segments of a text, in the order in which they are entered with a statement; a segment that is entered again
-    comes again. Or the text in which each segment line leads to a segment of its own, since ld65 puts the stretches of
-    one segment together."""
-    current, is_entered, found, lines, count = "CODE", False, [], [], 0
-    for line in text.removesuffix("\n").split("\n"):
-        if entered := re.match(r' *\.(?:code$|segment +"?(\w+))', line):
-            count += 1
-            current, is_entered = f"stretch_{count}" if renamed else entered[1] or "CODE", False
-            line = f' .segment "{current}"'
-        elif not is_entered and not re.match(r"\s*(;|$|\.setcpu|\w+\s*:?=)", line):
-            found.append(current)
-            is_entered = True
-        lines.append(line)
-    return "\n".join(lines) + "\n" if renamed else found
+SEGMENT = re.compile(r'^ *\.(?:code$|segment +"?(\w+).*)', re.M)
+
+
+def segments(text):
+    """The segments of a text that have a statement, each as often as it is entered."""
+    first, *rest = SEGMENT.split(text)
+    parts = [("CODE", first), *zip(rest[::2], rest[1::2])]
+    return [name or "CODE" for name, part in parts if re.search(r"(?m)^(?!\s*(;|$|\.setcpu|\w+\s*:?=)).", part)]
+
+
+def in_stretches(text):
+    """The text in which each segment line leads to a segment of its own, since ld65 puts those of one name together."""
+    numbers = itertools.count(1)
+    return SEGMENT.sub(lambda _: f' .segment "stretch_{next(numbers)}"', text)
 
 
 def linked(text, start, size):
-    """The bytes of a text by ca65 and ld65, where one memory area takes its segments in their order; or what they
-    say."""
+    """The bytes of a text by ca65 and ld65, its segments in their order; or what they say."""
     write("linked.s", text.encode("latin-1"))
     areas = "".join(f"    {name}: load = MAIN, type = ro;\n" for name in segments(text))
     write("linked.cfg", f"MEMORY {{ MAIN: start = {start}, size = {size}, file = %O; }}\nSEGMENTS {{\n{areas}}}\n")
@@ -135,22 +116,12 @@ def fault(da65, as65, start, image, words):
     ours = as65.run(f"-S {start} --compare {image} listing.s")
     if ours.status:
         return f"as65: {(ours.out + ours.err).decode('latin-1')[:500]}"
-    theirs = linked(segments(text, True) if is_again else text, start, len(read(image)))
+    theirs = linked(in_stretches(text) if is_again else text, start, len(read(image)))
     return theirs if isinstance(theirs, str) else None if theirs == read(image) else "ld65: other bytes"
 
 
 TYPES = "CODE BYTETABLE WORDTABLE DBYTETABLE DWORDTABLE ADDRTABLE RTSTABLE TEXTTABLE".split()
 NAMES = "CODE DATA BSS RODATA lda A s0 s1 s2 s3 s4 s5".split()
-
-
-def random_image(draw):
-    """Stretches of random bytes, of printable ones and of one byte, and their start."""
-    size = draw.randrange(draw.choices((40, 4000, 65536), (24, 75, 1))[0]) + 1
-    data = b""
-    while len(data) < size:
-        count, kind = draw.randrange(1, 201), min(draw.randrange(4), 2)
-        data += (bytes(draw.choices(range(32, 127), k=count)), count * draw.randbytes(1), draw.randbytes(count))[kind]
-    return draw.randrange(65536 - size + 1), data[:size]
 
 
 def random_information(draw, start, size, cpu, apart):
@@ -164,8 +135,8 @@ def random_information(draw, start, size, cpu, apart):
         lines.append(f"RANGE {{ START ${at:04X}; END ${last:04X}; TYPE {draw.choice(TYPES)}; }};")
         at = last + 1 + draw.randrange(100) * draw.randrange(2)
     for _ in range(draw.randrange(30)):
-        at, count = draw.choice((draw.randrange(256), draw.randrange(65536),
-                                 start + draw.randrange(size))), draw.randrange(1, 4)
+        at = draw.choice((draw.randrange(256), draw.randrange(65536), start + draw.randrange(size)))
+        count = draw.randrange(1, 4)
         if at not in named and at + count <= 65536:
             named.add(at)
             remark = "".join(chr(9 if byte in (34, 127) else byte)
@@ -185,17 +156,22 @@ def random_information(draw, start, size, cpu, apart):
 
 
 def pytest_generate_tests(metafunc):
-    seed, images, texts = (metafunc.config.getoption(name) for name in ("seed", "images", "texts"))
-    if "image" in metafunc.fixturenames:
-        metafunc.parametrize("image", [f"image {k} of seed {seed}" for k in range(images)])
-    if "text" in metafunc.fixturenames:
-        metafunc.parametrize("text", [f"50 texts of seed {seed} from {k} on" for k in range(0, texts, 50)])
+    option = metafunc.config.getoption
+    rows = {"image": [f"image {k} of seed {option('seed')}" for k in range(option("images"))],
+            "text": [f"50 texts of seed {option('seed')} from {k} on" for k in range(0, option("texts"), 50)]}
+    for name in rows.keys() & metafunc.fixturenames:
+        metafunc.parametrize(name, rows[name])
 
 
 @pytest.mark.parametrize("cpu", CPUS)
 def test_a_listing(da65, as65, image, cpu):
     draw, apart = random.Random(f"{image} {cpu}"), int(image.split()[1]) % 2 == 0
-    start, data = random_image(draw)
+    # Stretches of random bytes, of printable ones and of one byte.
+    size, data = draw.randrange(draw.choices((40, 4000, 65536), (24, 75, 1))[0]) + 1, b""
+    while len(data) < size:
+        count, kind = draw.randrange(1, 201), min(draw.randrange(4), 2)
+        data += (bytes(draw.choices(range(32, 127), k=count)), count * draw.randbytes(1), draw.randbytes(count))[kind]
+    start, data = draw.randrange(65536 - size + 1), data[:size]
     lines = random_information(draw, start, len(data), cpu, apart)
 
     def bad(lines, data):
@@ -211,7 +187,15 @@ def test_a_listing(da65, as65, image, cpu):
 
 @pytest.mark.parametrize("name", INFORMATION)
 def test_the_listing_of_an_example(da65, as65, name):
-    start, data = example(name)
+    text = (ROOT / name).read_text()
+
+    def said(word, otherwise):
+        found = re.search(rf'\b{word}\s+"?([^";]*)', text)
+        return found[1].replace("$", "0x") if found else otherwise
+
+    offset, size = int(said("INPUTOFFS", "0"), 0), int(said("INPUTSIZE", "65536"), 0)
+    data = read(said("INPUTNAME", ""))[offset:offset + size]
+    start = int(said("STARTADDR", str(65536 - len(data))), 0)
     assert not fault(da65, as65, start, write("example.bin", data), f"-i {name}")
 
 
@@ -267,8 +251,7 @@ for rule in GRAMMAR.splitlines():
 
 
 class Text:
-    """A random text: lines with a statement each, with the names that it defines and those that a later line may
-    define."""
+    """A random text: lines with a statement each, the names that it defines and those that a later line may define."""
 
     def __init__(self, draw, cpu):
         self.draw, self.any, self.defined, self.wanted = draw, draw.randrange, [], set()
@@ -322,24 +305,22 @@ class Text:
         return self.draw.choice(("<", ">", "< ", "> ")) + (f"({word})" if in_parentheses else word)
 
 
-def excused(message):
-    """as65 refuses what ca65 takes: a value below 0 or above $FFFF whose half is taken or that .dbyt has, a value below
-    0 in .dword, of which ca65 takes the low bytes, and a text without a byte."""
-    return re.search(r": value out of range: .*([<>]|\.lobytes|\.hibytes|\.dbyt|\.dword)|: no bytes$", message.lower(),
-                     re.M)
+# as65 refuses what ca65 takes: a value below 0 or above $FFFF whose half is taken or that .dbyt has, a value below 0 in
+# .dword, of which ca65 takes the low bytes, and a text without a byte.
+EXCUSED = re.compile(r"(?mi): value out of range: .*([<>]|\.lobytes|\.hibytes|\.dbyt|\.dword)|: no bytes$")
 
 
 def judged(as65, lines, start):
     """Whether both assemblers give the same bytes for a text; and what is wrong, if they do not agree."""
     write("text.s", "\n".join(lines) + "\n")
-    ours, theirs = as65.run(f"-S {start} text.s"), linked(segments("\n".join(lines), True), start, 65536 - start)
-    if ours.status == 0:
-        is_same = theirs == ours.out
-        they_say = theirs if isinstance(theirs, str) else "other bytes"
-        return is_same, None if is_same else f"as65 takes it from {start}, and ca65: {they_say}"
-    said = ours.err.decode("latin-1")
-    is_excused = isinstance(theirs, str) or excused(said)
-    return False, None if is_excused else f"ca65 takes it from {start}, and not as65: {said}"
+    ours = as65.run(f"-S {start} text.s")
+    theirs = linked(in_stretches("\n".join(lines)), start, 65536 - start)
+    said, they_say = ours.err.decode("latin-1"), theirs if isinstance(theirs, str) else ""
+    if ours.status == 0 and theirs == ours.out:
+        return True, None
+    if ours.status and (they_say or EXCUSED.search(said)):
+        return False, None
+    return False, f"from {start} as65 says: {said or 'bytes'}, and ca65: {they_say or 'other bytes'}"
 
 
 def test_texts(as65, text):

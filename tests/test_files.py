@@ -1,50 +1,52 @@
 """What the programs do with files: each row is run by each program, as65 also with --compare, with few options and with
 all. Expected is what the man pages say. tests/rows/files.txt has what differs from program to program."""
-import itertools, os, resource, shutil, signal, subprocess
+import itertools, os, shutil, signal, subprocess
 import pytest
-from conftest import FULL, Program, holds, in_pieces, raw, read, same, tables, write
+from conftest import Program, holds, in_pieces, raw, read, same, shell, tables, write
 
-RUNS, INPUTS, OUTPUTS = ({row[0]: row[1:] for row in tables("files").found[name][1]}
-                         for name in ("uses", "inputs", "outputs"))
+TEXTS, TABLES = tables(__name__)
+RUNS, INPUTS, OUTPUTS = ({name: cells for name, *cells in TABLES[kind][1]} for kind in ("uses", "inputs", "outputs"))
+WRITERS = ("da65", "trace65", "as65", "name65")
+ASSEMBLERS = ("as65", "compare", "name65")
 NULL = subprocess.DEVNULL
+NONE = shell("exec <&- >&- 2>&-")
 # An image of three instructions, and its listing. The image to compare with has another last byte.
 IMAGE, OTHER = b"\xad\x07\x10\xad\x08\x10\x60", b"\xad\x07\x10\xad\x08\x10\xea"
 LISTING = ('; da65 listing\n\n        .setcpu "6502"\n\nv1              := $1007\nv2              := $1008\n\n'
            "        lda     v1\n        lda     v2\n        rts\n")
-REPORT = tables("files").texts["LEGEND"] + "# $1000 #\n# 7 bytes of code that is reached, 0 in ranges, 0 in neither\n"
+REPORT = TEXTS["LEGEND"] + "# $1000 #\n# 7 bytes of code that is reached, 0 in ranges, 0 in neither\n"
 
 
 class Use:
-    """A use of a program on its inputs under their names, with an old output where one may be."""
+    """A use of a program on its inputs, with an old output where one may be. In messages @ is the name of an input."""
 
-    def __init__(self, request, run, options, input):
-        inputs, every, *self.most = RUNS[run]
-        self.kind, self.options, self.inputs = run, options, inputs.split()
+    def __init__(self, request, kind, options="all", input=None):
+        inputs, every, *self.most = RUNS[kind]
+        self.kind, self.options, self.inputs = kind, options, inputs.split()
         self.every = every.split() if options == "all" else []
         self.main = self.inputs[-1]
         self.input = input or self.main
-        self.missing, self.folder, self.limit, self.large = INPUTS[f"{run} {self.input}"]
-        self.tool = "as65" if run == "compare" else run
+        self.missing, self.folder, self.limit, self.large = INPUTS[f"{kind} {self.input}"]
+        self.tool = "as65" if kind == "compare" else kind
         self.program = request.getfixturevalue(self.tool)
-        self.fine, self.trouble = (1, 2) if run == "compare" else (0, 1)
-        self.unwritten = "cannot write the listing" if run == "da65" else "cannot write the output"
+        self.fine, self.trouble = (1, 2) if kind == "compare" else (0, 1)
+        self.unwritten = "cannot write the listing" if kind == "da65" else "cannot write the output"
         self.begin()
 
     def begin(self):
+        """The inputs are there by their first names."""
         shutil.rmtree("in", ignore_errors=True)
         os.mkdir("in")
         self.out = None if self.kind == "compare" else "in/out"
         self.name = {"info": "in/y.info", "one": "in/one.inc", "two": "in/two.inc", "image": "in/a.bin",
                      "listing": "in/t.s", "out": "in/out", "null": "/dev/null"}
-        for name, text in (("one.inc", "v1 := $1007\n"), ("two.inc", "v2 := $1008\n"), ("t.s", LISTING),
-                           ("a.bin", OTHER if self.kind == "compare" else IMAGE)):
-            write("in/" + name, text)
-        if self.kind != "trace65":
-            write("in/out", "old\n")
-        self.inform(0x1000)
-        return self
+        for name, text in (("one", "v1 := $1007\n"), ("two", "v2 := $1008\n"), ("listing", LISTING),
+                           ("image", OTHER if self.kind == "compare" else IMAGE), ("out", "old\n")):
+            if (name, self.kind) != ("out", "trace65"):
+                write(self.name[name], text)
+        return self.rename(self.name[self.input])
 
-    def inform(self, start):
+    def inform(self, start=0x1000):
         """Writes the information file, with the names that the include files have now."""
         includes = "".join(f'ASMINC {{ FILE "{self.name[name]}"; }};\n' for name in ("one", "two"))
         write("in/y.info", f"GLOBAL {{ STARTADDR ${start:04X}; }};\n{includes}")
@@ -52,8 +54,7 @@ class Use:
     def rename(self, name):
         """The input has this name."""
         self.name[self.input] = name
-        if self.input in ("one", "two"):
-            self.inform(0x1000)
+        self.inform()
         return self
 
     def without(self, name):
@@ -63,17 +64,17 @@ class Use:
 
     def sized(self, count):
         """Makes the input that large, by a comment or by bytes of the image."""
-        text = read(self.name[self.input]) + {"info": b"#", "image": b""}.get(self.input, b";")
-        write(self.name[self.input], text.ljust(count, b"\0" if self.input == "image" else b"x"))
+        begin, fill = {"info": (b"#", b"x"), "image": (b"", b"\0")}.get(self.input, (b";", b"x"))
+        write(self.name[self.input], (read(self.name[self.input]) + begin).ljust(count, fill))
         return self
 
     def enlarged(self):
-        """Inputs of a run that writes more than 8 KiB, to standard output."""
-        name, text = {"da65": ("in/a.bin", 5000 * b"\xea"),
-                      "trace65": ("in/y.info", read("in/y.info") + 5000 * b"# a comment\n"),
-                      "name65": ("in/t.s", read("in/t.s") + 5000 * b"; a comment\n"),
-                      }.get(self.kind, ("in/t.s", " .res 20000\n"))
-        write(name, text)
+        """Inputs of a run that writes more than 8 KiB."""
+        large, text = {"da65": ("image", 5000 * b"\xea"),
+                       "trace65": ("info", read("in/y.info") + 5000 * b"# a comment\n"),
+                       "name65": ("listing", read("in/t.s") + 5000 * b"; a comment\n"),
+                       }.get(self.kind, ("listing", " .res 20000\n"))
+        write(self.name[large], text)
         if self.tool == "as65":
             write("in/a.bin", 10000 * b"\0\1")
         return self
@@ -95,11 +96,10 @@ class Use:
         return self
 
     def go_as_other(self, **how):
-        """Runs it as a user who can't open the files of this one. Only root needs another user, since root may open
-        everything."""
-        os.chmod(".", 0o755)
+        """Runs it as a user who can't open the files of this one: root, who may open everything, as another one."""
         shutil.copy(self.program.path, "copied")
-        os.chmod("copied", 0o755)
+        for name in ".", "copied":
+            os.chmod(name, 0o755)
         other = ["setpriv", "--reuid", "65534", "--regid", "65534", "--clear-groups"] if os.getuid() == 0 else []
         return self.go(Program("copied"), before=other, **how)
 
@@ -126,44 +126,34 @@ class Use:
 
 
 @pytest.fixture
-def use(request, run, options, input):
-    return Use(request, run, options, input)
+def use(request):
+    return Use(request, *request.param)
 
 
-@pytest.fixture
-def options():
-    return "all"
+def uses(table, *names):
+    """Runs a test for each row, by its id: the arguments of Use, and then these parameters."""
+    return pytest.mark.parametrize(["use", *names], table.values(), ids=table, indirect=["use"])
 
 
-@pytest.fixture
-def input():
-    return None
+def each(of="program", /, kinds=tuple(RUNS), options=("few", "all"), **values):
+    """Runs a test for each kind of use with few options and with all; with "input" for each input; for these values."""
+    kept = [(kind, some, *input) for kind in kinds for some in options
+            for input in ([(input,) for input in RUNS[kind][0].split()] if of == "input" else [()])]
+    return uses({", ".join([f"{use[0]} with {use[1]} options", *use[2:], *map(str, value)]): (use, *value)
+                 for use in kept for value in itertools.product(*values.values())}, *values)
 
 
-def each(*names, runs=tuple(RUNS), options=("few", "all"), **values):
-    """Runs a test for each of these uses with few options and with all of them; with "input" for each input; for each
-    of these values."""
-    table = [(run, some, *input, *value) for run in runs for some in options
-             for input in ([(input,) for input in RUNS[run][0].split()] if names else [()])
-             for value in itertools.product(*values.values())]
-    ids = [f"{run} with {some} options" + "".join(f", {cell}" for cell in cells) for run, some, *cells in table]
-    return pytest.mark.parametrize(["run", "options", *names, *values], table, ids=ids)
-
-
-WRITERS = ("da65", "trace65", "as65", "name65")
-ASSEMBLERS = ("as65", "compare", "name65")
+ALL, WRITING = ({kind: ((kind,),) for kind in kinds} for kinds in (RUNS, WRITERS))
 
 
 @each("input", what=("absent", "a folder", "a byte too large"))
 def test_input(use, what):
-    if what == "absent":
-        use.rename("in/absent").go().refuses(use.missing)
-    elif what == "a folder":
-        os.remove(use.name[use.input])
+    if what == "a byte too large":
+        return use.sized(use.limit + 1).go().refuses(use.large)
+    os.remove(use.name[use.input])
+    if what == "a folder":
         os.mkdir(use.name[use.input])
-        use.go().refuses(use.folder)
-    else:
-        use.sized(use.limit + 1).go().refuses(use.large)
+    use.go().refuses(use.folder if what == "a folder" else use.missing)
 
 
 @each("input", options=("few",))
@@ -206,15 +196,13 @@ def test_from_a_pipe_with_a_name(use):
 
 @each("input", by=("/dev/stdin", "handed", "/dev/fd/0", "-"))
 def test_from_standard_input(use, by):
-    """Standard input is read from its position, even if its file can't be opened; a file by another name from its first
-    byte."""
+    """Standard input is read from its position, even if it can't be opened; by another name from the first byte."""
     use.out = None
     write("given", (b"" if by == "/dev/fd/0" else b"x") + read(use.name[use.input]))
     use.rename("/dev/stdin" if by == "handed" else by)
     with open("given", "rb", buffering=0) as given:
         given.read(1)
-        if by == "handed":
-            os.chmod("given", 0)
+        os.chmod("given", 0 if by == "handed" else 0o600)
         (use.go_as_other if by == "handed" else use.go)(stdin=given, timeout=10)
     if by == "-" and (use.kind == "da65" or use.kind == "trace65" and use.input in ("one", "two")):
         use.says(use.trouble, use.missing)
@@ -229,7 +217,7 @@ def test_standard_input_that_is_not_asked_for(use):
     same("abcdef", pipe.read(), "it was read")
 
 
-@each(runs=ASSEMBLERS)
+@each(kinds=ASSEMBLERS)
 def test_a_listing_without_a_name(use):
     use.out = None
     use.go(words=use.words()[:-1], stdin=open("in/t.s", "rb")).wrote()
@@ -243,10 +231,8 @@ PAIRS = {"trace65": ("info image",), "as65": ("info listing",), "name65": ("info
          "compare": ("info listing", "info image", "image listing")}
 
 
-@pytest.mark.parametrize("options", ("few", "all"))
-@pytest.mark.parametrize("run, pair, names", [
-    (run, pair, names) for run in PAIRS for pair in PAIRS[run]
-    for names in TWICE + (() if run == "trace65" else BY_ANY_NAME)])
+@uses({f"{kind}-{pair}-{names}-{some}": ((kind, some), pair, names) for kind in PAIRS for pair in PAIRS[kind]
+       for names in TWICE + (() if kind == "trace65" else BY_ANY_NAME) for some in ("few", "all")}, "pair", "names")
 def test_one_stream_twice(use, pair, names):
     os.mkfifo("in/pipe")
     use.name.update(zip(pair.split(), names.split()))
@@ -254,7 +240,7 @@ def test_one_stream_twice(use, pair, names):
     use.go(stdin=b"", timeout=10).refuses(first + " can be only one of the inputs")
 
 
-@each(runs=ASSEMBLERS)
+@each(kinds=ASSEMBLERS)
 def test_a_file_that_is_two_inputs(use):
     """A plain file may be both, and a folder is no stream."""
     use.name["info"] = "in/t.s"
@@ -264,7 +250,7 @@ def test_a_file_that_is_two_inputs(use):
     use.go().refuses("cannot read in/folder")
 
 
-@each("input", runs=WRITERS, by=("its name", "another name", "a hard link", "a link", "a descriptor", "appending"))
+@each("input", kinds=WRITERS, by=("its name", "another name", "a hard link", "a link", "a descriptor", "appending"))
 def test_the_output_is(use, by):
     """The output is an input, by one of its names or as what is appended to it."""
     name, before, wanted = use.name[use.input], read(use.name[use.input]), use.wanted()
@@ -287,12 +273,12 @@ def test_the_output_is(use, by):
     holds(name, before)
 
 
-@each("input", runs=("compare",))
+@each("input", kinds=("compare",))
 def test_differences_are_appended_to(use):
     test_the_output_is(use, "appending")
 
 
-@each(runs=("as65", "name65"))
+@each(kinds=("as65", "name65"))
 def test_a_device_is_the_output_and_the_input(use):
     """Only a plain file can't be both."""
     use.rename("/dev/null").out = None
@@ -300,7 +286,7 @@ def test_a_device_is_the_output_and_the_input(use):
 
 
 @pytest.mark.cc
-@each(runs=("as65", "name65"))
+@each(kinds=("as65", "name65"))
 def test_the_output_is_on_another_device(use):
     """One number on two devices is not one file."""
     os.link("in/t.s", "in/link")
@@ -308,44 +294,37 @@ def test_the_output_is_on_another_device(use):
     use.go(shim={"ELSEWHERE": "in/link"}).wrote("in/link")
 
 
-@each(runs=WRITERS, output=[name.strip() for name in OUTPUTS])
+@each(kinds=WRITERS, output=[name.strip() for name in OUTPUTS])
 def test_an_output_called(use, output):
-    said = OUTPUTS[output or " "][("da65", "as65", "trace65", "name65").index(use.kind)]
+    said = dict(zip(TABLES["outputs"][0], OUTPUTS[output or " "]))[use.kind]
     os.mkdir("in/folder")
     os.mkfifo("in/pipe")
-    use.out = use.name["out"] = output
-    use.input = "out"
-    reader = subprocess.Popen(["timeout", "3", "cat", "in/pipe"],
-                              stdout=open("piped", "wb")) if output == "in/pipe" else None
+    pipe = os.open("in/pipe", os.O_RDONLY | os.O_NONBLOCK)
+    use.input, use.out, use.name["out"] = "out", output, output
     use.go(timeout=10)
-    if reader and said:
-        reader.kill()
-    if reader:
-        reader.wait()
-    if said:
-        use.says(1, said)
+    write("piped", os.read(pipe, 65536))
+    if said or output == "/dev/null":
+        use.says(1 if said else 0, said)
     elif output == "-" and use.kind != "da65":
         use.wrote()
     else:
-        use.says(0) if output == "/dev/null" else use.wrote({"in/pipe": "piped", "-": "./-"}.get(output, output))
+        use.wrote({"in/pipe": "piped", "-": "./-"}.get(output, output))
         same("", use.ran.out, use.ran.line)
 
 
-@each(runs=WRITERS, what=("there", "forbidden"))
+@each(kinds=WRITERS, what=("there", "forbidden"))
 def test_an_output_that_is(use, what):
     """It is there, or may not be written."""
     use.input = "out"
     write("in/out", b"old\n" + bytes(5000))
     if what == "forbidden":
         os.chmod("in/out", 0)
-    (use.go_as_other if what == "forbidden" else use.go)()
-    if use.kind == "trace65":
-        use.says(1, "@ exists")
+        use.go_as_other().says(1, "@ exists" if use.kind == "trace65" else "cannot create @")
     else:
-        use.says(1, "cannot create @") if what == "forbidden" else use.wrote("in/out")
+        use.go().says(1, "@ exists") if use.kind == "trace65" else use.go().wrote("in/out")
 
 
-@each(runs=("da65", "as65", "name65"))
+@each(kinds=("da65", "as65", "name65"))
 def test_an_output_that_is_standard_output(use):
     use.out = "/dev/stdout"
     with open("appended", "wb", buffering=0) as file:
@@ -354,15 +333,7 @@ def test_an_output_that_is_standard_output(use):
     holds("appended", b"old\n" + raw(use.wanted()))
 
 
-def closed(streams):
-    """The beginning of a command that closes these streams."""
-    return ["sh", "-c", f'exec "$@" {streams}', "sh"]
-
-
-NONE = closed("<&- >&- 2>&-")
-
-
-@each(runs=WRITERS)
+@each(kinds=WRITERS)
 def test_no_standard_stream(use):
     use.go(before=NONE).wrote("in/out")
     use.without(use.main).go(before=NONE).says(1).keeps()
@@ -371,15 +342,14 @@ def test_no_standard_stream(use):
 @each()
 def test_a_closed_stream(use):
     use.out = None
-    use.go(before=closed(">&-")).says(use.trouble, use.unwritten)
-    use.begin().rename("/dev/stdin").go(before=closed("<&-"))
+    use.go(before=shell("exec >&-")).says(use.trouble, use.unwritten)
+    use.begin().rename("/dev/stdin").go(before=shell("exec <&-"))
     use.refuses(("!" if use.kind == "da65" else "") + ("input is empty" if use.main == "image" else "@: no bytes"))
     # What is said there is not in a file that is opened later.
-    use.without(use.inputs[1]).go(before=closed("<&- 2>&-")).says(use.trouble)
+    use.without(use.inputs[1]).go(before=shell("exec <&- 2>&-")).says(use.trouble)
     holds("in/out", "") if use.kind == "da65" else use.keeps()
 
 
-@FULL
 @each()
 def test_a_full_stream(use):
     use.out = None
@@ -390,41 +360,35 @@ def test_a_full_stream(use):
     use.keeps()
 
 
-@FULL
 @pytest.mark.parametrize("to", ("full", "closed"))
 @pytest.mark.parametrize("word", ("-h", "-V"))
-@pytest.mark.parametrize("run", WRITERS)
-def test_told_on_a_stream_that_is(request, run, word, to):
-    how = {"before": closed(">&-")} if to == "closed" else {"stdout": open("/dev/full", "wb")}
-    ran = request.getfixturevalue(run).run(word, **how)
-    ran.gives(1, None, "" if run == "da65" else f"{run}: cannot write the output\n")
+@uses(WRITING)
+def test_told_on_a_stream_that_is(use, word, to):
+    use.go(words=word, **({"before": shell("exec >&-")} if to == "closed" else {"stdout": open("/dev/full", "wb")}))
+    use.says(1, "" if use.kind == "da65" else use.unwritten)
 
 
-@pytest.mark.parametrize("run, to", [
-    *((run, "standard output") for run in RUNS), *((run, "the output") for run in WRITERS)])
+@uses({f"{kind}-{to}": ((kind,), to) for to, kinds in (("standard output", RUNS), ("the output", WRITERS))
+       for kind in kinds}, "to")
 def test_a_file_that_is_full(use, to):
     """If the signal SIGXFSZ is ignored, a write fails; otherwise it ends the program. Both leave a prefix."""
     use.enlarged().out = None
     whole = use.go().ran.out
     use.out = "in/cut" if to == "the output" else None
-    for how, status, said in (({"limits": {resource.RLIMIT_FSIZE: 8192}}, use.trouble, use.unwritten),
-                              ({"before": ["bash", "-c", 'ulimit -f 8; exec "$@"', "bash"]}, -signal.SIGXFSZ, "")):
+    for ignored, status, said in ("trap '' XFSZ; ", use.trouble, use.unwritten), ("", -signal.SIGXFSZ, ""):
         with open("stdout", "wb") as out:
-            use.go(stdout=out, **how).says(status, said)
+            use.go(stdout=out, before=shell(ignored + "ulimit -f 16")).says(status, said)
         holds(use.out or "stdout", whole[:8192])
         os.remove(use.out or "stdout")
 
 
-@pytest.mark.parametrize("run", RUNS)
+@uses(ALL)
 def test_less_and_less_memory(use):
     """The run succeeds, or runs out and writes nothing. Below some limit the program is not even started."""
     use.enlarged().out = None
     whole, ended = use.go().ran.out, set()
     for limit in range(24576, 0, -64):
-        try:
-            status = use.go(limits={resource.RLIMIT_AS: limit * 1024}).ran.status
-        except OSError:
-            break
+        status = use.go(before=["prlimit", f"--as={limit * 1024}"]).ran.status
         if status not in (use.fine, use.trouble) or status == use.fine and use.ran.err:
             break
         ended.add(status)
@@ -478,10 +442,9 @@ def test_a_write_that_fails(use):
 
 
 @pytest.mark.cc
-@pytest.mark.parametrize("run", RUNS)
+@uses(ALL)
 def test_calls_and_memory(use):
-    """What the run takes for large inputs: the bytes of memory are those that it asks for in all, a twentieth more at
-    most."""
+    """What the run takes for large inputs. All the memory that it asks for may be a twentieth more."""
     counts = use.enlarged().go(shim={}).ran.counts
     opens, reads, writes, asked, allocations = use.most
     assert counts[:3] == (opens, reads, writes)

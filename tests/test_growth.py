@@ -1,12 +1,11 @@
-"""What a run takes, and that it keeps working as its input grows: each small number and each length with ample memory,
-which no contract promises; opens, reads, writes and memory, with each allocation refused in turn. Most rows are in
-tests/rows/growth.txt."""
-import os
+"""What a run takes, and that it keeps working as its input grows, which no contract promises: each small number and
+each length; calls and memory; each allocation refused in turn. Most rows are in tests/rows/growth.txt."""
 import pytest
-from conftest import ROOT, Program, fails, listed, same, tables, write
+from conftest import ROOT, Program, fails, holds, same, tables, write
 
 HEADER = '; da65 listing\n\n        .setcpu "6502"\n\n'
 NOP, BYTE = "        nop\n", "        .byte   $EA\n"
+ATTRIBUTES, OPTIONS = (tables(__name__)[0][name].split("|") for name in ("ATTRIBUTES", "OPTIONS"))
 
 
 def lists(da65, words, body, info=None):
@@ -25,26 +24,20 @@ def test_images(da65, size):
     lists(da65, f"-S 0 {image(size)}", size * NOP)
 
 
-@pytest.mark.parametrize("kind", ("ranges", "labels", "segments"))
-def test_0_to_40(da65, kind):
+@pytest.mark.parametrize("group, item, size, after", [
+    pytest.param("RANGE{{START {at};SIZE 1;TYPE BYTETABLE;}}", BYTE + NOP, 2, "", id="ranges"),
+    pytest.param('LABEL{{ADDR {at};NAME "n{k}";SIZE 1;COMMENT "c{k}";}}', "; c{k}\n{name:8}nop\n", 1, "", id="labels"),
+    pytest.param('SEGMENT{{START {at};END {at};NAME "s{k}";}}', '        .segment "s{k}"\n' + NOP, 1, "        .code\n",
+                 id="segments"),
+])
+def test_0_to_40(da65, group, item, size, after):
     """Each group is about one of the addresses from $1000 on, every other one for ranges."""
-    info, body = "GLOBAL{STARTADDR $1000;}", ""
     image(82)
-    for k in range(41):
-        size = 2 * k if kind == "ranges" else k
-        lists(da65, "image.bin", body + ("        .code\n" if kind == "segments" and k else "") + (82 - size) * NOP,
-              info)
-        at = f"${4096 + (2 * k if kind == 'ranges' else k):04X}"
-        info += {"ranges": f"RANGE{{START {at};SIZE 1;TYPE BYTETABLE;}}",
-                 "segments": f'SEGMENT{{START {at};END {at};NAME "s{k}";}}',
-                 "labels": f'LABEL{{ADDR {at};NAME "n{k}";SIZE 1;COMMENT "c{k}";}}'}[kind]
-        body += {"ranges": BYTE + NOP, "segments": f'        .segment "s{k}"\n{NOP}',
-                 "labels": f"; c{k}\n{f'n{k}:':8}nop\n"}[kind]
-
-
-ATTRIBUTES = ('INPUTOFFS 0|INPUTSIZE 82|STARTADDR $1000|CPU "6502"|HEXOFFS off|PAGELENGTH 0|COMMENTS 0|MNEMONICCOLUMN 9'
-              "|ARGUMENTCOLUMN 17|COMMENTCOLUMN 49|TEXTCOLUMN 81|LABELBREAK 7|NEWLINEAFTERJMP off"
-              "|NEWLINEAFTERRTS off").split("|")
+    for count in range(41):
+        values = [{"k": k, "name": f"n{k}:", "at": 4096 + size * k} for k in range(count)]
+        info = "GLOBAL{STARTADDR $1000;}" + "".join(group.format(**value) for value in values)
+        body = "".join(item.format(**value) for value in values) + (after if count else "")
+        lists(da65, "image.bin", body + (82 - size * count) * NOP, info)
 
 
 @pytest.mark.parametrize("between", (";", ";}GLOBAL{"), ids=("in one group", "in groups of their own"))
@@ -54,7 +47,6 @@ def test_attributes(da65, between):
         lists(da65, "image.bin", 82 * NOP, f"GLOBAL{{{''.join(text + between for text in ATTRIBUTES[:count])}}}")
 
 
-@listed()
 def test_tables(da65, size, most, directive, entry, names, request):
     """Tables of 1 to 40 bytes $41."""
     for count in range(1, 41):
@@ -64,10 +56,6 @@ def test_tables(da65, size, most, directive, entry, names, request):
             body += f"        {directive:8}" + (f'"{"".join(entries)}"' if entry == "A" else ",".join(entries)) + "\n"
         info = f"GLOBAL{{STARTADDR 0;}}RANGE{{START 0;SIZE {count};TYPE {request.node.callspec.id};}}"
         lists(da65, image(count, 0x41), body + count % size * "        .byte   $41\n", info)
-
-
-OPTIONS = ("-i empty.info|-o /dev/stdout|-S 0x1000|--cpu 6502|--comments 0|--mnemonic-column 9|--argument-column 17|"
-           "--comment-column 49|--text-column 81|--label-break 7|--hexoffs|--").split("|")
 
 
 def test_options_and_names(da65):
@@ -106,7 +94,7 @@ def test_lengths_of_names_and_comments(da65, lengths):
 def test_lengths_of_file_names(da65, lengths):
     """A path with many slashes leads to the same file."""
     image(1)
-    for length in (length for length in lengths if length >= 3):
+    for length in lengths[2:] if lengths[0] == 1 else lengths:
         folder = "." + (length - 2) * "/"
         path = folder + "x"
         write("x", "\xea")
@@ -115,10 +103,10 @@ def test_lengths_of_file_names(da65, lengths):
         write("x", "")
         da65.refuses("-i " + path, "no input file")
         da65(f"-o {path} image.bin")
-        same(HEADER + NOP, open("x", "rb").read(), "an output with a long name")
+        holds("x", HEADER + NOP)
         write("x", "")
-        included, named = f'ASMINC{{FILE "{path}";}}', f'GLOBAL{{INPUTNAME "{folder}image.bin";}}'
-        for info, words, most in (included, "image.bin", 255), (named, "", 247):
+        for info, words, most in ((f'ASMINC{{FILE "{path}";}}', "image.bin", 255),
+                                  (f'GLOBAL{{INPUTNAME "{folder}image.bin";}}', "", 247)):
             if length <= most:
                 lists(da65, words, NOP, info)
             elif length > 255:
@@ -127,13 +115,13 @@ def test_lengths_of_file_names(da65, lengths):
 
 def test_include_files(da65):
     """0 to 16, and one more."""
-    info, body = "", ""
     image(1)
-    for count in range(17):
-        lists(da65, "image.bin", body + ("\n" if body else "") + NOP, info)
+    for count in range(18):
         write(f"{count}.inc", f"n{count} = {count}")
-        info += f'ASMINC{{FILE "{count}.inc";}}'
-        body += f"{f'n{count}':16}:= ${count:04X}\n"
+        info = "".join(f'ASMINC{{FILE "{k}.inc";}}' for k in range(count))
+        body = "".join(f"{f'n{k}':16}:= ${k:04X}\n" for k in range(count)) + ("\n" if count else "")
+        if count <= 16:
+            lists(da65, "image.bin", body + NOP, info)
     da65.refuses(f"-i {write('some.info', info)} image.bin", "info:1: too large")
 
 
@@ -163,8 +151,7 @@ def test_100_000_lines_of_an_include_file(da65):
 
 @pytest.mark.parametrize("comments", (0, 3300), ids=lambda count: f"{count} with a comment")
 def test_65_536_names_of_80_bytes(da65, comments):
-    """The longest name for each address, in as many include files as that takes, and as many of them with the longest
-    comment as an information file has room for: no names have more bytes."""
+    """The longest name for each address, and as many with the longest comment as an information file may have."""
     for k in range(6):
         write(f"{k}.inc", "".join(f"n{n:079}={n}\n" for n in range(k * 11000, min(65536, (k + 1) * 11000))))
     info = "".join(f'ASMINC{{FILE "{k}.inc";}}' for k in range(6))
@@ -173,31 +160,20 @@ def test_65_536_names_of_80_bytes(da65, comments):
     lists(da65, image(1), f"{body}\nn{65535:079}:\n{NOP}", info)
 
 
-FILES = dict(tables("growth").found["files"][1])
-# A listing of 20,000 labels, each with an address of another. Labels with an include file, whose names one index finds.
-FILES["labels.s"] = "".join(f"n{n}: .addr n{n * 7919 % 20000}\n" for n in range(20000))
-FILES["undefined.s"] = FILES["labels.s"] + FILES["faulty.s"]
-FILES["both.info"] = "".join(f'LABEL{{ADDR {n};NAME "l{n}";}}\n' for n in range(2000)) + 'ASMINC{FILE "later.inc";}\n'
-FILES["later.inc"] = "".join(f"c{n} = {n}\n" for n in range(2000, 4000))
+@pytest.fixture
+def labels(folder):
+    """20,000 labels, each with an address of another. Labels with an include file, whose names one index finds."""
+    text = "".join(f"n{n}: .addr n{n * 7919 % 20000}\n" for n in range(20000))
+    named = "".join(f'LABEL{{ADDR {n};NAME "l{n}";}}\n' for n in range(2000))
+    for name, content in (("labels.s", text), ("undefined.s", text + " jmp nowhere\n"),
+                          ("both.info", named + 'ASMINC{FILE "later.inc";}\n'),
+                          ("later.inc", "".join(f"c{n} = {n}\n" for n in range(2000, 4000)))):
+        write(name, content)
 
 
-def made(words, *more):
-    """Makes the files that these words name, and those that they include."""
-    names = {name for name in FILES if any(name in word for word in words.split()) or name in more}
-    for name in names | {name for name in FILES if any(f'"{name}"' in FILES[one] for one in names)}:
-        write(name, FILES[name])
-    return words
-
-
-# /dev/null is opened three times, for standard streams that are closed. 4 KiB a read and one read at the end, 8 KiB a
-# write. The map of an image has two bytes for each address. A table of ranges, and one of segments, has one, if there
-# are any, and is given back before. Only names need the tables that find them. What has been read is given back before
-# the run, and copied no more often than it must be.
-@listed()
 @pytest.mark.cc
-def test_work(request, tool, words, status, opens, reads, writes, most, asked, allocations, stdin):
+def test_work(request, labels, tool, words, status, opens, reads, writes, most, asked, allocations, stdin):
     """At most that many bytes of memory at one time, and over the whole run."""
-    made(words, stdin)
     given = {"stdin": open(stdin, "rb")} if stdin else {}
     counts = request.getfixturevalue(tool)(words, status, None, None, shim={}, **given).counts
     assert counts[:3] == (opens, reads, writes)
@@ -205,13 +181,10 @@ def test_work(request, tool, words, status, opens, reads, writes, most, asked, a
     assert not allocations or counts.allocations <= allocations, counts
 
 
-@listed()
 @pytest.mark.cc
 def test_refused_in_turn(request, tool, words, least, status, trouble):
-    """Each allocation refused in turn, of which there are at least so many: the program says that it is out of memory,
-    and writes nothing on standard output."""
+    """Of at least so many allocations each is refused in turn: that is said, and nothing is on standard output."""
     program = request.getfixturevalue(tool)
-    made(words)
     whole = program(words, status, None, None, shim={})
     assert least <= whole.counts.allocations
     for at in range(1, whole.counts.allocations + 1):
@@ -226,12 +199,12 @@ def test_refused_in_turn(request, tool, words, least, status, trouble):
 def test_options_of_refused_in_turn():
     """The same in a test of `conformance` that makes words and calls options_of. There are at least 40 of that call.
     `rt test` makes the program of these tests."""
-    tests = Program(ROOT / "crates/conformance/out/conformance_tests")
-    name = "tests::command_lines::options_in_little_memory"
-    if not os.path.exists(tests.path):
+    path = ROOT / "crates/conformance/out/conformance_tests"
+    if not path.exists():
         pytest.skip("rt test has not made the program of the tests of conformance")
-    whole = tests.run([name], shim={})
+    tests, name = Program(path), ["tests::command_lines::options_in_little_memory"]
+    whole = tests.run(name, shim={})
     assert whole.out.startswith(b"options\n")
-    said = [tests.run([name], shim={"REFUSE": at}).out.split(b"\n")[0] for at in range(1, whole.counts.allocations + 1)]
-    assert set(said) == {b"no memory for words",
-                         b"no memory for options"} and said.count(b"no memory for options") >= 40
+    said = [tests.run(name, shim={"REFUSE": at}).out.split(b"\n")[0] for at in range(1, whole.counts.allocations + 1)]
+    assert set(said) == {b"no memory for words", b"no memory for options"}
+    assert said.count(b"no memory for options") >= 40

@@ -1,24 +1,24 @@
 """html65 on real files: its messages, and the page. The page is read by Python's own reader of HTML, references are
 counted from the listing by patterns, and what the page looks like is left to tidy and to a browser."""
-import base64, collections, html.parser, random, re, shutil, socket, struct, subprocess, threading
+import base64, collections, html.parser, random, re, shutil, socket, struct, subprocess
 import pytest
-from conftest import CPUS, IMAGES, INFORMATION, NEEDS, ROOT, found, listed, read, tables, write
+from conftest import BROWSER, CPUS, IMAGES, INFORMATION, ROOT, read, tables, write
 
-REPAIR = tables("html65").texts["REPAIR"]
+REPAIR = tables(__name__)[0]["REPAIR"]
 
 
 class Page(html.parser.HTMLParser):
     """A page as a reader of HTML sees it: `text` of the listing, of each line the `left` remark and the `links`: the
-    numbers of lines to which its operands lead, and `uses`: (way, line) of the remark behind it."""
-    VOID = {"meta", "input", "img", "br"}
+    numbers of lines to which its operands lead, and `uses`: (way, line) of the remark behind it. `inside` are the
+    elements that are open: pre is that of the listing, and i a remark."""
 
     def __init__(self, page):
         super().__init__()
         self.text, self.hrefs, self.attributes, self.images = "", [], set(), []
         self.tags, self.ids = collections.Counter(), collections.Counter()
-        self.left, self.body = collections.defaultdict(str), collections.defaultdict(str)
+        self.left = collections.defaultdict(str)
         self.links, self.uses = collections.defaultdict(list), collections.defaultdict(list)
-        self.stack, self.line, self.way, self.is_first = [], 0, "", True
+        self.inside, self.line, self.way, self.is_first = set(), 0, "", True
         self.feed(page.decode("latin-1"))
         self.close()
 
@@ -32,37 +32,30 @@ class Page(html.parser.HTMLParser):
             self.hrefs.append(values["href"])
         if tag == "img":
             self.images.append((self.line, values))
-        if tag not in self.VOID:
-            self.stack.append((tag, values))
-        if self.is_listing() and values.get("id", "").startswith("l") and tag == "span":
+        if tag != "pre" or values.get("id") == "listing":
+            self.inside.add(tag)
+        if "pre" in self.inside and values.get("id", "").startswith("l") and tag == "span":
             self.line, self.is_first = int(values["id"][1:]), True
-        if self.is_listing() and tag == "a":
+        if "pre" in self.inside and tag == "a":
             target = int(values["href"][2:])
-            if self.is_remark():
+            if "i" in self.inside:
                 self.uses[self.line].append((self.way, target))
             else:
                 self.links[self.line].append(target)
 
     def handle_endtag(self, tag):
-        while self.stack and self.stack.pop()[0] != tag:
-            pass
+        self.inside.discard(tag)
         if tag == "i":
             self.is_first = False
 
-    def is_listing(self):
-        return any(tag == "pre" and values.get("id") == "listing" for tag, values in self.stack)
-
-    def is_remark(self):
-        return any(tag == "i" for tag, _ in self.stack)
-
     def handle_data(self, data):
-        if not self.is_listing():
-            self.body[self.stack[-1][0] if self.stack else ""] += data
-        elif not self.is_remark():
+        if "pre" not in self.inside:
+            return
+        if "i" not in self.inside:
             self.text += data
         elif self.is_first:
             self.left[self.line] += data
-        elif self.stack[-1][0] != "a" and (words := re.findall("[a-z]+", data.replace("more", ""))):
+        elif "a" not in self.inside and (words := re.findall("[a-z]+", data.replace("more", ""))):
             self.way = words[-1]
 
 
@@ -84,12 +77,10 @@ def whole(page_of):
     return read_back
 
 
-@listed()
 def test_words(html65, given, words, status, out, err, after, stdin):
     html65.does(given, words, status, out, err, after, stdin)
 
 
-@listed()
 def test_start(html65, words, left):
     write("a.s", '.segment "TWO"\nnop\n.code\nnop\n')
     write("a.info", 'GLOBAL { STARTADDR $1000; };\nSEGMENT { NAME "TWO"; START $1004; END $1005; };\n')
@@ -99,21 +90,6 @@ def test_start(html65, words, left):
     assert "fill" not in words or page.left[1].strip() == "1000 00 00 00 00"
 
 
-@pytest.fixture
-def listings(da65, as65):
-    """Listings of all examples, of small texts and of random bytes: the words for html65, and the text."""
-    def listing(words, more="", **how):
-        return words, da65(f"{words} {more}", 0, None, None, **how).out
-    found = [listing("-S 0x1000", name) for name in IMAGES if len(read(name)) <= 0xF000]
-    found += [listing(f"-i {name}", f"--comments {level}") for name in INFORMATION for level in (0, 4)]
-    found += [("-S 0x1000", read(text)) for text in sorted(ROOT.glob("crates/*/stdin"))
-              if as65.run(["-S", "0x1000", "-o", "/dev/null", text]).status == 0]
-    found += [listing("-S 0xC000", f"--cpu {cpu} /dev/stdin", stdin=random.Random(seed).randbytes(700 * (seed + 1)))
-              for cpu in CPUS for seed in range(6)]
-    assert len(found) > 31
-    return found
-
-
 WAYS = {name: way for way, names in {
     "call": "jsr", "jump": "jmp bra", "branch": "bcc bcs beq bmi bne bpl bvc bvs", "write": "sta stx sty stz",
     "change": "inc dec asl lsr rol ror trb tsb"}.items() for name in names.split()}
@@ -121,8 +97,7 @@ DEFINED = re.compile(r"[ \t]*([A-Za-z_]\w*)[ \t]*(?::=|=|:)")
 
 
 def expected(listing):
-    """From the listing alone: the numbers of the lines that define names, and of each such line the (way, line) that
-    refer to it."""
+    """From the listing alone: the lines that define names, the (way, line) that refer to each, and the links."""
     lines, defined, uses, links = listing.splitlines(), {}, collections.defaultdict(list), collections.defaultdict(list)
     for number, line in enumerate(lines, 1):
         if found := DEFINED.match(line):
@@ -153,9 +128,19 @@ def way(operation, operands, operand, start, at):
     return "value" if "#" in operands else "pointer" if "(" in operands else WAYS.get(operation, "read")
 
 
-def test_text(listings, whole):
-    """Each listing comes back, from CR, blanks and a last line without a line feed too. The links are those of the
-    listing."""
+def test_text(da65, as65, whole):
+    """Each listing comes back: of all examples, of small texts and of random bytes. The links are those of the listing,
+    and CR, blanks and a last line without a line feed stay."""
+    def listed(words, more="", **how):
+        return words, da65(f"{words} {more}", 0, None, None, **how).out
+
+    listings = [listed("-S 0x1000", name) for name in IMAGES if len(read(name)) <= 0xF000]
+    listings += [listed(f"-i {name}", f"--comments {level}") for name in INFORMATION for level in (0, 4)]
+    listings += [("-S 0x1000", read(text)) for text in sorted(ROOT.glob("crates/*/stdin"))
+                 if as65.run(["-S", "0x1000", "-o", "/dev/null", text]).status == 0]
+    listings += [listed("-S 0xC000", f"--cpu {cpu} /dev/stdin", stdin=random.Random(seed).randbytes(700 * (seed + 1)))
+                 for cpu in CPUS for seed in range(6)]
+    assert len(listings) > 31
     for words, listing in listings:
         page = whole(listing, words)
         assert page.ids.keys() >= {f"l{number}" for number in range(1, len(listing.splitlines()) + 1)}, words
@@ -250,33 +235,26 @@ def test_left(da65, whole):
 
 def runs_of(page):
     """The runs of the map: line, addresses, kind of the title, class, and the addresses that its shape covers."""
-    text = page.decode("latin-1")
+    text, base = page.decode("latin-1"), None
     wide = int(re.search(r'viewBox="0 0 (\d+) ', text)[1])
-    found = []
-    path = r'<a href="#l(\d+)"><title>([^<]*)</title><path class="(\w+)" d="([^"]*)"/></a>'
-    for line, title, kind, shape in re.findall(path, text):
-        first, last, named = re.match(r"\$(\w{4}) to \$(\w{4}) (\w+)", title).groups()
-        cells = [(int(y) + row) * wide + int(x) + column for x, y, w,
-                 h in re.findall(r"M(\d+) (\d+)h(\d+)v(\d+)h-\d+z", shape)
-                 for row in range(int(h)) for column in range(int(w))]
-        found.append((int(line), int(first, 16), int(last, 16), named, kind, cells))
-    base = found[0][1] // wide * wide
-    return [(line, first, last, named, kind, [base + cell for cell in cells]) for line, first, last, named, kind,
-            cells in found]
+    path = r'<a href="#l(\d+)"><title>\$(\w{4}) to \$(\w{4}) (\w+)[^<]*</title><path class="(\w+)" d="([^"]*)"/></a>'
+    for line, first, last, named, kind, shape in re.findall(path, text):
+        first, last = int(first, 16), int(last, 16)
+        base = first // wide * wide if base is None else base
+        yield int(line), first, last, named, kind, [
+            base + (int(y) + row) * wide + int(x) + column for x, y, w, h in re.findall(
+                r"M(\d+) (\d+)h(\d+)v(\d+)h-\d+z", shape) for row in range(int(h)) for column in range(int(w))]
 
 
-@listed()
 def test_map(da65, page_of, listing, words, kinds):
     page = page_of(listing or da65(words, 0, None).out, words)
     kinds = [(kind, int(first, 16), int(last, 16)) for kind, first, last in re.findall(r"(\w+) (\w+)-(\w+)", kinds)]
-    runs = runs_of(page)
+    runs = list(runs_of(page))
     assert [(named, first, last) for _, first, last, named, _, _ in runs] == kinds
     for line, first, last, named, kind, cells in runs:
         assert named == kind and sorted(cells) == list(range(first, last + 1))
         assert Page(page).left[line].startswith(f"{first:04X} ")
-    total = collections.Counter()
-    for named, first, last in kinds:
-        total[named] += last - first + 1
+    total = collections.Counter(named for named, first, last in kinds for _ in range(first, last + 1))
     head = re.sub("<[^>]*>", " ", re.search("<header>.*?</header>", page.decode("latin-1"), re.S)[0])
     assert {name: int(count) for name, count in re.findall(r"(code|text|bytes|words|addresses|filler) (\d+)",
                                                            head)} == dict(total)
@@ -289,9 +267,8 @@ def test_pictures(whole):
     assert [values["alt"] for _, values in images] == [
         "cells of 8 by 8", "rows of 1 byte", "rows of 2 bytes", "rows of 3 bytes", "rows of 40 bytes"]
     assert {line for line, _ in images} == {24}
-    wanted = [[data[y:16:8] for y in range(8)], [data[k:k + 1] for k in range(16)],
-              [data[k:k + 2] for k in range(0, 16, 2)],
-              [data[k:k + 3] for k in range(0, 16, 3)], [data]]
+    wanted = [[data[y:16:8] for y in range(8)],
+              *([data[k:k + size] for k in range(0, 16, size)] for size in (1, 2, 3, 40))]
     for (_, values), lines in zip(images, wanted):
         bitmap = base64.b64decode(values["src"].partition(",")[2], validate=True)
         magic, size, _, offset, head, wide, high, planes, bits = struct.unpack("<2sIIIIIIHH", bitmap[:30])
@@ -316,25 +293,14 @@ def test_tidy(da65, page_of):
 
 @pytest.mark.browser
 def test_browser(da65, page_of, folder):
-    """The DOM has each line and leads each link to its line; no request leaves the page; and something is to be
-    seen."""
-    asked = []
-    server = socket.create_server(("127.0.0.1", 0))
-
-    def listen():
-        while True:
-            connection, _ = server.accept()
-            asked.append(connection.recv(1000))
-            connection.close()
-
+    """The DOM has each line and leads each link to its line; nothing is asked for; and something is to be seen."""
     def chromium(*words):
-        return subprocess.run([found(NEEDS["browser"][0]), "--headless", "--no-sandbox", "--disable-gpu",
-                               "--no-first-run",
+        return subprocess.run([BROWSER, "--headless", "--no-sandbox", "--disable-gpu", "--no-first-run",
                                "--disable-background-networking", f"--user-data-dir={folder}/profile", *words,
-                               f"file://{folder}/a.html"],
-                              capture_output=True, timeout=120)
+                               f"file://{folder}/a.html"], capture_output=True, timeout=120)
 
-    threading.Thread(target=listen, daemon=True).start()
+    server = socket.create_server(("127.0.0.1", 0))
+    server.setblocking(False)
     address, words = f"http://127.0.0.1:{server.getsockname()[1]}", "-i examples/board/board.info"
     listing = da65(words, 0, None).out.decode() + f"; <img src={address}/a><script src={address}/b></script>\n"
     write("a.html", page_of(listing, words))
@@ -342,7 +308,9 @@ def test_browser(da65, page_of, folder):
     assert page.text == listing
     assert all(page.ids[href[1:]] == 1 for href in page.hrefs) and len(page.hrefs) > 100
     chromium("--window-size=1400,900", "--screenshot=a.png")
-    assert len(read("a.png")) > 20_000 and asked == []
+    assert len(read("a.png")) > 20_000
+    with pytest.raises(BlockingIOError):
+        server.accept()
 
 
 def test_large(page_of):

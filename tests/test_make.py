@@ -1,12 +1,10 @@
-"""What `make` does with the prover, and in which order. tests/stand_ins/rt stands in for it. Here `make` prints its
-progress once a second."""
-import os, re, shutil
+"""What `make` does with the prover, for which tests/stand_ins/rt stands in. Some rows are in
+tests/rows/make.txt."""
+import functools, os, re, shutil
 import pytest
-from conftest import MADE, ROOT, Program, holds, read, rows, write
+from conftest import MADE, ROOT, Program, holds, read, write
 
-PARTS = ("src", "specs", "proofs")
-LINES = [line.split(":") for line in (ROOT / "crates.txt").read_text().splitlines() if re.match(r"\w+:", line)]
-BELOW = {name: below.split() for name, below in LINES}
+BELOW = {name: below.split() for name, below in re.findall(r"(?m)^(\w+):(.*)", (ROOT / "crates.txt").read_text())}
 
 
 def closure(crates, below):
@@ -27,18 +25,16 @@ def above(*crates):
     return closure(crates, lambda name: [other for other in ALL if name in BELOW[other]])
 
 
-def run(words, crates, status=0, last="da65_cli", env=None, program="make"):
+def run(here, words, crates, status=0, last="da65_cli", env=None, program="make"):
     """make ends with this status, and apart from its own errors prints this line last. It runs the prover once in each
     of these crates, and in no other. Gives what it printed."""
-    here = os.path.dirname(os.getcwd())
-    write("../notes", "")
-    env = {"PATH": f"{here}/path:{os.environ['PATH']}", "NOTES": f"{here}/notes", **(env or {})}
-    done = Program(shutil.which(program)).run(words, env=env).gives(status, None, None)
+    env = {"PATH": f"{here}/path:{os.environ['PATH']}", "NOTES": write(f"{here}/notes", ""), **(env or {})}
+    done = Program(program).run(words, env=env, cwd=here / "checkout").gives(status, None, None)
     printed = (done.out + done.err).decode()
-    assert [line for line in printed.splitlines()
-            if not line.startswith("make")][-1:] == [last] or program != "make", printed
-    assert sorted(read("../notes").decode().split()) == sorted(crates), printed
-    assert not [name for name in os.listdir("bin/made") if name.endswith(".room")], "a room is left"
+    lines = [line for line in printed.splitlines() if not line.startswith("make")]
+    assert lines[-1:] == [last] or program != "make", printed
+    assert sorted(read(f"{here}/notes").decode().split()) == sorted(crates), printed
+    assert not list(here.glob("checkout/bin/made/*.room")), "a room is left"
     return printed
 
 
@@ -46,18 +42,15 @@ def run(words, crates, status=0, last="da65_cli", env=None, program="make"):
 def proved(tmp_path_factory):
     """A checkout in which everything is proved."""
     here = tmp_path_factory.mktemp("make")
-    for folder in "path", *(f"checkout/crates/{crate.name}/{part}" for crate in (ROOT / "crates").iterdir()
-                            for part in PARTS):
-        os.makedirs(here / folder)
+    os.makedirs(here / "path")
     shutil.copy(ROOT / "tests/stand_ins/rt", here / "path")
-    for crate in (here / "checkout/crates").iterdir():
-        write(crate / "src/lib.rt", "// one\n")
+    for crate in (ROOT / "crates").iterdir():
+        for part in "src", "specs", "proofs":
+            os.makedirs(here / "checkout/crates" / crate.name / part)
+        write(here / "checkout/crates" / crate.name / "src/lib.rt", "// one\n")
     for name in "Makefile", "crates.txt", "HANDLES":
         shutil.copy(ROOT / name, here / "checkout")
-    before = os.getcwd()
-    os.chdir(here / "checkout")
-    run("-s -j3", ALL)
-    os.chdir(before)
+    run(here, "-s -j3", ALL)
     yield here
     shutil.rmtree(here)
 
@@ -66,7 +59,7 @@ def proved(tmp_path_factory):
 def make(folder, proved):
     shutil.copytree(proved, folder / "make")
     os.chdir("make/checkout")
-    return run
+    return functools.partial(run, folder / "make")
 
 
 def test_the_first_time(make):
@@ -104,11 +97,6 @@ def test_text65_is_not_proved(make):
     holds("crates/text65/out/incremental/kept", "// one\n// two\n")
 
 
-@rows("program words shown", [
-    ("elsewhere", "make", "-s -j3", "\ninfo65 7 of 9, stmt65 10 of 66 functions\n"),
-    ("on a terminal", "script", "-qec 'make -s -j3' /dev/null",
-     "\r\x1b[Kinfo65 7 of 9, stmt65 10 of 66 functions\r\x1b[K"),
-])
 def test_how_far_it_is(make, program, words, shown):
     if not shutil.which(program):
         pytest.skip(f"{program} is not installed")

@@ -2,16 +2,14 @@
 tests/rows/move65.txt."""
 import random
 import pytest
-from conftest import holds, listed, read, tables, write
+from conftest import holds, read, tables, write
 
 
-@listed()
 def test_runs(move65, given, words, status, out, err, after, stdin):
     """If it fails, it writes no file."""
     move65.does(given, words, status, out, err, after or "out.info", stdin)
 
 
-@listed()
 def test_says(move65, da65, as65, name65, groups, listing, said, status, ran):
     """Of the listing from $1000 on it says this. Behind the groups da65 and name65 accept it."""
     write("groups.info", groups)
@@ -35,7 +33,7 @@ def test_rounds(move65, da65, as65, trace65, name65, seed):
     if seed:
         write("image.bin", random.Random(seed).randbytes(3000))
     else:
-        as65(f"-S 0x1000 -o image.bin {write('words.s', tables('move65').texts['WORDS'])}")
+        as65(f"-S 0x1000 -o image.bin {write('words.s', tables(__name__)[0]['WORDS'])}")
     trace65("-S 0x1000 -o rounds.info image.bin")
     for turn in range(6):
         da65("-S 0x1000 -i rounds.info -o rounds.s image.bin", err=None)

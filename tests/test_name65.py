@@ -2,22 +2,19 @@
 trace65 proposes, is for test_trace65.py. Most rows are in tests/rows/name65.txt."""
 import re
 import pytest
-from conftest import ROOT, by_as65, command, holds, listed, read, same, write
+from conftest import ROOT, command, holds, read, same, write
 
 
-@listed()
 def test_runs(name65, given, words, status, out, err, after, stdin):
     name65.does(given, words, status, out, err, after, stdin)
 
 
-@listed()
 def test_writes(name65, info, listing, words, out):
     write("a.info", info)
     write("a.s", listing)
     name65(f"{words} -i a.info a.s", 0, out)
 
 
-@listed()
 def test_refuses(name65, da65, info, listing, words, message):
     write("a.info", info)
     write("a.s", listing)
@@ -34,15 +31,14 @@ def from_1000(groups, listing):
     return f" -S 0x1000 -i groups.info -o named.s {write('listing.s', listing)}"
 
 
-@listed()
 def test_names(name65, as65, groups, listing, wanted, words):
     """By these groups the listing becomes this text, and both have the same bytes."""
     name65(words + from_1000(groups, listing))
     holds("named.s", wanted)
-    same(by_as65(as65, 0x1000, "listing.s"), by_as65(as65, 0x1000, "named.s"), "other bytes")
+    as65("-S 0x1000 -o listing.bin listing.s")
+    as65("-S 0x1000 --compare listing.bin named.s")
 
 
-@listed()
 def test_refuses_groups(name65, groups, listing, message):
     """The listing is refused by these groups, and a file that is there stays as it was."""
     write("named.s", "kept\n")
@@ -52,8 +48,7 @@ def test_refuses_groups(name65, groups, listing, message):
 
 @pytest.mark.ca65
 def test_the_monitor_moves(name65, da65, as65, trace65):
-    """The guide's way: an instruction at the beginning of the monitor, whose filler goes, gives what its source with it
-    gives."""
+    """The guide's way: an instruction more, and filler less, gives what the source of the monitor gives with it."""
     def longer(text):
         return text.replace("\nreset:  cld", "\nreset:  cld\n        nop")
     da65("-i examples/board/board.info -o board.s", err=None)

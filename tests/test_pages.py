@@ -4,13 +4,12 @@ Each page has a folder of its own that looks like a checkout after `make`. A blo
   ```sh      commands, run in order; the words after `sh` are further programs that the block needs
   ```        an excerpt: its lines stand, one after the other, in what the last commands printed or in a file
 
-In tables, a command `bin/da65 ..` or `bin/as65 ..` is run. If a row has an information file or a command, and beside it
-the message `da65: ..` or the word nothing, the program must say that; so must it for the rows of
-docs/INFORMATION_FILE.md with a message. A section ends at the first block whose programs are missing. Then everything
-is installed, completed by bash and zsh, and uninstalled."""
-import glob, os, pathlib, random, re, shutil, subprocess
+A section ends at the first block whose programs are missing. In tables a command `bin/da65 ..` or `bin/as65 ..` runs,
+and an information file beside the message `da65: ..` or the word nothing has to give that. Then everything is
+installed, completed by bash and zsh, and uninstalled."""
+import glob, os, random, re, shutil, subprocess
 import pytest
-from conftest import MADE, ROOT, command, fails, lack, path_of, read, same, write
+from conftest import MADE, ROOT, command, fails, lack, read, same, write
 
 
 @pytest.fixture
@@ -18,22 +17,21 @@ def checkout(folder, monkeypatch, request):
     """A folder that has what a checkout has after `make`, in which nothing has to be built."""
     for name in "bin/made", "docs", "crates", "path", "home":
         os.makedirs(name)
-    os.remove("examples")
-    os.remove("names")
     for name in MADE:
         write("bin/made/" + ("da65_cli" if name == "da65" else name), "")
-        shutil.copy(path_of(request.config, name), "bin/" + name)
+        shutil.copy(request.getfixturevalue(name).path, "bin/" + name)
         os.symlink(folder / "bin" / name, "path/" + name)
+    os.remove("examples")
+    os.remove("names")
     for name in "examples", "names", "completions":
         shutil.copytree(ROOT / name, name)
-    shutil.copy(ROOT / "Makefile", ".")
-    for page in (ROOT / "docs").glob("*.[15]"):
-        shutil.copy(page, "docs")
+    for file, to in (ROOT / "Makefile", "."), (ROOT / "tests/stand_ins/ssh", "path"), *(
+            (page, "docs") for page in (ROOT / "docs").glob("*.[15]")):
+        shutil.copy(file, to)
     write("crates.txt", "")
-    shutil.copy(ROOT / "tests/stand_ins/ssh", "path")
     # SHELL is what a login sets: without it, parallel loses the status of a command that it runs elsewhere.
-    for name, value in ("SHELL", "/bin/sh"), ("HOME", f"{folder}/home"), ("DESTDIR", f"{folder}/installed"), (
-            "PATH", f"{folder}/path:{os.environ['PATH']}"):
+    for name, value in (("SHELL", "/bin/sh"), ("HOME", f"{folder}/home"), ("DESTDIR", f"{folder}/installed"),
+                        ("PATH", f"{folder}/path:{os.environ['PATH']}")):
         monkeypatch.setenv(name, value)
 
 
@@ -47,29 +45,25 @@ class Page:
     def does(self, commands):
         """They end with status 0."""
         run = subprocess.run(["bash", "-eu", "-o", "pipefail", "-c", commands], stdout=subprocess.PIPE,
-                             stderr=subprocess.STDOUT,
-                             stdin=subprocess.DEVNULL, timeout=300)
+                             stderr=subprocess.STDOUT, stdin=subprocess.DEVNULL, timeout=300)
         self.printed = run.stdout.decode("latin-1")
         if run.returncode:
             fails(f"{self.name}: status {run.returncode} of\n{commands}\n{self.printed}")
         self.ran += 1
 
     def has(self, lines):
-        """The lines stand, one after the other, in what the last commands printed, or in a text that the page has or
-        makes."""
-        names = [name for end in ("*.s", "*.info", "*.cfg", "*.inc", "examples/*.info", "examples/*.cfg",
-                                  "examples/board/*")
-                 for name in glob.glob(end) if os.path.isfile(name) and not name.endswith(".bin")]
+        """The lines stand, one after the other, in what the last commands printed, or in a file."""
+        names = [name for folder in ("", "examples/", "examples/board/") for end in ("s", "info", "cfg", "inc")
+                 for name in glob.glob(f"{folder}*.{end}")]
         texts = [self.printed, *(read(name).decode("latin-1") for name in names)]
         return any(f"\n{lines}\n" in "\n" + text.replace("\0", "").rstrip("\n") + "\n" for text in texts)
 
     def blocks(self):
         """Runs the blocks in their order."""
-        skipped = False
-        for heading, kind, text in re.findall(r"^(#.*)|^```(.*)\n((?s:.*?))^```$", self.text, re.M):
-            text = text.rstrip("\n")
-            skipped = skipped and not heading
-            if skipped or heading:
+        is_skipped = False
+        for heading, kind, text in re.findall(r"^(#.*)|^```(.*)\n((?s:.*?))\n*^```$", self.text, re.M):
+            is_skipped = is_skipped and not heading
+            if is_skipped or heading:
                 continue
             assert not kind or kind.split()[0] == "sh", f"{self.name}: a block of kind {kind}"
             if not kind:
@@ -78,7 +72,7 @@ class Page:
                 self.found += 1
             elif not all(map(shutil.which, kind.split()[1:])) or re.search("(ca|cl|ld)65", text) and lack("ca65"):
                 self.left_out += 1
-                skipped = True
+                is_skipped = True
             else:
                 self.does(text)
 
@@ -88,8 +82,7 @@ class Page:
         write("bom.info", "\xef\xbb\xbfGLOBAL { };")
         for row in re.findall(r"^\|.*", self.text, re.M):
             row = row.replace("` and in line 2 `", "\n").replace("` and a line feed |", "\n` |")
-            said = re.match(r"\| `([^`]+)` \| (`(da65: [^`]+)`|nothing \|)", row)
-            if said:
+            if said := re.match(r"\| `([^`]+)` \| (`(da65: [^`]+)`|nothing \|)", row):
                 text, message = said[1].replace(r"\|", "|"), said[3] or ""
                 mistake = f"bin/da65 -i {write('mistake.info', text.encode())} examples/three.bin"
                 run = subprocess.run(["bash", "-c", text if text.startswith("bin/da65") else mistake],
@@ -141,8 +134,7 @@ def test_example_of_da65_at(checkout, start, size):
 def options(name):
     """Those of the help text."""
     text = command(["bin/" + name, "-h"]).decode()
-    found = [word for line in re.findall(r"^  (-[^ ]+(?: --[^ ]+)?)", text, re.M)
-             for word in re.findall("-[^ ,]+", line)]
+    found = re.findall("-[^ ,]+", " ".join(re.findall(r"^  (-[^ ]+(?: --[^ ]+)?)", text, re.M)))
     assert len(found) >= 10, text
     return found
 
@@ -161,8 +153,7 @@ def zsh_completes(folder, line, last):
 zpty -w z "PS1=; fpath=($1 \\$fpath); autoload -Uz compinit; compinit -u -D; LISTMAX=0; COLUMNS=120; LINES=100"
 zpty -w z "print re''ady"
 zpty -r z out "*ready*"; zpty -w -n z "$2"$'\\t\\t'; zpty -r z out "*$3*"; print -r -- "$out" """)
-    return subprocess.run(["zsh", "-f", "-c", script, "-", folder, line, last], stdout=subprocess.PIPE,
-                          timeout=60).stdout.decode()
+    return command(["zsh", "-f", "-c", script, "-", folder, line, last], timeout=60).decode()
 
 
 @pytest.fixture
@@ -170,10 +161,10 @@ def installed(checkout, folder, request):
     """Everything installed under the programs' names with a prefix."""
     words = [f"DESTDIR={folder}/made", "PREFIX=/usr", f"PROGRAM_PREFIX={request.param}"]
     command(["make", "-s", "install", *words])
-    yield request.param, f"{folder}/made/usr"
+    yield request.param, folder / "made/usr"
     command(["make", "-s", "uninstall", *words])
-    assert not [path for path in pathlib.Path(folder / "made").rglob("*") if path.is_file()
-                or path.name == "names"], "left after uninstall"
+    left = [path for path in (folder / "made").rglob("*") if path.is_file() or path.name == "names"]
+    assert not left, "left after uninstall"
 
 
 with_prefix = pytest.mark.parametrize("installed", ("", "proved-"), ids=("by its name", "by another name"),
@@ -187,10 +178,8 @@ def test_what_is_installed(installed):
         f"bin/{name}", f"share/man/man1/{name}.1", f"share/bash-completion/completions/{name}",
         f"share/zsh/site-functions/_{name}")]
     files += [f"share/man/man5/{prefix}da65.info.5"]
-    files += [f"share/{prefix}da65/names/{path.name}" for path in (ROOT / "names").iterdir()
-              if path.suffix in (".inc", ".info")]
-    assert sorted(files) == sorted(str(path.relative_to(made)) for path in pathlib.Path(made).rglob("*")
-                                   if path.is_file())
+    files += [f"share/{prefix}da65/names/{path.name}" for path in (ROOT / "names").glob("*.in*")]
+    assert sorted(files) == sorted(str(path.relative_to(made)) for path in made.rglob("*") if path.is_file())
     for name in MADE:
         same(read("bin/" + name), read(f"{made}/bin/{prefix}{name}"), "another program")
 

@@ -1,12 +1,10 @@
-"""Counts the instructions that the programs take, by valgrind's callgrind: da65 beside cc65's da65 on the same bytes,
-as65 beside ca65 and ld65, name65 and html65 beside as65, and trace65 by itself. For large information files it also
-measures the most memory. Each row has the figure of docs/GATE.md, and fails if it is more than a twentieth above that.
-Runs differ by less than a thousandth. Twice as much takes at most 2.3 times the instructions. The end of the run has
-the figures."""
-import random, re, shutil
+"""Counts instructions by valgrind's callgrind: of da65 beside cc65's da65 on the same bytes, as65 beside ca65 and ld65,
+name65 and html65 beside as65, and trace65 by itself. Each row has the figure of docs/GATE.md, and fails if it is more
+than a twentieth above that; runs differ by less than a thousandth. Twice as much takes at most 2.3 times the
+instructions. The end of the run has the figures."""
+import bisect, functools, itertools, random, re
 import pytest
-from conftest import ROOT, Program, listed, read, same, tables, write
-from large import groups, information, sharing
+from conftest import ROOT, Program, read, same, tables, write
 
 pytestmark = [pytest.mark.valgrind, pytest.mark.ca65]
 draw = random.Random(1)
@@ -14,13 +12,8 @@ draw = random.Random(1)
 
 def dense():
     """Pairs of immediates, one after the other."""
-    x, data = 0, b""
-    for _ in range(16384):
-        x = (x * 75 + 74) % 65537
-        y = (x * 75 + 74) % 65537
-        data += bytes((0xA9, x % 256, 0xA2, y // 257))
-        x = y
-    return data
+    numbers = list(itertools.accumulate(range(32769), lambda number, _: (number * 75 + 74) % 65537))
+    return b"".join(bytes((0xA9, a % 256, 0xA2, b // 257)) for a, b in zip(numbers[1::2], numbers[2::2]))
 
 
 RANDOM = draw.randbytes(65536)
@@ -46,12 +39,11 @@ INFO = {
                         for k in range(0, 65536, 64)),
     "segment": 'SEGMENT { START $1000; END $1001; NAME "S"; };\n', "label": 'LABEL { ADDR $1000; NAME "entry"; };\n',
     "comment": 'LABEL { ADDR $1000; NAME "entry"; COMMENT "the entry"; };\n',
-    # What people run: a few bytes, a few tables and names. What is done once whatever there is shows most. (cc65's has
-    # no SIZE.)
-    "hello": tables("speed").texts["HELLO"],
+    # What people run; what is done once whatever there is shows most.
+    "hello": tables(__name__)[0]["HELLO"],
 }
 HALVES = "".join(f"n{n}: lda #<n{n * 7919 % 8000}\n ldx #>n{n * 7919 % 8000}\n" for n in range(8000))
-TEXTS = {
+LISTINGS = {
     "halves": HALVES, "three": "here:   lda     #$01\n        sta     $10\n        jmp     here\n",
     "lobytes": "".join(f"n{n} := {8192 + n}\n" for n in range(3000)) + "".join(
         f"{',' if n % 8 else f'{chr(10)} .lobytes '}n{n * 7919 % 3000}" for n in range(3000)) + "\n",
@@ -59,24 +51,62 @@ TEXTS = {
 }
 
 
+# Groups of an information file, or lines with a definition, each with an address and a size. Ranges and segments have
+# one byte each.
+LABEL = 'LABEL {{ ADDR ${0:04X}; NAME "n{0:04x}"; }};\n'
+SIZED = 'LABEL{{ADDR ${0:04X};NAME "n{0:04x}";SIZE {1};}}\n'
+GROUPS = {
+    "labels": LABEL, "descending": LABEL, "shuffled": LABEL, "ends": SIZED, "nested": SIZED,
+    "ranges": "RANGE {{ START ${0:04X}; END ${0:04X}; TYPE CODE; }};\n",
+    "segments": 'SEGMENT{{START ${0:04X};END ${0:04X};NAME "s{0:04x}";}};\n',
+    "definitions": "n{0:04x} := ${0:04X}\n", "inlines": "#: INLINE {{ ADDR ${0:04X}; SIZE 3; }};\n",
+}
+
+
+def groups(kind, count):
+    """That many groups. Labels that are `ends` end at one address, and those that are `nested` lie in each other."""
+    return "".join(GROUPS[kind].format({"descending": count - 1 - k, "shuffled": k * 40503 % 65536}.get(kind, k),
+                                       {"ends": count - k, "nested": 65536 - 2 * k}.get(kind, 1))
+                   for k in range(count))
+
+
+def sharing(count, factor, scale, modulus, room):
+    """That many names with a hash below `room`, so that they share a slot. A letter adds to the hash so far times the
+    factor, so the hash of a name is that of its first half times a power, and that of its second half."""
+    def hashed(word):
+        return scale * functools.reduce(lambda value, letter: value * factor + ord(letter), word, 0) % modulus
+
+    words, found = ["".join(four)[::-1] for four in itertools.product("abcdefghijklmnopqrstuvwxyz", repeat=4)], []
+    ends = sorted((hashed(word), word) for word in words)
+    for first in words:
+        low = -hashed(first) * factor**4 % modulus
+        at = bisect.bisect(ends, (low, ""))
+        while at < len(ends) and ends[at][0] < low + room:
+            found.append(first + ends[at][1])
+            at += 1
+        if len(found) >= count:
+            return found[:count]
+
+
+def information(kind, count):
+    """That many groups, or lines of an include file. Those that are `colliding` share one of da65's 1,048,576 slots."""
+    if kind == "definitions":
+        return f'ASMINC {{ FILE "{write(f"{count}.inc", groups(kind, count))}"; }};'
+    if kind == "colliding":
+        return "".join(f'LABEL {{ ADDR ${k:04X}; NAME "{name}"; }};\n'
+                       for k, name in enumerate(sharing(count, 413293, 1, 1 << 20, 1)))
+    return groups(kind, count)
+
+
 def instructions(program, words, status=0):
     """How many instructions it takes, with this status."""
-    run = Program(shutil.which("valgrind")).run(
-        ["--tool=callgrind", "--callgrind-out-file=/dev/null", program, *words.split()], timeout=600)
-    run.gives(status, None, None)
-    return int(re.search(rb"Collected : (\d+)", run.err)[1])
-
-
-def memory(program, words):
-    """The most memory that it holds, in kilobytes."""
-    run = Program("/usr/bin/time").run(["-f", "%M", program, *words.split()]).gives(0, None, None)
-    return int(run.err.split()[-1])
+    words = ["--tool=callgrind", "--callgrind-out-file=/dev/null", program, *words.split()]
+    return int(re.search(rb"Collected : (\d+)", Program("valgrind")(words, status, None, None, timeout=600).err)[1])
 
 
 @pytest.fixture
 def shows(record_property, request):
-    """Keeps a figure for the end of the run. The instructions of a program are at most a twentieth above so many
-    percent of others."""
+    """Keeps a figure for the end of the run: at most a twentieth above so many percent of other instructions."""
     def show(limit, ours, theirs, more=""):
         name, ratio = re.sub(r".*\[(.*)\]", r"\1", request.node.name), 100 * ours / theirs
         record_property("shown", f"{name:44} {ours:12} {theirs:12} {ratio:6.1f} %{more}")
@@ -88,25 +118,23 @@ def shows(record_property, request):
 def text(da65, as65):
     """A text, or the listing of data, or of the pairs of halves as numbers, by its name."""
     def made(name):
-        if name in TEXTS:
-            return TEXTS[name]
+        if name in LISTINGS:
+            return LISTINGS[name]
         data, _, info = name.partition(" ")
+        image, info = DATA.get(data), INFO.get(info, "")
         if data == "numbers":
-            as65(f"-S 0 -o halves.bin {write('halves.s', HALVES)}")
-            named = "".join(f'LABEL {{ ADDR ${4 * n:04X}; NAME "n{n}"; }};\n' for n in range(8000))
-        info, image = (named, read("halves.bin")) if data == "numbers" else (INFO.get(info, ""), DATA[data])
+            image = as65(f"-S 0 {write('halves.s', HALVES)}", 0, None).out
+            info = "".join(f'LABEL {{ ADDR ${4 * n:04X}; NAME "n{n}"; }};\n' for n in range(8000))
         return da65(["-S", "0", "-i", write("l.info", info), write("l.bin", image)], 0, None).out
     return made
 
 
-@listed()
 def test_da65(da65, shows, limit, data, words, info):
     write("a.info", "".join(INFO[name] for name in info.split()))
-    words = f"{words} -i a.info {write('image.bin', DATA[data])}"
-    shows(limit, instructions(da65.path, words + " -o ours.s"), instructions("da65", words + " -o theirs.s"))
+    words += f" -i a.info {write('image.bin', DATA[data])} -o out.s"
+    shows(limit, instructions(da65.path, words), instructions("da65", words))
 
 
-@listed()
 def test_da65_with_include_files(da65, shows, limit, lines, width, fill):
     comment = "; a line of comment that says something about what stands below it\n"
     for k in range(16):
@@ -114,18 +142,18 @@ def test_da65_with_include_files(da65, shows, limit, lines, width, fill):
         included = "".join(f"n{a:04x} := ${a:04X}{remark}" for a in range(k * lines, (k + 1) * lines))
         write(f"{k}.inc", included + (fill - len(included)) // len(comment) * comment)
     write("a.info", "".join(f'ASMINC {{ FILE "{k}.inc"; }};\n' for k in range(16)))
-    words = f"-S 0 -i a.info {write('image.bin', DATA['kilobyte'])}"
-    shows(limit, instructions(da65.path, words + " -o ours.s"), instructions("da65", words + " -o theirs.s"))
+    words = f"-S 0 -i a.info {write('image.bin', DATA['kilobyte'])} -o out.s"
+    shows(limit, instructions(da65.path, words), instructions("da65", words))
 
 
-@listed()
 def test_large_information_files(da65, shows, kind, count, half, limit):
     """What it takes to list one byte with that many groups or lines, and with half as many."""
     write("one.bin", "\xea")
     words, before = "-i a.info -S 0 one.bin -o out.s", None
     for number, most in (count // 2, half), (count, limit):
         write("a.info", information(kind, number))
-        here, there = memory(da65.path, words), memory("da65", words)
+        here, there = (int(Program("/usr/bin/time")(["-f", "%M", program, *words.split()], err=None).err.split()[-1])
+                       for program in (da65.path, "da65"))
         ours = instructions(da65.path, words)
         shows(most, ours, instructions("da65", words),
               f" for {number}; kilobytes {here:8} {there:8} {100 * here / there:7.1f} %")
@@ -134,26 +162,27 @@ def test_large_information_files(da65, shows, kind, count, half, limit):
 
 
 def files(what, kind, count):
-    """The ends of names, and texts, of that many groups for the bytes of an image; of jumps beside as many labels; of
-    definitions; of digits; of stretches that differ, in lines or in one line."""
-    def jumps():
-        return b"".join(b"\x4c" + (32768 + k * 7919 % count).to_bytes(2, "little") for k in range(count))
+    """The texts of files by the ends of their names, with so many of something. Names that are `sharing` share
+    one of the 262,144 slots that as65 has for a listing of 4 MiB and more."""
+    numbers = range(count)
+    return {
+        "bytes": lambda: {"info": information(kind, count), "bin": count * b"\xea"},
+        "jumps": lambda: {"info": groups(kind, count), "bin": b"".join(
+            b"\x4c" + (32768 + n * 7919 % count).to_bytes(2, "little") for n in numbers)},
+        "definitions": lambda: {"s": groups("definitions", count) + " nop\n"},
+        "sharing": lambda: {"s": f"; {'':<{1 << 22}}\n nop\n" + "".join(
+            f"{name} := 0\n" for name in sharing(count, 0x9E3779B97F4A7C15, 0x9E3779B97F4A7C15, 1 << 50, 1 << 32))},
+        "lines": lambda: {"s": count * " .byte 0,1\n", "bin": bytes(2 * count)},
+        "used": lambda: {"s": "".join(f"n{n}: lda n{n * 7919 % count}\n" for n in numbers)},
+        "values": lambda: {"s": "".join(f"n{n} := 4\n" for n in numbers) + "".join(
+            f" .byte n{n * 7919 % count}\n" for n in numbers)},
+        "references": lambda: {"s": "v := 4\n" + count * " .byte v\n"},
+        "texts": lambda: {"s": count * ' .byte "&<>"\n .byte 1,2\n'},
+        "digits": lambda: {"s": f"{kind}{0:0{count}}1\n"},
+        "line": lambda: {"s": " .byte 0,1" + (count - 1) * ",0,1" + "\n", "bin": bytes(2 * count)},
+    }[what]()
 
-    return {"bytes": lambda: {"info": information(kind, count), "bin": count * b"\xea"},
-            "jumps": lambda: {"info": groups(kind, count), "bin": jumps()},
-            "definitions": lambda: {"s": groups("definitions", count) + " nop\n"},
-            "sharing": lambda: {"s": sharing(count)},
-            "lines": lambda: {"s": count * " .byte 0,1\n", "bin": bytes(2 * count)},
-            "used": lambda: {"s": "".join(f"n{n}: lda n{n * 7919 % count}\n" for n in range(count))},
-            "values": lambda: {"s": "".join(f"n{n} := 4\n" for n in range(count)) + "".join(
-                f" .byte n{n * 7919 % count}\n" for n in range(count))},
-            "references": lambda: {"s": "v := 4\n" + count * " .byte v\n"},
-            "texts": lambda: {"s": count * ' .byte "&<>"\n .byte 1,2\n'},
-            "digits": lambda: {"s": f"{kind}{0:0{count}}1\n"},
-            "line": lambda: {"s": " .byte 0,1" + (count - 1) * ",0,1" + "\n", "bin": bytes(2 * count)}}[what]()
 
-
-@listed()
 def test_pace(request, tool, count, words, files_, kind, status):
     taken = []
     for number in count, 2 * count:
@@ -163,7 +192,6 @@ def test_pace(request, tool, count, words, files_, kind, status):
     assert taken[1] <= 2.3 * taken[0], taken
 
 
-@listed()
 def test_as65(as65, shows, text, limit, name):
     write("a.s", text(name))
     write("flat.cfg", "MEMORY { MAIN: start = 0, size = $10000, file = %O; } SEGMENTS { CODE: load = MAIN; }")
@@ -173,7 +201,6 @@ def test_as65(as65, shows, text, limit, name):
     shows(limit, ours, theirs)
 
 
-@listed()
 def test_name65(as65, name65, shows, text, limit, name, words, step):
     write("a.s", text(name))
     pairs = [f"#: HALVES {{ LOW ${4 * n + 1:04X}; HIGH ${4 * n + 3:04X}; }};\n"
@@ -191,7 +218,6 @@ def test_html65(as65, html65, shows, text):
     assert len(read("a.html")) <= 12 * len(listing)
 
 
-@listed()
 def test_trace65(trace65, record_property, request, limit, data, groups_):
     """The whole takes at most 2.3 times what its first half takes, or half of the groups."""
     def count(image, number):
@@ -199,9 +225,9 @@ def test_trace65(trace65, record_property, request, limit, data, groups_):
         words = f"-i {write('a.info', info)} " if number else ""
         return instructions(trace65.path, f"-S 0 --entry 0 {words}{write('image.bin', image)}")
 
-    whole = count(DATA[data], groups_ or 0)
+    image, number = DATA[data], groups_ or 0
+    whole = count(image, number)
     record_property("shown", f"trace65: {request.node.callspec.id:35} {whole:12}")
     assert whole <= 1000000 * limit, f"{whole} instructions of trace65, more than {limit} million"
-    if len(DATA[data]) > 1 and groups_ != 1:
-        assert whole <= 2.3 * (count(DATA[data], groups_ // 2) if groups_
-                               else count(DATA[data][:len(DATA[data]) // 2], 0))
+    if len(image) > 1 and number != 1:
+        assert whole <= 2.3 * (count(image, number // 2) if number else count(image[:len(image) // 2], 0))
