@@ -1,6 +1,6 @@
 """What the programs do with files: each row is run by each program, as65 also with --compare, with few options and with
 all. Expected is what the man pages say. tests/rows/files.txt has what differs from program to program."""
-import itertools, os, shutil, signal, subprocess
+import itertools, os, re, shutil, signal, subprocess
 import pytest
 from conftest import Program, holds, in_pieces, raw, read, same, shell, tables, write
 
@@ -177,10 +177,11 @@ def test_a_faulty_information_file(use):
     use.go().refuses("info:1: something else expected")
 
 
-@each(name=("", "in/a\nb\nc"))
+@each(name=("", "in/a\nb\nc", "in/a\x1b[2J\x7f\xc2\x9bb"))
 def test_an_input_called(use, name):
+    """A message shows a line feed as \\n, and each other control as ?."""
     use.rename(name).go()
-    use.name[use.main] = name.replace("\n", "\\n")
+    use.name[use.main] = re.sub("[\x1b\x7f\x9b]", "?", name.replace("\n", "\\n"))
     use.refuses("cannot read @")
 
 

@@ -1,5 +1,5 @@
-"""What `make` does with the prover, for which tests/stand_ins/rt stands in. Some rows are in
-tests/rows/make.txt."""
+"""What `make` does with the prover, for which tests/stand_ins/rt stands in; and that the gate needs ca65.
+Some rows are in tests/rows/make.txt."""
 import functools, os, re, shutil
 import pytest
 from conftest import MADE, ROOT, Program, holds, read, write
@@ -110,3 +110,14 @@ def test_how_far_it_is(make, program, words, shown):
 def test_one_at_a_time(make):
     write("crates/text65/src/lib.rt", "// two\n")
     make("-s -j1", above("text65"), env={"WAITS": "0"})
+
+
+def test_the_gate_without_ca65(folder, apt_get, ca65, status, said):
+    """.ci/run with stand-ins for apt-get, sudo and make."""
+    os.mkdir("path")
+    for name in "bash", "env", "dirname", "id", "timeout":
+        os.symlink(shutil.which(name), "path/" + name)
+    for name, text in ("apt-get", apt_get), ("sudo", 'shift; exec env "$@"'), ("make", 'echo "$@"'):
+        os.chmod(write("path/" + name, f"#!/bin/sh\n{text}\n"), 0o755)
+    ran = Program(ROOT / ".ci/run").run(env={"PATH": f"{folder}/path", "CA65": ca65}).gives(status, None, None)
+    assert (ran.out + ran.err).decode() == said
