@@ -39,7 +39,7 @@ def tables(file):
         return (float(cell) if "." in cell else int(cell)) if name[-1] == "#" and cell else cell
 
     path = ROOT / f"tests/rows/{file.removeprefix('test_')}.txt"
-    for line in path.read_text().splitlines() if path.exists() else ():
+    for number, line in enumerate(path.read_text().splitlines() if path.exists() else (), 1):
         if match := re.match(r"([A-Z][A-Z0-9_]*) =(?: (.*))?$", line):
             last = match[1]
             texts[last] = text(match[2] or "")
@@ -50,9 +50,16 @@ def tables(file):
             found[match[1]] = match[2].replace("#", "").split(" | "), table
         elif line and line[0] != "#":
             name, *cells = (text(cell.removeprefix(" ")) for cell in re.split(r" \|(?= |$)", line))
+            if "{}" not in name and len(cells) > len(names):
+                raise pytest.UsageError(f"{path}:{number}: {len(cells)} cells after the name, and {len(names)} parameters")
             for part in cells[len(names):] or ["{}"]:
                 row = [cell.replace("{}", part) for cell in cells[:len(names)]] + [""] * (len(names) - len(cells))
-                table.append((name.replace("{}", part), *map(value, names, row)))
+                if name.replace("{}", part) in (row[0] for row in table):
+                    raise pytest.UsageError(f"{path}:{number}: a row above has this name")
+                try:
+                    table.append((name.replace("{}", part), *map(value, names, row)))
+                except ValueError as error:
+                    raise pytest.UsageError(f"{path}:{number}: {error}")
     return texts, found
 
 
@@ -84,9 +91,10 @@ def fails(what, wanted=None, given=None):
         at = max(0, at - 200) if at > 600 else 0
         for kind, data in ("expected", wanted), ("given", given):
             lines = "\n".join("    " + repr(line)[1:] for line in data[at:at + 1000].splitlines(keepends=True))
-            what += f"\n{kind}{f' from byte {at}' if at else ''}: {len(data)} bytes in all\n{lines}"
+            what += f"\n{kind}{f' from byte {at}' if at else ''}: {len(data)} bytes\n{lines}"
             what += "\n    .." if data[at + 1000:] else ""
-    pytest.fail(what, pytrace=False)
+    test = os.environ.get("PYTEST_CURRENT_TEST", "").rpartition(" ")[0]
+    pytest.fail(f"{what}\nto run this test alone: pytest {shlex.quote(test)}", pytrace=False)
 
 
 def same(wanted, given, what):
@@ -112,7 +120,8 @@ class Run(collections.namedtuple("Run", "line status out err counts")):
     def gives(self, status=0, out="", err=""):
         """It ended with this status and wrote these texts; None is any text, as is what went elsewhere."""
         if self.status != status:
-            fails(f"{self.line}\nstatus {self.status}, expected {status}; standard error", err or "", self.err or "")
+            same(err or "", self.err or "", f"{self.line}\nstatus {self.status}, expected {status}; standard error")
+            fails(f"{self.line}\nstatus {self.status}, expected {status}")
         for stream, wanted, given in (("output", out, self.out), ("error", err, self.err)):
             if wanted is not None and given is not None:
                 same(wanted, given, f"{self.line}\nstandard {stream}")
@@ -134,8 +143,8 @@ class Program:
             env.update({"SHIM_" + name: str(value) for name, value in shim.items()},
                        LD_PRELOAD=shim_folder().name + "/shim.so", SHIM_COUNTS=os.path.abspath("counts"))
         given = {"input": raw(stdin)} if isinstance(stdin, (str, bytes)) else {"stdin": stdin}
-        set_before = " ".join(f"{name}={shlex.quote(value)}" for name, value in env.items())
-        line = f"cd {os.getcwd()} && {set_before} {shlex.join(command)}"
+        set_before = "".join(f"{name}={shlex.quote(value)} " for name, value in env.items())
+        line = f"cd {os.getcwd()} && {set_before}{shlex.join(command)}"
         if given.get("input"):
             line += f" <<<{shlex.quote(stdin if isinstance(stdin, str) else repr(stdin)[2:-1])}"[:300]
         line = line.encode(errors="backslashreplace").decode()
