@@ -1,8 +1,8 @@
 -- How a line changes that groups touch.
 --
 -- Only the operands change whose bytes groups name, and the blanks before a comment. In the place of a number stands half of an address by a
--- name, in that of a word what one name is above another, and in that of the address of an instruction an address by a name. A `.byte` of
--- which each byte becomes the same half is `.lobytes` or `.hibytes`.
+-- name, in that of a word an address by a name or what one name is above another, and in that of the address of an instruction an address by a
+-- name. A `.byte` of which each byte becomes the same half is `.lobytes` or `.hibytes`.
 use Rattle.std.specs.Prelude.{◌≡◌, ◌++◌, ℕ, ◌+◌, ◌-◌, Bool, true, false, List, [], ◌∷◌, codes, decimal, length, not, ◌==◌, ◌&&◌, nat_le, nat_lt, ◌||◌, if◌then◌else◌, Option, Some, None}
 use Rattle.std.specs.List.{list_all, list_any, range_with_len}
 use Rattle.text65.specs.Names.{has_name_form, is_blank}
@@ -89,12 +89,16 @@ directive_of (style.Halves Low) = codes ".lobytes"
 directive_of (style.Halves High) = codes ".hibytes"
 directive_of style.Words = codes ".word"
 
+-- an address by a name as it stands in a list: this half of it among bytes, the address itself among halves or words
+abbrev pub address_text : Style → Half → Reference → List ℕ
+address_text style.Bytes which r = half_text which r
+address_text _ which r = reference_text r
+
 -- An operand of a list, with its first byte at an address, as it was and as it is: as before if no group names a byte of it; else a number,
 -- and in its place what the list has there.
 pub data Becomes (scope : Scope) : Style → ℕ → List ℕ → List ℕ → Type 0 where
   kept : {s : Style} {at : ℕ} {text : List ℕ} → may_keep s ≡ true → names_one scope.named at (at + count_of s text) ≡ false → Becomes scope s at text text
-  half : {at : ℕ} {text : List ℕ} (which : Half) (r : Reference) → IsNumber scope.language text → scope.named at ≡ true → IsByName r → Becomes scope style.Bytes at text (half_text which r)
-  alone : {at : ℕ} {text : List ℕ} (which : Half) (r : Reference) → IsNumber scope.language text → scope.named at ≡ true → IsByName r → Becomes scope (style.Halves which) at text (reference_text r)
+  by_name : {s : Style} {at : ℕ} {text : List ℕ} (which : Half) (r : Reference) → IsNumber scope.language text → scope.named at ≡ true → IsByName r → Becomes scope s at text (address_text s which r)
   difference : {at : ℕ} {text : List ℕ} (to from : List ℕ) → IsNumber scope.language text → scope.named at ≡ true → has_name_form to ≡ true → has_name_form from ≡ true → Becomes scope style.Words at text (to ++ codes " - " ++ from)
 
 -- a blank, or one of `,<>()`

@@ -66,10 +66,10 @@ pub fn named_text(
     /// group touches a line if the line gives a byte that the group names, or is a constant line whose value the
     /// group names; with `--used`, groups touch every constant line. Of a touched line that gives bytes only the
     /// operands change whose bytes groups name, and the blanks before a comment. In the place of a number stands
-    /// `<NAME` or `>NAME`, also with what is added or subtracted; in that of a number of a `.word`, `TO - FROM`; in
-    /// that of the address of an instruction whose first byte a group names, a name with what is added or
-    /// subtracted. Each operand that a group names changes so, or nothing is written. A `.byte` all of whose
-    /// operands become halves without a sign is `.lobytes` or `.hibytes`.
+    /// `<NAME` or `>NAME`, also with what is added or subtracted; in that of a number of a `.word`, a name with what
+    /// is added or subtracted, or `TO - FROM`; in that of the address of an instruction whose first byte a group
+    /// names, a name with what is added or subtracted. Each operand that a group names changes so, or nothing is
+    /// written. A `.byte` all of whose operands become halves without a sign is `.lobytes` or `.hibytes`.
     ///
     /// A constant line is left out only with `--used`. It moves after the last line if a group names its value and
     /// that is not before the end of the text: there a line defines the same name with the same value, `NAME := * +

@@ -1,8 +1,8 @@
 //! The operands of a line, and what stands in their places.
 
-ghost use Rattle.std.specs.Prelude.{◌≡◌, IsTrue, OnOk};
+ghost use Rattle.std.specs.Prelude.{◌≡◌, ◌++◌, IsTrue, OnOk};
 ghost use Rattle.std.specs.List.{list_all};
-ghost use Rattle.name65.specs.Changes.{IsValue, count_of, directive_of, is_between, may_keep, size_of};
+ghost use Rattle.name65.specs.Changes.{IsValue, address_text, count_of, directive_of, is_between, may_keep, size_of};
 ghost use Rattle.name65.specs.Written.{AppendsItem, IsNamedNumber, Replaces, scope_seen};
 
 use crate::complaint::{Complaint, Refusal};
@@ -10,6 +10,7 @@ use crate::marks::has_mark;
 use crate::plan::Plan;
 use crate::reference::{Reference, put_half, put_reference};
 use crate::wishes::{Wish, Wished, Wishes};
+use std::alloc::AllocError;
 use stmt65::{Datum, Half, Language, Places, Span, Value, read_value};
 use text65::{has_name_form, is_blank};
 
@@ -73,8 +74,8 @@ pub fn count_of(style: Style, text: &[u8]) -> u64
 pub enum Operand<'t> {
     /// The operand itself.
     Kept,
-    /// `<NAME`, `>NAME`, or that of what is added to the name or subtracted from it.
-    Half(Half, Reference<'t>),
+    /// An address by a name: this half of it in a list of bytes, the address itself in one of halves or words.
+    Address(Half, Reference<'t>),
     /// `TO - FROM`.
     Difference(&'t [u8], &'t [u8]),
 }
@@ -122,6 +123,12 @@ impl<'w, 't, 'l> Operands<'w, 't, 'l> {
         self.places.end()
     }
 
+    /// Whether a number whose first byte is at an address is this half of another address, or a word that is that address.
+    fn is_address(&self, address: u64, half: Half, reference: Reference<'t>) -> bool {
+        let next = address.saturating_add(1);
+        self.size == 1 || half == Half::Low && self.wishes.is_half(next, Half::High, reference)
+    }
+
     /// What stands in the place of a number whose first byte is at an address.
     fn of_number(&self, address: u64) -> Result<Operand<'t>, Refusal> {
         match self.wishes.at(address) {
@@ -130,7 +137,9 @@ impl<'w, 't, 'l> Operands<'w, 't, 'l> {
                 Ok(Operand::Kept)
             }
             Some(wished) => match wished.wish {
-                Wish::Half(half, reference) if self.size == 1 => Ok(Operand::Half(half, reference)),
+                Wish::Half(half, reference) if self.is_address(address, half, reference) => {
+                    Ok(Operand::Address(half, reference))
+                }
                 Wish::Difference(name, other) if self.size == 2 => {
                     Ok(Operand::Difference(name, other))
                 }
@@ -214,8 +223,24 @@ fn put_kept(out: &mut Vec<u8>, plan: &Plan<'_, '_>, item: &Item<'_>) -> Result<(
     Ok(out.extend_from_slice(item.was)?)
 }
 
-/// Appends half of an address in the place of an operand. Fails unless that is a number that a group names.
-fn put_named_half(
+/// Appends an address by a name as it stands in a list.
+fn put_in_list(
+    out: &mut Vec<u8>,
+    style: Style,
+    half: Half,
+    reference: Reference<'_>,
+) -> Result<(), AllocError>
+    ensures { OnOk result (out.new.items
+        ≡ out.old.items ++ address_text style half reference.entry) }
+{
+    match style {
+        Style::Bytes => put_half(out, half, reference),
+        Style::Halves(_) | Style::Words => put_reference(out, reference),
+    }
+}
+
+/// Appends an address in the place of an operand. Fails unless that is a number that a group names.
+fn put_named(
     out: &mut Vec<u8>,
     plan: &Plan<'_, '_>,
     item: &Item<'_>,
@@ -227,11 +252,7 @@ fn put_named_half(
     if !is_named_number(plan, item) || !has_name_form(reference.name) {
         return Err(Refusal::Changed);
     }
-    match item.style {
-        Style::Bytes => Ok(put_half(out, half, reference)?),
-        Style::Halves(_) => Ok(put_reference(out, reference)?),
-        Style::Words => Err(Refusal::Changed),
-    }
+    Ok(put_in_list(out, item.style, half, reference)?)
 }
 
 /// Appends a difference in the place of an operand. Fails unless that is a word that a group names.
@@ -267,7 +288,7 @@ fn put_operand(
 {
     match operand {
         Operand::Kept => put_kept(out, plan, item),
-        Operand::Half(half, reference) => put_named_half(out, plan, item, half, reference),
+        Operand::Address(half, reference) => put_named(out, plan, item, half, reference),
         Operand::Difference(to, from) => put_difference(out, plan, item, to, from),
     }
 }

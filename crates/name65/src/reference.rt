@@ -8,7 +8,7 @@ use std::alloc::AllocError;
 use stmt65::Half;
 
 /// How far an address is from the value of a name.
-#[derive(Clone, Copy)]
+#[derive(Clone, Copy, PartialEq, Eq)]
 pub enum Offset {
     Zero,
     Plus(u16),
@@ -16,7 +16,7 @@ pub enum Offset {
 }
 
 /// An address by a name of the listing: `NAME`, `NAME+n` or `NAME-n`.
-#[derive(Clone, Copy)]
+#[derive(Clone, Copy, PartialEq, Eq)]
 pub struct Reference<'t> {
     pub name: &'t [u8],
     pub offset: Offset,

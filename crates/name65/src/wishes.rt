@@ -276,6 +276,19 @@ impl<'t> Wishes<'t> {
         self.by_address.get(address)
     }
 
+    /// Whether this half of an address is wished to stand at another.
+    pub fn is_half(&self, at: u64, half: Half, reference: Reference<'_>) -> bool {
+        match self.at(at) {
+            Some(
+                Wished {
+                    wish: Wish::Half(found, address),
+                    ..
+                },
+            ) => found == half && address == reference,
+            _ => false,
+        }
+    }
+
     /// Whether the constant line of this name is to be left out.
     pub fn is_left_out(&self, name: &[u8]) -> bool {
         self.names.is_left_out(name)
