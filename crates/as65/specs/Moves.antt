@@ -1,10 +1,24 @@
 -- Where labels leave the address in their name.
-use Rattle.std.specs.Prelude.{◌≡◌, ◌==◌, ℕ, Bool, ◌+◌, ◌-◌, List, [], ◌∷◌, ◌++◌, Option, Some, None, codes, decimal, nat_lt, option_to_list, if◌then◌else◌}
+use Rattle.std.specs.Prelude.{◌≡◌, ◌==◌, ◌&&◌, ℕ, Bool, ◌+◌, ◌-◌, ◌*◌, List, [], ◌∷◌, ◌++◌, Option, Some, None, codes, decimal, length, nat_le, nat_lt, option_to_list, slice_index, if◌then◌else◌}
 use Rattle.std.specs.String.{string_bytes}
 use Rattle.text65.specs.Digits.{digits4}
 use Rattle.stmt65.specs.Words.{SourceLine, Statement, source_addresses, source_readings}
-use Rattle.as65.specs.NamedStart.{address_in_name}
 use Rattle.as65.specs.Types.{Failure, Label, Memory, Moved, Own, Refused, Source}
+
+-- a hex digit as da65 writes it
+abbrev pub digit : ℕ → Option ℕ
+digit b = if nat_le 48 b && nat_le b 57 then Some (b - 48) else (if nat_le 65 b && nat_le b 70 then Some (b - 55) else None)
+
+abbrev pub number4 : Option ℕ → Option ℕ → Option ℕ → Option ℕ → Option ℕ
+number4 (Some a) (Some b) (Some c) (Some d) = Some (a * 4096 + b * 256 + c * 16 + d)
+number4 _ _ _ _ = None
+
+-- the address in a name of the form LXXXX
+unfoldable pub address_in_name : List ℕ → Option ℕ
+address_in_name name =
+    if length name == 5 && slice_index name 0 == 76
+    then number4 (digit (slice_index name 1)) (digit (slice_index name 2)) (digit (slice_index name 3)) (digit (slice_index name 4))
+    else None
 
 -- of a name with this address, at a line
 abbrev pub label_named : ℕ → ℕ → Option ℕ → Option Label

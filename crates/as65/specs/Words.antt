@@ -14,10 +14,9 @@ unfoldable pub use Rattle.as65.specs.FaultyLine.{about}
 pub use Rattle.as65.specs.Image.{IsFailureOf, IsNoImage}
 pub use Rattle.as65.specs.Information.{placed_at}
 pub use Rattle.as65.specs.Labels.{label_line, labels_of, source_labels}
-pub use Rattle.as65.specs.Moves.{IsMoved, bytes_text, is_alike, label_named, moves_in}
-unfoldable pub use Rattle.as65.specs.Moves.{distance_text, label_in_line, labels_in, move_line, move_text, moves_after, what_lies}
-pub use Rattle.as65.specs.NamedStart.{digit, first_of, is_start, moved, named_start, start_for}
-unfoldable pub use Rattle.as65.specs.NamedStart.{address_in_name, start_in_line, starts_in}
+pub use Rattle.as65.specs.Moves.{IsMoved, bytes_text, digit, is_alike, label_named, moves_in}
+unfoldable pub use Rattle.as65.specs.Moves.{address_in_name, distance_text, label_in_line, labels_in, move_line, move_text, moves_after, what_lies}
+pub use Rattle.as65.specs.NamedStart.{first_of, named_start, speaks_for, start_for}
 pub use Rattle.as65.specs.Origins.{Moves, OriginsView}
 pub use Rattle.as65.specs.Request.{is_compare_word, is_comparing, work_of}
 unfoldable pub use Rattle.as65.specs.Request.{to_compare, to_write, work_in}

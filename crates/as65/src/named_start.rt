@@ -1,12 +1,12 @@
 //! The start that the names of a listing speak for: da65 calls an address `LXXXX` that has no name.
 
-ghost use Rattle.std.specs.Prelude.{◌≡◌, ◌<◌, ◌≤◌, ◌++◌, IfOk, IfSome, count_by, option_map};
-ghost use Rattle.stmt65.specs.Words.{parts, reading_of, source_meaning, source_readings};
-ghost use Rattle.as65.specs.Words.{address_in_name, digit, first_of, is_start, moved, named_start, named_start_of, start_for, start_in_line, starts_in};
+ghost use Rattle.std.specs.Prelude.{◌≡◌, ◌<◌, ◌≤◌, IfOk, IfSome, count_by, option_map};
+ghost use Rattle.stmt65.specs.Words.{source_meaning};
+ghost use Rattle.as65.specs.Words.{address_in_name, digit, first_of, named_start, named_start_of, speaks_for, start_for};
 
+use crate::moves::{Label, labels_in};
 use std::alloc::{AllocError, Global};
-use stmt65::{Source, SourceLine, line_addresses, read_line};
-use text65::first_line;
+use stmt65::{Source, line_addresses};
 
 /// A start, and how many labels `LXXXX` would be at $XXXX from there.
 #[derive(Clone, Copy)]
@@ -28,7 +28,7 @@ fn digit(byte: u8) -> Option<u64>
 }
 
 /// The address in a name of the form LXXXX.
-#[tactic(auto, unfolding(crate::specs::NamedStart::address_in_name))]
+#[tactic(auto, unfolding(crate::specs::Moves::address_in_name))]
 pub(crate) fn address_in_name(name: &[u8]) -> Option<u64>
     ensures value { result ≡ address_in_name name.now }
     ensures low { IfSome result (λ a. a < 65536) }
@@ -47,12 +47,12 @@ pub(crate) fn address_in_name(name: &[u8]) -> Option<u64>
     }
 }
 
-/// The start from which what is at `at` would be at an address.
-fn moved(start: u16, at: u64, address: u64) -> Option<u16>
-    requires low { address < 65536 }
-    ensures { result ≡ moved start at address }
+/// The start from which a label would be at the address in its name.
+fn start_for(start: u16, label: Label) -> Option<u16>
+    ensures { result ≡ start_for start label }
 {
-    let there = u64::from(start) + address;
+    let there = u128::from(start) + u128::from(label.named);
+    let at = u128::from(label.at);
     if at <= there && there - at < 65536 {
         Some((there - at) as u16)
     } else {
@@ -60,97 +60,39 @@ fn moved(start: u16, at: u64, address: u64) -> Option<u16>
     }
 }
 
-/// Of an address in a label's name, the start from which the label would be there, if there is one. The label is at `at`.
-fn start_for(start: u16, at: u64, name: &[u8]) -> Option<Option<u16>>
-    ensures { result ≡ start_for start at (address_in_name name.now) }
+/// Whether that is another start.
+fn speaks_for(start: u16, other: u16, label: Label) -> bool
+    ensures { result ≡ speaks_for start other label }
 {
-    match address_in_name(name) {
-        Some(address) => Some(moved(start, at, address)),
-        None => None,
-    }
-}
-
-/// The start from which the label of a line at `at` would be at the address in its name, if it has a name of that form.
-#[tactic(auto, unfolding(crate::specs::NamedStart::start_in_line))]
-fn start_in_line(
-    alloc: Global,
-    source: &Source<'_, '_, '_>,
-    at: u64,
-    line: &[u8],
-) -> Result<Option<Option<u16>>, AllocError>
-    ensures { IfOk result (λ found. found ≡ start_in_line source.now.start at
-        (reading_of source.now.language (parts source.now.language line.now))) }
-{
-    match read_line(alloc, source.language, line)? {
-        Some(
-            SourceLine::Statement {
-                label: Some(name),
-                ..
-            },
-        ) => Ok(start_for(source.start, at, name)),
-        _ => Ok(None),
-    }
-}
-
-/// The starts for which the labels of a text speak, by the address after each of its lines.
-#[tactic(auto, unfolding(crate::specs::NamedStart::starts_in))]
-fn starts_in(
-    alloc: Global,
-    source: &Source<'_, '_, '_>,
-    ends: &[u64],
-) -> Result<Vec<Option<u16>>, AllocError>
-    ensures { IfOk result (λ found. found.items
-        ≡ starts_in source.now.start source.now.start (source_readings source.now) ends.now) }
-{
-    let mut found = Vec::new(alloc);
-    let mut at = u64::from(source.start);
-    let mut rest = source.text;
-    let mut left = ends;
-    'lines: while let Some((line, after)) = first_line(rest) {
-        let Some((end, later)) = left.split_first() else {
-            return Ok(found);
-        };
-        found.extend_from_slice(start_in_line(alloc, source, at, line)?.as_slice())?;
-        at = *end;
-        rest = after;
-        left = later;
-    }
-    Ok(found)
-}
-
-/// How many starts are this one.
-fn count_of(starts: &[Option<u16>], start: u16) -> usize
-    ensures { result ≡ count_by (is_start start) starts.now }
-{
-    starts
-        .iter()
-        .filter(|other| is_start(start, **other))
-        .count()
-}
-
-fn is_start(start: u16, other: Option<u16>) -> bool
-    ensures { result ≡ is_start start other }
-{
-    match other {
-        Some(other) => other == start,
+    match start_for(start, label) {
+        Some(found) => found == other,
         None => false,
     }
 }
 
-/// The first start, unless it is the one that was taken or bytes of this size have no room there.
-fn first_of(start: u16, size: usize, starts: &[Option<u16>]) -> Option<NamedStart>
-    requires { size ≤ 65536 }
-    ensures { option_map named_start_of result ≡ first_of start size starts.now }
+/// How many labels speak for another start.
+fn count_of(start: u16, other: u16, labels: &[Label]) -> usize
+    ensures { result ≡ count_by (speaks_for start other) labels.now }
 {
-    match starts.first() {
-        Some(Some(first)) if *first != start && usize::from(*first) + size <= 65536 => {
-            Some(NamedStart {
-                start: *first,
-                labels: count_of(starts, *first),
-            })
-        }
-        _ => None,
+    labels
+        .iter()
+        .filter(|label| speaks_for(start, other, **label))
+        .count()
+}
+
+/// The start for which the first label speaks, unless it is the one that was taken or bytes of this size have no room there.
+fn first_of(start: u16, size: usize, labels: &[Label]) -> Option<NamedStart>
+    requires { size ≤ 65536 }
+    ensures { option_map named_start_of result ≡ first_of start size labels.now }
+{
+    let other = start_for(start, *labels.first()?)?;
+    if other == start || usize::from(other) + size > 65536 {
+        return None;
     }
+    Some(NamedStart {
+        start: other,
+        labels: count_of(start, other, labels),
+    })
 }
 
 /// The start from which the first label `LXXXX` of a text that assembles would be at $XXXX, and how many such labels would. None if it is
@@ -168,6 +110,6 @@ pub fn named_start(
         IfOk result (λ found. option_map named_start_of found ≡ named_start source.now size)) }
 {
     let ends = line_addresses(alloc, source)?;
-    let starts = starts_in(alloc, source, &ends)?;
-    Ok(first_of(source.start, size, &starts))
+    let labels = labels_in(alloc, source, &ends)?;
+    Ok(first_of(source.start, size, &labels))
 }
