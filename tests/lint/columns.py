@@ -12,7 +12,7 @@ CLAUSE, TEST, SCRIPT, PAGE, MANUAL = 100, 120, 140, 120, 80
 WIDER = {
     "isa65": 2,
     "text65": 1,
-    "stmt65": 20,
+    "stmt65": 19,
     "info65": 22,
     "map65": 4,
     "usage65": 1,

@@ -6,10 +6,7 @@ use crate::moves::{IN_PLACE, Label};
 use crate::named_start::address_in_name;
 use files65::put_decimal;
 use std::alloc::{AllocError, Global};
-use stmt65::{
-    AsmFaultKind, Datum, Form, Operation, Source, SourceLine, Symbols, Value, assemble_source,
-    read_line,
-};
+use stmt65::{AsmFaultKind, Source, SourceLine, Symbols, assemble_source, names_in, read_line};
 
 /// A line that gives bytes.
 #[derive(Clone, Copy)]
@@ -30,76 +27,14 @@ pub fn earlier(label: Label, at: u64) -> Option<u64> {
     at.saturating_add(label.named).checked_sub(label.at)
 }
 
-/// How many labels lie at or before an address.
-fn count_up_to(labels: &[Label], address: u64) -> usize {
-    let mut low = 0usize;
-    let mut high = labels.len();
-    for _ in 0..usize::BITS {
-        let middle = low.saturating_add(high.saturating_sub(low) / 2);
-        match labels.get(middle) {
-            Some(label) if middle < high && label.at <= address => low = middle.saturating_add(1),
-            _ => high = middle,
-        }
-    }
-    low
-}
-
 /// The last label at or before an address, and the first one after it, or the same if there is none.
 fn beside(labels: &[Label], address: u64) -> (Label, Label) {
-    let count = count_up_to(labels, address);
+    let count = labels.partition_point(|label| label.at <= address);
     let before = match count.checked_sub(1) {
         Some(last) => labels.get(last).copied().unwrap_or(IN_PLACE),
         None => IN_PLACE,
     };
     (before, labels.get(count).copied().unwrap_or(before))
-}
-
-/// Adds a name, once.
-fn add_name<'t>(names: &mut Vec<&'t [u8]>, name: &'t [u8]) -> Result<(), AllocError> {
-    if !names.iter().any(|other| *other == name) {
-        names.push(name)?;
-    }
-    Ok(())
-}
-
-fn add_names_of<'t>(names: &mut Vec<&'t [u8]>, value: &Value<'t>) -> Result<(), AllocError> {
-    match *value {
-        Value::Number(_) | Value::Sum(_, _) => Ok(()),
-        Value::Name(name, _, _) | Value::Less(name, _) => add_name(names, name),
-        Value::Difference(name, other) => {
-            add_name(names, name)?;
-            add_name(names, other)
-        }
-    }
-}
-
-/// The names in the operands of an operation.
-fn names_in<'t>(alloc: Global, operation: &Operation<'t>) -> Result<Vec<&'t [u8]>, AllocError> {
-    let mut names = Vec::new(alloc);
-    match operation {
-        Operation::Instr(_, Form::One(_, value)) => add_names_of(&mut names, value)?,
-        Operation::Instr(_, Form::Two(value, other)) => {
-            add_names_of(&mut names, value)?;
-            add_names_of(&mut names, other)?;
-        }
-        Operation::Data(data) => {
-            for datum in data {
-                match datum {
-                    Datum::Number(_) | Datum::String(_) => {}
-                    Datum::Value(value) | Datum::Half(_, value) => {
-                        add_names_of(&mut names, value)?;
-                    }
-                }
-            }
-        }
-        Operation::Values(_, values) => {
-            for value in values {
-                add_names_of(&mut names, value)?;
-            }
-        }
-        _ => {}
-    }
-    Ok(names)
 }
 
 /// What the names of a text were before its labels left the address in their name.
@@ -131,10 +66,8 @@ impl<'b, 't> Before<'b, 't> {
         label: Option<&[u8]>,
         by_later: bool,
     ) -> Result<(), AllocError> {
-        if let Some(own) = label {
-            if own == name {
-                return Ok(());
-            }
+        if label == Some(name) {
+            return Ok(());
         }
         let Some(value) = self.value(name, by_later) else {
             return Ok(());
@@ -157,8 +90,10 @@ impl<'b, 't> Before<'b, 't> {
         out.extend_from_slice(b"\n")?;
         if let SourceLine::Statement { label, operation } = line {
             let names = names_in(alloc, operation)?;
-            for name in &names {
-                self.put_constant(&mut out, name, *label, by_later)?;
+            for (place, name) in names.iter().enumerate() {
+                if !names.iter().take(place).any(|other| other == name) {
+                    self.put_constant(&mut out, name, *label, by_later)?;
+                }
             }
         }
         out.extend_from_slice(placed.line)?;

@@ -18,7 +18,7 @@ use crate::moves::{IN_PLACE, Label, is_alike};
 use crate::origins::{Origin, line_at};
 use map65::Image;
 use std::alloc::{AllocError, Global};
-use stmt65::{Assembly, Operation, Source, SourceLine, assemble_lines, read_line};
+use stmt65::{Assembly, LineEnds, Operation, Source, SourceLine, assemble_lines, read_line};
 use text65::first_line;
 
 /// Bytes of the image in whose place a listing has others: offsets from the first byte of each, and a line.
@@ -52,30 +52,14 @@ fn part(bytes: &[u8], from: usize, end: usize) -> &[u8] {
 
 /// How many first bytes of two rows are the same.
 fn common(one: &[u8], other: &[u8]) -> usize {
-    let len = one.len().min(other.len());
-    for at in 0..len {
-        if one.get(at) != other.get(at) {
-            return at;
-        }
-    }
-    len
-}
-
-/// The byte at a place from the end of a row.
-fn from_end(bytes: &[u8], at: usize) -> Option<u8> {
-    let place = bytes.len().checked_sub(at)?.checked_sub(1)?;
-    bytes.get(place).copied()
+    let pairs = one.iter().zip(other.iter());
+    pairs.take_while(|(byte, beside)| byte == beside).count()
 }
 
 /// How many last bytes of two rows are the same.
 fn common_end(one: &[u8], other: &[u8]) -> usize {
-    let len = one.len().min(other.len());
-    for at in 0..len {
-        if from_end(one, at) != from_end(other, at) {
-            return at;
-        }
-    }
-    len
+    let pairs = one.iter().rev().zip(other.iter().rev());
+    pairs.take_while(|(byte, beside)| byte == beside).count()
 }
 
 /// The address of the first of some lines before a label; without one that of the label.
@@ -411,43 +395,44 @@ fn sets_cpu(alloc: Global, source: &Source<'_, '_, '_>, line: &[u8]) -> Result<b
     if !line.iter().any(|byte| *byte == b'.') {
         return Ok(false);
     }
-    match read_line(alloc, source.language, line)? {
-        Some(
-            SourceLine::Statement {
-                operation: Operation::SetCpu(_),
-                ..
-            },
-        ) => Ok(true),
-        _ => Ok(false),
-    }
+    let says = read_line(alloc, source.language, line)?;
+    Ok(matches!(
+        says,
+        Some(SourceLine::Statement {
+            operation: Operation::SetCpu(_),
+            ..
+        })
+    ))
 }
 
 /// The lines of a text that give bytes, by the address after each line.
 fn placed_lines<'t>(
     alloc: Global,
     source: &Source<'t, '_, '_>,
-    ends: &[u64],
+    ends: &LineEnds<&Global>,
 ) -> Result<Vec<Placed<'t>>, AllocError> {
     let mut found = Vec::new(alloc);
     let mut cpu: &'t [u8] = &[];
     let mut at = u64::from(source.start);
     let mut rest = source.text;
-    for (number, end) in ends.iter().enumerate() {
+    let mut number = 0usize;
+    for end in ends.iter() {
         let Some((line, after)) = first_line(rest) else {
             return Ok(found);
         };
-        if at < *end {
+        number = number.saturating_add(1);
+        if at < end {
             found.push(Placed {
-                number: number.saturating_add(1),
+                number,
                 line,
                 cpu,
                 at,
-                end: *end,
+                end,
             })?;
         } else if sets_cpu(alloc, source, line)? {
             cpu = line;
         }
-        at = *end;
+        at = end;
         rest = after;
     }
     Ok(found)

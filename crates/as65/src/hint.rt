@@ -3,7 +3,7 @@
 
 use files65::{put_address, put_decimal};
 use std::alloc::{AllocError, Global};
-use stmt65::{About, AsmFaultKind, Datum, Explained, Language, Operand, Places, Value};
+use stmt65::{About, AsmFaultKind, Datum, Explained, Language, Places, Value};
 use text65::{has_name_form, is_blank, is_reserved_word, is_word_byte};
 
 /// The part of a line before its comment.
@@ -76,15 +76,11 @@ fn has_difference(line: &[u8]) -> bool {
     let mut places = Places::new(Language::Repair, line);
     let _ = places.head();
     for _ in 0..=line.len() {
-        match places.operand() {
-            Some(
-                Operand {
-                    datum: Datum::Value(Value::Difference(_, _)),
-                    ..
-                },
-            ) => return true,
-            Some(_) => {}
-            None => return false,
+        let Some(operand) = places.operand() else {
+            return false;
+        };
+        if matches!(operand.datum, Datum::Value(Value::Difference(_, _))) {
+            return true;
         }
     }
     false

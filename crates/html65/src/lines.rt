@@ -30,10 +30,9 @@ impl<'t> Line<'t> {
         }
     }
 
-    /// The next line, by the address after each.
-    pub fn next(self, ends: &[u64]) -> Line<'t> {
+    /// The next line, by the address after it.
+    pub fn next(self, end: u64) -> Line<'t> {
         let (text, rest) = first_line(self.rest).unwrap_or((&[], &[]));
-        let end = ends.get(self.number).copied().unwrap_or(0);
         Line {
             number: self.number.saturating_add(1),
             text,

@@ -70,9 +70,9 @@ pub fn put_listing(alloc: Global, out: &mut Vec<u8>, survey: &Survey<'_, '_>) ->
     let mut names = survey.names.iter().peekable();
     let mut runs = survey.runs.iter().peekable();
     put!(out; "<pre id=\"listing\">");
-    for _ in survey.ends {
+    for end in survey.ends {
         put!(out; if line.number == 0 { "<span id=\"l" } else { "\n<span id=\"l" });
-        line = line.next(survey.ends);
+        line = line.next(end);
         put!(out; line.number, "\">");
         put_left(out, line.at, survey.between(line.at, line.end))?;
         marks = put_text(out, survey, line, marks)?;

@@ -55,7 +55,7 @@ impl Lines {
         let mut rest = text;
         let mut at = u64::from(scene.start);
         let mut goes_on = false;
-        for &end in &assembly.ends {
+        for end in assembly.ends.iter() {
             let Some((line, after)) = first_line(rest) else {
                 break;
             };

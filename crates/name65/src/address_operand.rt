@@ -15,15 +15,10 @@ use text65::has_name_form;
 
 /// Whether an operation is that of an instruction, and no directive.
 fn is_instruction(operation: Option<PlacedPart<'_>>) -> bool {
-    match operation {
-        Some(
-            PlacedPart {
-                part: Part::Word(word),
-                ..
-            },
-        ) => word.first() != Some(&b'.'),
-        _ => false,
-    }
+    let Some(place) = operation else {
+        return false;
+    };
+    matches!(place.part, Part::Word(word) if word.first() != Some(&b'.'))
 }
 
 /// Where the operand of an instruction stands, and where its last part ends.

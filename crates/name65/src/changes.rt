@@ -18,7 +18,7 @@ use crate::plan::{PlacedLine, Plan};
 use crate::wishes::Wishes;
 use info65::{Info, Tag};
 use std::alloc::Global;
-use stmt65::{Assembly, Source, Symbols};
+use stmt65::{Assembly, LineEnds, Source, Symbols};
 use text65::first_line;
 
 /// Appends what stands in the place of a line. A line that moves is appended to the tail.
@@ -52,7 +52,7 @@ fn put_lines(
     plan: &Plan<'_, '_>,
     start: u64,
     text: &[u8],
-    ends: &[u64],
+    ends: &LineEnds<&Global>,
 ) -> Result<(), Refusal>
     requires out { out.old.items ≡ [] }
     requires tail { tail.old.items ≡ [] }
@@ -62,29 +62,24 @@ fn put_lines(
     let mut change = Vec::new(plan.alloc);
     let mut at = start;
     let mut rest = text;
-    let mut left = ends;
+    let mut left = ends.iter();
     'lines: while let Some((line, after)) = first_line(rest) {
-        let Some((end, later)) = left.split_first() else {
+        let Some(end) = left.next() else {
             return Err(Refusal::Changed);
         };
-        let placed = PlacedLine {
-            line,
-            at,
-            end: *end,
-        };
+        let placed = PlacedLine { line, at, end };
         put_line(out, tail, &mut change, plan, &placed)?;
-        at = *end;
+        at = end;
         rest = after;
-        left = later;
     }
     Ok(())
 }
 
 /// The last of some addresses, or the start if there are none.
-fn last_of(start: u16, ends: &[u64]) -> u64
+fn last_of(start: u16, ends: &LineEnds<&Global>) -> u64
     ensures { result ≡ unwrap_or (slice_get ends.now (length ends.now - 1)) start }
 {
-    ends.last().copied().unwrap_or(u64::from(start))
+    ends.last().unwrap_or(u64::from(start))
 }
 
 /// A text by names, and the names that it defines, unless they are those of the text that it was.
@@ -103,7 +98,7 @@ pub fn changed_text<'t, 'b>(
     tags: &[Tag],
     used: bool,
 ) -> Result<Changed<'t, 'b>, Refusal>
-    requires { assembly.now.ends.items ≡ source_addresses source.now }
+    requires { assembly.now.ends ≡ source_addresses source.now }
     ensures { IfOk result (λ changed. IsNamed source.now tags.now used changed.text.items) }
 {
     let marks = mark_named(*alloc, tags)?;

@@ -17,7 +17,7 @@ pub(crate) fn assembled<'t, 'b>(
     source: &Source<'t, '_, '_>,
 ) -> Result<Assembly<'t, 'b, Global>, Failure>
     ensures bytes { IfOk result (λ a. source_meaning source.now ≡ Ok a.bytes.items) }
-    ensures ends { IfOk result (λ a. a.ends.items ≡ source_addresses source.now) }
+    ensures ends { IfOk result (λ a. a.ends ≡ source_addresses source.now) }
     ensures fault { IfErr result (Reports name.now source.now) }
 {
     match assemble_lines(alloc, source) {

@@ -3,7 +3,7 @@
 use crate::by_address::ByAddress;
 use std::alloc::{AllocError, Global};
 use std::collections::BTreeSet;
-use stmt65::{Datum, Definition, Form, Operation, Source, SourceLine, Value, read_line};
+use stmt65::{Definition, Source, SourceLine, names_in, read_line};
 use text65::first_line;
 
 /// The names of a listing by the addresses that are their values; and the names that its lines use, if that is asked for.
@@ -51,7 +51,9 @@ impl<'t> ListingNames<'t> {
                 source.language,
                 line,
             )? {
-                self.use_operation(&operation)?;
+                for name in &names_in(alloc, &operation)? {
+                    self.use_name(name)?;
+                }
             }
             rest = after;
         }
@@ -61,53 +63,6 @@ impl<'t> ListingNames<'t> {
     fn use_name(&mut self, name: &'t [u8]) -> Result<(), AllocError> {
         if let Some(used) = &mut self.used {
             used.insert(name)?;
-        }
-        Ok(())
-    }
-
-    fn use_value(&mut self, value: &Value<'t>) -> Result<(), AllocError> {
-        match *value {
-            Value::Number(_) | Value::Sum(_, _) => Ok(()),
-            Value::Name(name, _, _) | Value::Less(name, _) => self.use_name(name),
-            Value::Difference(name, other) => {
-                self.use_name(name)?;
-                self.use_name(other)
-            }
-        }
-    }
-
-    fn use_form(&mut self, form: &Form<'t>) -> Result<(), AllocError> {
-        match form {
-            Form::Empty | Form::Accumulator => Ok(()),
-            Form::One(_, value) => self.use_value(value),
-            Form::Two(value, other) => {
-                self.use_value(value)?;
-                self.use_value(other)
-            }
-        }
-    }
-
-    fn use_datum(&mut self, datum: &Datum<'t>) -> Result<(), AllocError> {
-        match datum {
-            Datum::Number(_) | Datum::String(_) => Ok(()),
-            Datum::Value(value) | Datum::Half(_, value) => self.use_value(value),
-        }
-    }
-
-    fn use_operation(&mut self, operation: &Operation<'t>) -> Result<(), AllocError> {
-        match operation {
-            Operation::Instr(_, form) => self.use_form(form)?,
-            Operation::Data(data) => {
-                for datum in data {
-                    self.use_datum(datum)?;
-                }
-            }
-            Operation::Values(_, values) => {
-                for value in values {
-                    self.use_value(value)?;
-                }
-            }
-            _ => {}
         }
         Ok(())
     }

@@ -278,15 +278,10 @@ impl<'t> Wishes<'t> {
 
     /// Whether this half of an address is wished to stand at another.
     pub fn is_half(&self, at: u64, half: Half, reference: Reference<'_>) -> bool {
-        match self.at(at) {
-            Some(
-                Wished {
-                    wish: Wish::Half(found, address),
-                    ..
-                },
-            ) => found == half && address == reference,
-            _ => false,
-        }
+        let Some(wished) = self.at(at) else {
+            return false;
+        };
+        matches!(wished.wish, Wish::Half(found, address) if found == half && address == reference)
     }
 
     /// Whether the constant line of this name is to be left out.

@@ -2,6 +2,7 @@ mod PartLemmas
 mod NumberLemmas
 mod ListLemmas
 mod Cases
+mod EndLemmas
 mod SpacingLemmas
 mod PlaceLemmas
 mod ReadIsSpelled

@@ -79,13 +79,10 @@ rows =
     (meaning_in Repair free 0x1000 (codes "lda #<foo\nldx #>(foo+1)\nfoo: rts\n"), Ok (0xA9 ∷ 0x04 ∷ 0xA2 ∷ 0x10 ∷ 0x60 ∷ [])) ∷
     (meaning_in Repair free 0x1000 (codes "foo: .byte <foo,>foo,bar-foo,bar-$1\nbar:\n"), at_line 1 OutOfRange) ∷
     (meaning_in Repair free 0x1000 (codes "foo: .byte <foo,>foo,bar-foo,'A',%110\nbar:\n"), Ok (0 ∷ 0x10 ∷ 5 ∷ 65 ∷ 6 ∷ [])) ∷
-    (meaning_in Repair free 0x1000 (codes "foo: .byte foo-foo\nlda a:foo-foo\n"), at_line 2 Syntax) ∷
     (meaning_in Repair free 0x1000 (codes "foo: .byte foo-foo\n"), Ok (0 ∷ [])) ∷
-    (meaning_in Repair free 0x1000 (codes "foo = * + 1\n"), at_line 1 Syntax) ∷
     (meaning_in Repair free 0x1000 (codes ".lobytes foo,$ABCD\n.hibytes foo,$ABCD\nfoo:\n"), Ok (4 ∷ 0xCD ∷ 0x10 ∷ 0xAB ∷ [])) ∷
     (meaning_in Repair free 0x1000 (codes "foo:\n.res 2,$AA\n.res 1\nbar: .word bar-foo\n"), Ok (0xAA ∷ 0xAA ∷ 0 ∷ 3 ∷ 0 ∷ [])) ∷
     (meaning_in Repair free 0x1000 (codes "bar: nop\nfoo: .word bar-foo\n"), at_line 2 OutOfRange) ∷
-    (meaning_in Repair free 0x1000 (codes "foo = $12\nlda foo\nasl\nlda foo-bar\n"), at_line 4 Syntax) ∷
     (meaning_in Repair free 0x1000 (codes "foo = $12\nlda foo\nasl\n"), Ok (0xA5 ∷ 0x12 ∷ 0x0A ∷ [])) ∷
     (meaning_in Repair free 0x1000 (codes ".res 1,$100\n"), at_line 1 OutOfRange) ∷
     -- a name less a number: a constant above gives it zero-page size below $100, a label and a later constant do not
@@ -101,7 +98,6 @@ rows =
     (meaning_in Repair free 0x1000 (codes ".byte '" ++ 0x1F ∷ codes "'\n"), at_line 1 Syntax) ∷
     (meaning_in Repair free 0x1000 (codes ".byte '" ++ 0x7F ∷ codes "'\n"), at_line 1 Syntax) ∷
     (meaning_in Repair free 0x1000 (codes ".byte x\n"), at_line 1 Syntax) ∷
-    (meaning_in Repair free 0x1000 (codes ".LoBytes $ABCD\n"), Ok (0xCD ∷ [])) ∷
     -- none of them is a line of a listing
     (meaning 0x1000 (codes "lda #<$1234\n"), at_line 1 Syntax) ∷
     (meaning 0x1000 (codes "lda #%1\n"), at_line 1 Syntax) ∷

@@ -81,10 +81,8 @@ value_goes (Word w ∷ ps) = by_test (is_name w) (λ n. rw n (goes (named_at Lis
 value_goes _ = tt
 
 no_difference : (v : Value) (front : List Part) → IsValue v front → is_difference v ≡ false
-no_difference (NumberValue n) front h = refl
-no_difference (NameValue w n minus) front h = refl
-no_difference (LessValue w n) front h = refl
 no_difference (DifferenceValue w v) front h = absurd h
+no_difference _ front h = refl
 
 address_goes : (ps : List Part) → Goes (next_address Listing ps) (next_address Repair ps)
 address_goes ps =
@@ -342,20 +340,8 @@ spells_listed (i ∷ is) ps h f =
     rw h.2 (both_listed h.0 h.1 (item_listed i h.0 h.3 two.0) (spells_listed is h.1 h.4 two.1))
 
 form_fine : (f : Form) → list_all is_fine (form_items f) ≡ true
-form_fine Empty = refl
-form_fine Accumulator = refl
-form_fine (One (notation.Plain Immediate) v) = refl
 form_fine (One (notation.Plain Direct) v) = refl
-form_fine (One (notation.Plain DirectX) v) = refl
-form_fine (One (notation.Plain DirectY) v) = refl
-form_fine (One (notation.Plain Indirect) v) = refl
-form_fine (One (notation.Plain IndirectX) v) = refl
-form_fine (One (notation.Plain IndirectY) v) = refl
-form_fine (One (notation.Half half) v) = refl
-form_fine (One notation.Absolute v) = refl
-form_fine (One notation.AbsoluteX v) = refl
-form_fine (One notation.AbsoluteY v) = refl
-form_fine (Two v w) = refl
+form_fine _ = refl
 
 operation_fine : (o : Operation) → list_all is_fine (operation_items o) ≡ true
 operation_fine (Instr m f) = form_fine f
@@ -437,9 +423,6 @@ same_operation all s label (Instr m Empty) h =
     by_test (takes_accumulator m)
     (λ e. absurd (let a = has_form all s (Statement label (Instr m Empty)) h in let b = no_empty s label m e in cc))
     (λ e. rw e refl)
-same_operation all s label (Instr m Accumulator) h = refl
-same_operation all s label (Instr m (One notation v)) h = refl
-same_operation all s label (Instr m (Two v w)) h = refl
 same_operation all s label _ h = refl
 
 same_source : (all : List Definition) (s : State) (r : SourceLine) → fault_of all s (Some r) ≡ None → read_as r ≡ r

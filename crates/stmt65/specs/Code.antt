@@ -11,3 +11,4 @@ pub mod SymbolViews
 pub mod CodingViews
 pub mod MeaningViews
 pub mod LateViews
+pub mod LineEnds

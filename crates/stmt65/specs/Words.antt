@@ -6,6 +6,7 @@ pub use Rattle.stmt65.specs.Code.Found.{Gives, GivesIfOk, Reads}
 pub use Rattle.stmt65.specs.Code.Held.{held, held_value}
 pub use Rattle.stmt65.specs.Code.LateViews.{Codes, CodesEarly, Follows, GoesOn, IsIdle, IsOf, IsPassed, IsSound, Keeps, Takes, TakesEarly, fault_at, fault_or, fault_past, late_state, state_in, work_of}
 unfoldable pub use Rattle.stmt65.specs.Code.LateViews.{coded_late, fronts, held_coded}
+pub use Rattle.stmt65.specs.Code.LineEnds.{ends_left}
 pub use Rattle.stmt65.specs.Code.LineViews.{Lists, Prints, len_with}
 pub use Rattle.stmt65.specs.Code.MeaningViews.{IsCoding, IsPlaced, defined_in, definitions_in, fragments_in, have_room, held_definition, held_definitions, line_operation, state_of}
 unfoldable pub use Rattle.stmt65.specs.Code.MeaningViews.{held_after, held_final}

@@ -11,6 +11,7 @@ mod fragment_bytes;
 pub(crate) mod known;
 pub(crate) mod late;
 pub(crate) mod layout;
+pub(crate) mod line_ends;
 mod line_faults;
 mod state;
 pub(crate) mod symbols;

@@ -30,12 +30,13 @@ mod reading;
 mod source_line;
 mod statement;
 
-pub use assembling::about::{About, Explained};
+pub use assembling::about::{About, Explained, names_in};
 pub use assembling::addresses::{Assembly, assemble_lines, line_addresses};
 pub use assembling::assembler::{Source, assemble, assemble_explained, assemble_source};
 pub use assembling::fault::{AsmFault, AsmFaultKind};
 pub use assembling::known::assemble_known;
 pub use assembling::layout::Layout;
+pub use assembling::line_ends::{EndsIter, LineEnds};
 pub use assembling::symbols::{Definition, Symbols};
 pub use directive::Directive;
 pub use language::Language;

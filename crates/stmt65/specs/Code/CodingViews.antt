@@ -18,7 +18,6 @@ use Rattle.stmt65.specs.Symbols.{Definition}
 use Rattle.stmt65.specs.Code.SourceLineViews.{numeral_of, value_of, datum_of}
 
 abbrev pub fragment_of : CodeFragment → Fragment
-fragment_of (code_fragment.Fixed b) = Fixed b
 fragment_of (code_fragment.Single v) = Single (value_of v.now)
 fragment_of (code_fragment.ZeroPage v) = ZeroPage (value_of v.now)
 fragment_of (code_fragment.Oversized v) = Oversized (value_of v.now)

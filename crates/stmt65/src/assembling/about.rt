@@ -76,20 +76,48 @@ fn value_at<'a, B: Allocator>(operation: &Operation<'a, B>, place: usize) -> Opt
     }
 }
 
+/// The names of an expression, in the order in which they are written.
+fn names_of(value: Value<'_>) -> [Option<&[u8]>; 2] {
+    match value {
+        Value::Number(_) | Value::Sum(_, _) => [None, None],
+        Value::Name(name, _, _) | Value::Less(name, _) => [Some(name), None],
+        Value::Difference(name, other) => [Some(name), Some(other)],
+    }
+}
+
+/// The names in the operands of an operation, in the order in which they are written.
+///
+/// Fails if an allocation is refused.
+pub fn names_in<'a, A: Allocator, B: Allocator>(
+    alloc: A,
+    operation: &Operation<'a, B>,
+) -> Result<Vec<&'a [u8], A>, AllocError> {
+    let mut found = Vec::new(alloc);
+    for place in 0..usize::MAX {
+        let Some(value) = value_at(operation, place) else {
+            break;
+        };
+        for name in names_of(value) {
+            if let Some(name) = name {
+                found.push(name)?;
+            }
+        }
+    }
+    Ok(found)
+}
+
 /// The first name of an expression that has no definition.
 fn unknown_in<'a, A: Allocator + Clone>(
     names: &KnownNames<'_, '_, A>,
     value: Value<'a>,
 ) -> Option<About<'a>> {
-    match value {
-        Value::Number(_) | Value::Sum(_, _) => None,
-        Value::Name(name, _, _) | Value::Less(name, _) if names.find(name).is_none() => {
-            Some(About::Name(name))
+    for name in names_of(value) {
+        let name = name?;
+        if names.find(name).is_none() {
+            return Some(About::Name(name));
         }
-        Value::Difference(name, _) if names.find(name).is_none() => Some(About::Name(name)),
-        Value::Difference(_, other) if names.find(other).is_none() => Some(About::Name(other)),
-        _ => None,
     }
+    None
 }
 
 /// How far a difference of two addresses is below 0.

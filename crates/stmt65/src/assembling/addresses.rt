@@ -5,6 +5,7 @@ ghost use Rattle.stmt65.specs.Words.{held, held_definitions, out_of_memory, sour
 
 use crate::assembling::assembler::{Pass, Source, first_pass, second_pass};
 use crate::assembling::fault::AsmFault;
+use crate::assembling::line_ends::LineEnds;
 use crate::assembling::symbols::Symbols;
 use std::alloc::{AllocError, Allocator};
 
@@ -20,9 +21,9 @@ pub fn line_addresses<L: Allocator + Clone, A: Allocator + Clone>(
     ensures lines { IfOk result (λ found. found.items ≡ map held (source_addresses source.now)) }
     ensures exact { IfOk result (λ found. IfOk (source_meaning source.now) (λ _. found.items ≡ source_addresses source.now)) }
 {
-    let mut found = Vec::new(alloc.clone()?);
+    let mut found = LineEnds::new(&alloc);
     let _ = first_pass(&alloc, source, true, &mut found)?;
-    Ok(found)
+    found.to_vec(alloc.clone()?)
 }
 
 /// What a text that assembles means, line by line.
@@ -31,7 +32,7 @@ pub struct Assembly<'a, 'b, A: Allocator> {
     /// The bytes.
     pub bytes: Vec<u8, &'b A>,
     /// The address after each line, as [`line_addresses`] answers it.
-    pub ends: Vec<u64, &'b A>,
+    pub ends: LineEnds<&'b A>,
     /// What the lines define.
     pub names: Symbols<'a, &'b A>,
 }
@@ -46,10 +47,10 @@ pub fn assemble_lines<'a, 'b, L: Allocator + Clone, A: Allocator>(
     /// reading. For any other text, its fault; or out of memory.
     ensures bytes { IfOk result (λ a. source_meaning source.now ≡ Ok a.bytes.items) }
     ensures fault { IfErr result (λ e. (source_meaning source.now ≡ Err e) ⊎ (e ≡ out_of_memory)) }
-    ensures ends { IfOk result (λ a. a.ends.items ≡ source_addresses source.now) }
+    ensures ends { IfOk result (λ a. a.ends ≡ source_addresses source.now) }
     ensures names { IfOk result (λ a. a.names ≡ held_definitions (source_definitions source.now)) }
 {
-    let mut ends = Vec::new(alloc);
+    let mut ends = LineEnds::new(alloc);
     let Pass {
         mut state,
         names,

@@ -9,6 +9,7 @@ use crate::assembling::late::{
     Late, Work, code_again, code_early, cut, explain_late, idle, keep, refuse,
 };
 use crate::assembling::layout::Layout;
+use crate::assembling::line_ends::LineEnds;
 use crate::assembling::state::{State, advance, first_state, place};
 use crate::assembling::symbols::{Definition, Symbols};
 use crate::language::Language;
@@ -129,11 +130,11 @@ fn begin<'a, 'b, 'l, 'n, L: Allocator, A: Allocator>(
 
 /// Takes down the address after a line, if that is wanted.
 fn take_down<A: Allocator>(
-    ends: &mut Vec<u64, A>,
+    ends: &mut LineEnds<A>,
     is_wanted: bool,
     address: u64,
 ) -> Result<(), AllocError>
-    ensures { OnOk result (ends.new.items ≡ ends.old.items ++ (if is_wanted then address ∷ [] else [])) }
+    ensures { OnOk result (ends.new ≡ ends.old ++ (if is_wanted then address ∷ [] else [])) }
 {
     if is_wanted {
         ends.push(address)?;
@@ -147,12 +148,12 @@ pub fn first_pass<'a, 'b, 'l, 'n, L: Allocator + Clone, A: Allocator, C: Allocat
     alloc: &'b A,
     source: &Source<'a, 'l, 'n, L>,
     are_wanted: bool,
-    ends: &mut Vec<u64, C>,
+    ends: &mut LineEnds<C>,
 ) -> Result<Pass<'a, 'l, 'n, &'b A, L>, AllocError>
-    requires { ends.old.items ≡ [] }
+    requires { ends.old ≡ [] }
     ensures passed { IfOk result (λ pass. IsPassed pass source.now) }
     ensures start { source.now.start < 65536 }
-    ensures ends { OnOk result (are_wanted ≡ true → ends.new.items ≡ map held (source_addresses source.now)) }
+    ensures ends { OnOk result (are_wanted ≡ true → ends.new ≡ map held (source_addresses source.now)) }
 {
     let mut pass = begin(alloc, source)?;
     let mut rest = source.text;
@@ -211,7 +212,7 @@ pub fn assemble_explained<'a, L: Allocator + Clone, A: Allocator + Clone>(
     ensures { IsExplained result (source_meaning source.now) }
 {
     let out = Vec::new(alloc.clone()?);
-    let mut ends = Vec::new(&alloc);
+    let mut ends = LineEnds::new(&alloc);
     let Pass {
         mut state,
         names,

@@ -22,8 +22,6 @@ use std::alloc::Allocator;
 /// What bytes of a statement stand for.
 #[derive(Clone, Copy)]
 pub enum Fragment<'s, 'a> {
-    /// A byte that the line itself gives: an opcode, or a byte of a string.
-    Fixed(u8),
     /// A value from 0 to $FF.
     Single(&'s Value<'a>),
     /// A zero-page address.

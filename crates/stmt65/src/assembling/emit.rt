@@ -21,7 +21,6 @@ fn fragment_len(fragment: Fragment) -> u64
         Fragment::Reserved(count, _) => count.value(),
         Fragment::Gap(count, _) => u64::from(count),
         Fragment::Half(_, _)
-        | Fragment::Fixed(_)
         | Fragment::Single(_)
         | Fragment::ZeroPage(_)
         | Fragment::Oversized(_)

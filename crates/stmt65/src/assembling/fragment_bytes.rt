@@ -19,13 +19,12 @@ pub fn is_fragment_known<A: Allocator + Clone>(
     ensures { result ≡ is_fragment_known names.now (fragment_of fragment.entry) }
 {
     match fragment {
-        Fragment::Fixed(_) => true,
-        Fragment::Single(v) => is_known(names, v),
-        Fragment::ZeroPage(v) => is_known(names, v),
-        Fragment::Oversized(v) => is_known(names, v),
-        Fragment::Entry(_, v) => is_known(names, v),
-        Fragment::Distance(v) => is_known(names, v),
-        Fragment::Half(_, v) => is_known(names, v),
+        Fragment::Single(v)
+        | Fragment::ZeroPage(v)
+        | Fragment::Oversized(v)
+        | Fragment::Distance(v)
+        | Fragment::Entry(_, v)
+        | Fragment::Half(_, v) => is_known(names, v),
         Fragment::Reserved(_, _) | Fragment::Gap(_, _) => true,
     }
 }
@@ -141,9 +140,7 @@ pub fn put_fragment<A: Allocator + Clone, B: Allocator>(
     ensures { AddsOne result names.now next (fragment_of fragment.entry) out.old out.new }
 {
     match fragment {
-        Fragment::Fixed(byte) => put_one(out, byte),
-        Fragment::Single(v) => put_byte(out, word_in(names, v)),
-        Fragment::ZeroPage(v) => put_byte(out, word_in(names, v)),
+        Fragment::Single(v) | Fragment::ZeroPage(v) => put_byte(out, word_in(names, v)),
         Fragment::Oversized(_) => Ok(false),
         Fragment::Entry(directive, v) => put_entry(out, directive, entry_in(names, directive, v)),
         Fragment::Distance(v) => put_distance(out, next, word_in(names, v)),

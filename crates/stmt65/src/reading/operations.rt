@@ -48,8 +48,15 @@ impl<'a> Listed<'a, Language> for Datum<'a> {
 
     ghost shortens = { next_datum-Shortens };
 
+    #[tactic(auto, unfolding(crate::specs::Reading::next_datum))]
     fn next_in(language: Language, parts: &mut Parts<'a>) -> Option<Self> {
-        next_datum(language, parts)
+        match parts.next()? {
+            Part::Number(text) => number_datum(language, Numeral { text }, parts),
+            Part::Text(text) => Some(Datum::String(text)),
+            Part::Word(word) => word_datum(language, word, parts),
+            Part::Mark(mark) => mark_datum(language, mark, parts),
+            Part::Define => None,
+        }
     }
 }
 
@@ -86,8 +93,10 @@ impl<'a> Listed<'a, Half> for Datum<'a> {
 
     ghost shortens = { next_half-Shortens };
 
+    #[tactic(auto, unfolding(crate::specs::Reading::next_half))]
     fn next_in(half: Half, parts: &mut Parts<'a>) -> Option<Self> {
-        next_half(half, parts)
+        let value = next_value(Language::Repair, parts)?;
+        Some(Datum::Half(half, value))
     }
 }
 
@@ -140,29 +149,6 @@ fn number_datum<'a>(
     }
     let plus = parts.number()?;
     Some(Datum::Value(Value::Sum(number, plus)))
-}
-
-/// The next operand of `.byte`.
-#[tactic(auto, unfolding(crate::specs::Reading::next_datum))]
-fn next_datum<'a>(language: Language, parts: &mut Parts<'a>) -> Option<Datum<'a>>
-    ensures { Reads datum_of result (next_datum language parts.old) parts.new }
-{
-    match parts.next()? {
-        Part::Number(text) => number_datum(language, Numeral { text }, parts),
-        Part::Text(text) => Some(Datum::String(text)),
-        Part::Word(word) => word_datum(language, word, parts),
-        Part::Mark(mark) => mark_datum(language, mark, parts),
-        Part::Define => None,
-    }
-}
-
-/// The half of the next expression.
-#[tactic(auto, unfolding(crate::specs::Reading::next_half))]
-fn next_half<'a>(half: Half, parts: &mut Parts<'a>) -> Option<Datum<'a>>
-    ensures { Reads datum_of result (next_half half parts.old) parts.new }
-{
-    let value = next_value(Language::Repair, parts)?;
-    Some(Datum::Half(half, value))
 }
 
 /// Values or data joined by commas, with nothing after them.

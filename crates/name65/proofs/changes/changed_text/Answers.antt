@@ -12,6 +12,6 @@ returns c =
       lines = c.put_lines.new.out.items;
       tail = c.put_lines.new.tail.items;
       become = subst (λ (test : ℕ → Bool). LinesBecome (scope_of s test c.args.used (source_addresses s)) s.start (text_lines s.text.now) (source_addresses s) c.put_lines.new.out.items c.put_lines.new.tail.items)
-          (fun_ext c.in_ok-marks.ensures) (rw (← c.requires, ← c.deref.ensures.value, ← c.last_of.ensures, c.deref.ensures.value, ← c.deref-2.ensures.value, ← c.from.ensures) c.in_ok-put_lines.ensures);
-      whole = rw c.deref-3.ensures.value at c.in_ok-extend_from_slice.ensures.items;
+          (fun_ext c.in_ok-marks.ensures) (rw (← c.requires, ← c.last_of.ensures, ← c.from.ensures) c.in_ok-put_lines.ensures);
+      whole = rw c.deref.ensures.value at c.in_ok-extend_from_slice.ensures.items;
     }

@@ -1,16 +1,18 @@
-use Rattle.std.proofs.Common.{[], append_assoc, refl}
+use Rattle.std.proofs.Common.{◌≡◌, [], ◌∷◌, append_assoc, refl}
 use Rattle.std.proofs.lemmas.List.{append-nil}
+use Rattle.stmt65.specs.Words.{ends_left}
 use Rattle.name65.specs.Changes.{no_line}
 use Rattle.name65.proofs.ChangeLemmas.{lines_from}
 use Rattle.name65.proofs.changes.put_lines.Goals as goal
 
 pub lines-init : goal.lines-init
-lines-init c = λ texts tails from. rw (c.requires.out, c.requires.tail) from
+lines-init c = λ texts tails from. rw (c.requires.out, c.requires.tail, ← c.iter-left.ensures) from
 
 pub lines-preserved : goal.lines-preserved
 lines-preserved c = λ texts tails from.
     let line = c.in_ok-put_line.ensures in
-    rw (line.whole, line.tail_is, append_assoc, append_assoc) ((rw c.in-Some-split_first.ensures.cases.0 at c.lines.invariant) _ _
+    let given : ends_left c.lines.left ≡ c.in-Some-next.end ∷ ends_left c.next.new.self = c.in-Some-next.ensures.steps in
+    rw (line.whole, line.tail_is, append_assoc, append_assoc) ((rw given at c.lines.invariant) _ _
     (lines_from _ _ _ _ _ _ _ _ _ _ _ c.in-Some.ensures.0 line.becomes from))
 
 pub returns : goal.returns

@@ -20,7 +20,7 @@ returns-clause-bytes = bytes
 
 pub returns-clause-ends : goal.returns-clause-ends
 returns-clause-ends g c =
-    lines_exact c.args.source.now.language c.args.source.now.layout.now c.args.source.now.start c.args.source.now.text.now c.first_pass.new.ends.items (c.in_ok-state.ensures.ends refl) (Ok c.in_ok-bytes.bytes.items) (bytes g c)
+    lines_exact c.args.source.now.language c.args.source.now.layout.now c.args.source.now.start c.args.source.now.text.now c.first_pass.new.ends (c.in_ok-state.ensures.ends refl) (Ok c.in_ok-bytes.bytes.items) (bytes g c)
 
 pub returns-clause-names : goal.returns-clause-names
 unfolding definitions_of

@@ -18,9 +18,9 @@ lines-preserved g c = record {
   ends = λ wanted.
       let taken = rw wanted at c.in_ok-take_down.ensures in
       ap (λ (l : List ℕ). l ++ held_addresses (state_in c.pass_line.new.pass) (readings c.args.source.now.language c.in-Some.after.now)) taken
-      ∙ addresses_step c.args.source.now.language (state_in c.lines.pass) (state_in c.pass_line.new.pass) c.lines.rest.now c.in-Some.line.now c.in-Some.after.now c.lines.ends.items _ (c.lines.invariant.ends wanted) c.in-Some.ensures.0 c.in_ok-pass_line.ensures.state;
+      ∙ addresses_step c.args.source.now.language (state_in c.lines.pass) (state_in c.pass_line.new.pass) c.lines.rest.now c.in-Some.line.now c.in-Some.after.now c.lines.ends _ (c.lines.invariant.ends wanted) c.in-Some.ensures.0 c.in_ok-pass_line.ensures.state;
 }
 
 pub returns-clause-ends : goal.returns-clause-ends
 returns-clause-ends g c = λ wanted.
-    found_lines c.args.source.now.language c.args.source.now.layout.now c.args.source.now.start (state_in c.lines.pass) c.args.source.now.text.now c.lines.rest.now c.lines.ends.items (omega arith) (c.lines.invariant.ends wanted) c.in_default.ensures
+    found_lines c.args.source.now.language c.args.source.now.layout.now c.args.source.now.start (state_in c.lines.pass) c.args.source.now.text.now c.lines.rest.now c.lines.ends (omega arith) (c.lines.invariant.ends wanted) c.in_default.ensures

@@ -10,7 +10,7 @@ invariant-lines g l =
     record {
       at : AtLine l.fn.source.language end l.fn.source.layout.now (held_coded end.above 1 (source_state l.fn.source) (source_readings l.fn.source)) l.number l.pass l.rest;
       shorter : l.number + length l.rest ≤ length l.fn.source.text.now + 1;
-      ends : l.fn.are_wanted ≡ true → l.ends.items ++ held_addresses (state_in l.pass) (readings l.fn.source.language l.rest) ≡ held_addresses (source_state l.fn.source) (source_readings l.fn.source);
+      ends : l.fn.are_wanted ≡ true → l.ends ++ held_addresses (state_in l.pass) (readings l.fn.source.language l.rest) ≡ held_addresses (source_state l.fn.source) (source_readings l.fn.source);
     }
 
 abbrev pub decreases-lines : goal.decreases-lines
