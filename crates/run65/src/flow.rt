@@ -3,35 +3,17 @@
 use crate::bus::{Bus, Purpose, Word};
 use crate::machine::Machine;
 use crate::operation::Operation;
-use crate::registers::{DECIMAL, INTERRUPT};
+use crate::registers::{CARRY, DECIMAL, INTERRUPT, NEGATIVE, OVERFLOW, ZERO};
 use crate::value::Value;
-use isa65::Mode;
+use isa65::{Mnemonic, Mode, Op};
 
 /// Where a break leads is read here.
 const BREAK: u16 = 0xFFFE;
 
-/// The address at a signed distance.
-fn at_distance(from: u16, distance: u8) -> u16 {
-    if distance < 0x80 {
-        from.wrapping_add(u16::from(distance))
-    } else {
-        from.wrapping_add(0xFF00).wrapping_add(u16::from(distance))
-    }
-}
-
 impl<V: Value, B: Bus<V>> Machine<V, B> {
-    /// The place that the stack pointer says.
-    fn top(&mut self, purpose: Purpose) -> Option<u16> {
-        let word = Word {
-            low: self.registers.s,
-            high: V::of(1),
-        };
-        self.bus.place(word, V::of(0), purpose)
-    }
-
     /// Pushes a value.
     pub(crate) fn push(&mut self, value: V) {
-        let place = self.top(Purpose::Write);
+        let place = self.in_page(1, self.registers.s, Purpose::Write);
         self.bus.write(place, value);
         self.registers.s = self.registers.s.plus(V::of(0xFF));
     }
@@ -39,13 +21,25 @@ impl<V: Value, B: Bus<V>> Machine<V, B> {
     /// Pulls a value.
     pub(crate) fn pull(&mut self) -> V {
         self.registers.s = self.registers.s.plus(V::of(1));
-        let place = self.top(Purpose::Read);
+        let place = self.in_page(1, self.registers.s, Purpose::Read);
         self.bus.read(place)
     }
 
-    /// Pushes an address of the code.
-    fn push_address(&mut self, address: u16) {
-        let word = self.bus.read_word(address);
+    /// Pushes the flags.
+    pub(crate) fn push_status(&mut self) {
+        let status = self.registers.status();
+        self.push(status);
+    }
+
+    /// Pulls the flags.
+    pub(crate) fn pull_status(&mut self) {
+        let status = self.pull();
+        self.registers.set_status(status);
+    }
+
+    /// Pushes the address of the last byte of a call.
+    fn push_address(&mut self) {
+        let word = self.bus.read_word(self.start.wrapping_add(2));
         self.push(word.high);
         self.push(word.low);
     }
@@ -68,56 +62,42 @@ impl<V: Value, B: Bus<V>> Machine<V, B> {
     fn branch_if(&mut self, flag: V, wanted: bool, at: u16) {
         if self.bus.takes(flag, wanted) {
             let distance = self.byte_at(at).byte();
-            self.registers.pc = at_distance(self.registers.pc, distance);
+            let before = if distance < 0x80 { 0 } else { 0x100 };
+            let to = self.registers.pc.wrapping_add(u16::from(distance));
+            self.registers.pc = to.wrapping_sub(before);
         }
     }
 
-    /// Runs a branch. The one that asks for no flag is always taken.
+    /// Runs a branch. Bits 6 and 7 of its opcode are the flag that it asks for, and bit 5 is whether that has to be set; `bra` asks for none.
     pub(crate) fn branch(&mut self, opcode: u8) {
-        let asked = self.registers.asked_by(opcode);
-        let (flag, wanted) = asked.unwrap_or((V::of(0), false));
-        self.branch_if(flag, wanted, 1);
+        if opcode == 0x80 {
+            return self.branch_if(V::of(0), false, 1);
+        }
+        let number = [NEGATIVE, OVERFLOW, CARRY, ZERO][usize::from(opcode / 64)];
+        let flag = self.registers.flags[number];
+        self.branch_if(flag, opcode & 0x20 != 0, 1);
     }
 
     /// Runs a branch by a bit of the zero page. Bits 4 to 6 of its opcode are the bit's number, and bit 7 is whether it has to be set.
     pub(crate) fn branch_by_bit(&mut self, opcode: u8) {
         let base = self.byte_at(1);
-        let place = self.in_zero_page(base, Purpose::Read);
+        let place = self.in_page(0, base, Purpose::Read);
         let flag = self.bus.read(place).alone(Operation::Bit(opcode / 16 % 8));
         self.branch_if(flag, 0x7F < opcode, 2);
     }
 
-    /// The two bytes at a word and so many bytes after it. On the 6502 the second one stands in the page of the first one.
-    fn word_at(&mut self, word: Word<V>, index: V) -> Word<V> {
+    /// The two bytes at the operand and so many bytes after it. On the 6502 the second one stands in the page of the first one.
+    fn pointed(&mut self, index: V) -> Word<V> {
+        let word = self.word();
         let first = self.bus.place(word, index, Purpose::Pointer);
         let second = if self.is_cmos {
             first.map(|place| place.wrapping_add(1))
         } else {
             let low = word.low.plus(V::of(1));
-            self.bus
-                .place(Word { low, ..word }, V::of(0), Purpose::Pointer)
+            let next = Word { low, ..word };
+            self.bus.place(next, V::of(0), Purpose::Pointer)
         };
-        let low = self.bus.read(first);
-        let high = self.bus.read(second);
-        Word { low, high }
-    }
-
-    /// Runs a jump.
-    pub(crate) fn jump(&mut self, mode: Mode) -> bool {
-        let word = self.word();
-        let to = match mode {
-            Mode::Ind => self.word_at(word, V::of(0)),
-            Mode::Absindx => self.word_at(word, self.registers.x),
-            _ => word,
-        };
-        self.go(to, 0, Purpose::Jump)
-    }
-
-    /// Runs a call.
-    pub(crate) fn call(&mut self) -> bool {
-        let word = self.word();
-        self.push_address(self.start.wrapping_add(2));
-        self.go(word, 0, Purpose::Call)
+        self.word_of(first, second)
     }
 
     /// Returns as `rts` does.
@@ -126,25 +106,34 @@ impl<V: Value, B: Bus<V>> Machine<V, B> {
         self.go(word, 1, Purpose::Return)
     }
 
-    /// Runs the return from an interrupt.
-    pub(crate) fn end_interrupt(&mut self) -> bool {
-        let status = self.pull();
-        self.registers.set_status(status);
-        let word = self.pull_word();
-        self.go(word, 0, Purpose::Jump)
-    }
-
-    /// Runs a break.
-    pub(crate) fn interrupt(&mut self) -> bool {
-        self.push_address(self.start.wrapping_add(2));
-        let status = self.registers.status();
-        self.push(status);
-        self.registers.flags[INTERRUPT] = V::of(1);
-        if self.is_cmos {
-            self.registers.flags[DECIMAL] = V::of(0);
-        }
-        let low = self.bus.read(Some(BREAK));
-        let high = self.bus.read(Some(BREAK + 1));
-        self.go(Word { low, high }, 0, Purpose::Jump)
+    /// Runs a jump, a call, a return or a break. Returns whether it is known where code goes on.
+    pub(crate) fn leave(&mut self, op: Op) -> bool {
+        let mut purpose = Purpose::Jump;
+        let word = match op.mnemonic {
+            Mnemonic::Rts => return self.come_back(),
+            Mnemonic::Rti => {
+                self.pull_status();
+                self.pull_word()
+            }
+            Mnemonic::Brk => {
+                self.push_address();
+                self.push_status();
+                self.registers.flags[INTERRUPT] = V::of(1);
+                if self.is_cmos {
+                    self.registers.flags[DECIMAL] = V::of(0);
+                }
+                self.word_of(Some(BREAK), Some(BREAK + 1))
+            }
+            Mnemonic::Jsr => {
+                purpose = Purpose::Call;
+                let word = self.word();
+                self.push_address();
+                word
+            }
+            _ if op.mode == Mode::Ind => self.pointed(V::of(0)),
+            _ if op.mode == Mode::Absindx => self.pointed(self.registers.x),
+            _ => self.word(),
+        };
+        self.go(word, 0, purpose)
     }
 }

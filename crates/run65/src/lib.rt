@@ -8,13 +8,11 @@
 #![tactic(auto)]
 
 mod bus;
-mod decimal;
 mod flow;
 mod machine;
 mod operand;
 mod operation;
 mod registers;
-mod sums;
 mod value;
 mod work;
 

@@ -38,18 +38,12 @@ impl<V: Value, B: Bus<V>> Machine<V, B> {
             return false;
         };
         self.registers.pc = self.start.wrapping_add(u16::from(op.mode.len()));
-        match op.mnemonic {
-            Mnemonic::Jmp => return self.jump(op.mode),
-            Mnemonic::Jsr => return self.call(),
-            Mnemonic::Rts => return self.come_back(),
-            Mnemonic::Rti => return self.end_interrupt(),
-            Mnemonic::Brk => return self.interrupt(),
-            _ => {}
-        }
-        match op.mode {
-            Mode::Rel => self.branch(opcode),
-            Mode::Zprel => self.branch_by_bit(opcode),
-            Mode::Zp if opcode % 16 == 7 => self.set_bit(opcode),
+        match (op.mnemonic, op.mode) {
+            (Mnemonic::Jmp | Mnemonic::Jsr | Mnemonic::Rts, _) => return self.leave(op),
+            (Mnemonic::Rti | Mnemonic::Brk, _) => return self.leave(op),
+            (_, Mode::Rel) => self.branch(opcode),
+            (_, Mode::Zprel) => self.branch_by_bit(opcode),
+            (_, Mode::Zp) if opcode % 16 == 7 => self.set_bit(opcode),
             _ => self.work(op),
         }
         true

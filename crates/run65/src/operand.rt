@@ -2,7 +2,6 @@
 
 use crate::bus::{Bus, Purpose, Word};
 use crate::machine::Machine;
-use crate::registers::Registers;
 use crate::value::Value;
 use isa65::Mode;
 
@@ -21,53 +20,59 @@ impl<V: Value, B: Bus<V>> Machine<V, B> {
         self.bus.read(Some(self.start.wrapping_add(distance)))
     }
 
-    /// The word after the opcode.
-    pub(crate) fn word(&mut self) -> Word<V> {
-        let low = self.byte_at(1);
-        let high = self.byte_at(2);
+    /// The word whose bytes are at these places.
+    pub(crate) fn word_of(&mut self, low: Option<u16>, high: Option<u16>) -> Word<V> {
+        let low = self.bus.read(low);
+        let high = self.bus.read(high);
         Word { low, high }
     }
 
-    /// The place in the zero page that has this byte as its address.
-    pub(crate) fn in_zero_page(&mut self, low: V, purpose: Purpose) -> Option<u16> {
-        let zero = V::of(0);
-        self.bus.place(Word { low, high: zero }, zero, purpose)
+    /// The word after the opcode.
+    pub(crate) fn word(&mut self) -> Word<V> {
+        let low = self.start.wrapping_add(1);
+        self.word_of(Some(low), Some(low.wrapping_add(1)))
     }
 
-    /// The place at the word after the opcode and an index.
-    fn at_word(&mut self, index: V, purpose: Purpose) -> Option<u16> {
-        let word = self.word();
-        self.bus.place(word, index, purpose)
+    /// The place in a page: 0 is the zero page, and 1 that of the stack.
+    pub(crate) fn in_page(&mut self, page: u8, low: V, purpose: Purpose) -> Option<u16> {
+        let high = V::of(page);
+        self.bus.place(Word { low, high }, V::of(0), purpose)
+    }
+
+    /// The place at the word after the opcode, of which this is the low byte, and an index.
+    fn at_word(&mut self, low: V, index: V, purpose: Purpose) -> Option<u16> {
+        let high = self.byte_at(2);
+        self.bus.place(Word { low, high }, index, purpose)
     }
 
     /// The place at a pointer in the zero page and an index.
     fn at_pointer(&mut self, at: V, index: V, purpose: Purpose) -> Option<u16> {
-        let low_place = self.in_zero_page(at, Purpose::Read);
+        let low_place = self.in_page(0, at, Purpose::Read);
         let low = self.bus.read(low_place);
-        let high_place = self.in_zero_page(at.plus(V::of(1)), Purpose::Read);
+        let high_place = self.in_page(0, at.plus(V::of(1)), Purpose::Read);
         let high = self.bus.read(high_place);
         self.bus.place(Word { low, high }, index, purpose)
     }
 
-    /// The operand in this mode. Only jumps and branches have other modes than these.
+    /// The operand in this mode, which is none of a jump or a branch.
     pub(crate) fn operand(&mut self, mode: Mode, purpose: Purpose) -> Operand {
+        if matches!(mode, Mode::Imp | Mode::Acc) {
+            return Operand::Accumulator;
+        }
         let zero = V::of(0);
-        let Registers { x, y, .. } = self.registers;
         let base = self.byte_at(1);
-        let place = match mode {
-            Mode::Imm => Some(self.start.wrapping_add(1)),
-            Mode::Zp => self.in_zero_page(base, purpose),
-            Mode::Zpx => self.in_zero_page(base.plus(x), purpose),
-            Mode::Zpy => self.in_zero_page(base.plus(y), purpose),
-            Mode::Abs => self.at_word(zero, purpose),
-            Mode::Absx => self.at_word(x, purpose),
-            Mode::Absy => self.at_word(y, purpose),
-            Mode::Indx => self.at_pointer(base.plus(x), zero, purpose),
-            Mode::Indy => self.at_pointer(base, y, purpose),
+        Operand::Place(match mode {
+            Mode::Zp => self.in_page(0, base, purpose),
+            Mode::Zpx => self.in_page(0, base.plus(self.registers.x), purpose),
+            Mode::Zpy => self.in_page(0, base.plus(self.registers.y), purpose),
+            Mode::Abs => self.at_word(base, zero, purpose),
+            Mode::Absx => self.at_word(base, self.registers.x, purpose),
+            Mode::Absy => self.at_word(base, self.registers.y, purpose),
+            Mode::Indx => self.at_pointer(base.plus(self.registers.x), zero, purpose),
+            Mode::Indy => self.at_pointer(base, self.registers.y, purpose),
             Mode::Zpind => self.at_pointer(base, zero, purpose),
-            _ => return Operand::Accumulator,
-        };
-        Operand::Place(place)
+            _ => Some(self.start.wrapping_add(1)),
+        })
     }
 
     /// The value of an operand.
