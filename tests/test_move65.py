@@ -1,6 +1,6 @@
 """move65 on real files: its messages, what it says, and that da65 and name65 accept what it says. Rows are in
 tests/rows/move65.txt."""
-import random
+import os, pty, random, re, subprocess
 import pytest
 from conftest import holds, read, tables, write
 
@@ -45,3 +45,16 @@ def test_rounds(move65, da65, as65, trace65, name65, seed):
         said.gives(1, None)
         write("rounds.info", read("rounds.info") + said.out)
     pytest.fail(f"it does not end: {said.out.decode()}")
+
+
+def test_long_run(move65):
+    """A run of more than a second says on a terminal where it is, and takes that away. Elsewhere it says nothing."""
+    write("loop.s", "L1000: inx\n jmp L1000\n")
+    words = ["-S", "0x1000", "--entry", ",".join(60 * ["0x1000"]), "loop.s"]
+    ours, theirs = pty.openpty()
+    subprocess.run([move65.path, *words], stdout=subprocess.DEVNULL, stderr=theirs, check=True)
+    os.close(theirs)
+    shown = os.read(ours, 65536)
+    os.close(ours)
+    assert re.fullmatch(rb"(\rmove65: at \$1000 )+\r\x1b\[K", shown), shown
+    move65(words, 0, "# 2 of 2 instructions have run in both\n")

@@ -1,6 +1,6 @@
 """Counts instructions by valgrind's callgrind: of da65 beside cc65's da65 on the same bytes, as65 beside ca65 and ld65,
-name65 and html65 beside as65, and trace65 by itself. Each row has the figure of docs/GATE.md, and fails if it is more
-than a twentieth above that; runs differ by less than a thousandth. Twice as much takes at most 2.3 times the
+name65 and html65 beside as65, and trace65 and move65 by themselves. Each row has the figure of docs/GATE.md, and fails if
+it is more than a twentieth above that; runs differ by less than a thousandth. Twice as much takes at most 2.3 times the
 instructions. The end of the run has the figures."""
 import bisect, functools, itertools, random, re
 import pytest
@@ -216,6 +216,20 @@ def test_html65(as65, html65, shows, text):
     ours = instructions(html65.path, f"-S 0 -o a.html {write('a.s', listing)}")
     shows(356, ours, instructions(as65.path, "-S 0 -o ours.bin a.s"))
     assert len(read("a.html")) <= 12 * len(listing)
+
+
+def test_move65(move65, record_property, request, limit, routines):
+    """Routines that call each other until their steps are used up. Half as many take half of it."""
+    def count(number):
+        text = "".join(f"""r{n}: lda #{n % 256}\n sta $20\n lda r{n * 7919 % number},x\n clc\n adc $30\n sta ($22),y
+            inx\n ldy $24\n iny\n sty $25\n cmp #$10\n bne s{n}\ns{n}: jsr r{(n * 7919 + 1) % number}\n rts
+            """ for n in range(number))
+        return instructions(move65.path, f"-S 0x800 {write('calls.s', text)}")
+
+    whole = count(routines)
+    record_property("shown", f"move65: {request.node.callspec.id:36} {whole:12}")
+    assert whole <= 1050000 * limit, f"{whole} instructions of move65, more than a twentieth above {limit} million"
+    assert whole <= 2.3 * count(routines // 2)
 
 
 def test_trace65(trace65, record_property, request, limit, data, groups_):

@@ -38,7 +38,8 @@ info65 narrow 1
 map65 ImageFault::from 2
 map65 TakeFault::from 1
 move65 failure_for 2
-move65 find 1
+move65 refused 2
+move65 study 1
 name65 Failure::from 2
 name65 Refusal::from 1
 name65 assembled 2

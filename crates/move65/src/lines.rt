@@ -1,7 +1,8 @@
 //! The lines of a listing: which bytes are numbers of their own, which are instructions, and where routines begin.
 
 use crate::scene::Scene;
-use isa65::Pattern;
+use info65::Info;
+use isa65::{Mnemonic, Pattern};
 use map65::Marks;
 use std::alloc::{AllocError, Global};
 use stmt65::{
@@ -9,18 +10,13 @@ use stmt65::{
     first_line, read_line,
 };
 
-/// The opcodes of jumps and calls of an address, and of what code does not go on behind.
-const JSR: u8 = 0x20;
-
-const JMP: u8 = 0x4C;
-
-const ENDS: [u8; 4] = [JMP, 0x6C, 0x60, 0x40];
-
 /// What the lines of a listing say of the addresses.
 #[derive(Drop)]
 pub struct Lines {
     /// The byte is a number of an immediate operand or of a `.byte`.
     pub numbers: Marks,
+    /// A number of a `.word` begins there.
+    pub words: Marks,
     /// An instruction begins there.
     pub instructions: Marks,
     /// An instruction begins there that has an address of two bytes as its operand, and is no jump or call of it.
@@ -32,21 +28,25 @@ pub struct Lines {
 }
 
 impl Lines {
-    /// The lines of a text with what they mean; these addresses have a name too. Fails only if an allocation failed.
+    /// The lines of a text with what they mean; the information file has further names. Fails only if an allocation failed.
     pub fn of(
         alloc: Global,
         scene: &Scene,
         text: &[u8],
         assembly: &Assembly<'_, '_, Global>,
-        named: &Marks,
+        info: &Info,
     ) -> Result<Lines, AllocError> {
         let mut lines = Lines {
             numbers: Marks::none(alloc)?,
+            words: Marks::none(alloc)?,
             instructions: Marks::none(alloc)?,
             operands: Marks::none(alloc)?,
             routines: Marks::none(alloc)?,
-            named: named.copy(alloc)?,
+            named: Marks::none(alloc)?,
         };
+        for index in 0..info.given_count() {
+            lines.named.set(info.given(index).address);
+        }
         for definition in assembly.names.definitions() {
             if let Some(address) = definition.address() {
                 lines.named.set(address);
@@ -71,11 +71,6 @@ impl Lines {
         Ok(lines)
     }
 
-    /// Whether the byte at a place stays and is a number of its own.
-    pub fn is_open(&self, scene: &Scene, place: u16) -> bool {
-        self.numbers.get(place) && scene.stays(place)
-    }
-
     /// Takes a line of so many bytes at an address, behind code that goes on or not. Returns whether code goes on behind it.
     fn take_line(
         &mut self,
@@ -85,44 +80,52 @@ impl Lines {
         line: &[u8],
         goes_on: bool,
     ) -> Result<bool, AllocError> {
-        match read_line(alloc, Language::Repair, line)? {
-            Some(SourceLine::Statement { label, operation }) => {
-                if !goes_on && label.is_some() && matches!(operation, Operation::Instr(_, _)) {
+        let Some(SourceLine::Statement { label, operation }) = read_line(
+            alloc,
+            Language::Repair,
+            line,
+        )?
+        else {
+            return Ok(goes_on);
+        };
+        match &operation {
+            Operation::Instr(mnemonic, form) => {
+                if !goes_on && label.is_some() {
                     self.routines.set(at);
                 }
-                Ok(self.take(scene, at, len, &operation))
+                return Ok(self.take_instruction(scene, (at, len), *mnemonic, form));
             }
-            _ => Ok(goes_on),
-        }
-    }
-
-    /// Takes an operation of so many bytes. Returns whether code goes on behind it.
-    fn take(&mut self, scene: &Scene, at: u16, len: u64, operation: &Operation<'_>) -> bool {
-        match operation {
-            Operation::Instr(_, form) => return self.take_instruction(scene, at, len, form),
             Operation::Data(data) => self.take_bytes(at, data),
-            Operation::Values(Directive::Word | Directive::Addr, values) => {
-                self.take_words(scene, at, values)
+            Operation::Values(directive @ (Directive::Word | Directive::Addr), values) => {
+                for (value, at) in values.iter().zip((at..=u16::MAX).step_by(2)) {
+                    self.take_word(scene, at, directive, value);
+                }
             }
             _ => {}
         }
-        false
+        Ok(false)
     }
 
     /// Takes an instruction of so many bytes. Returns whether code goes on behind it.
-    fn take_instruction(&mut self, scene: &Scene, at: u16, len: u64, form: &Form<'_>) -> bool {
+    fn take_instruction(
+        &mut self,
+        scene: &Scene,
+        (at, len): (u16, u64),
+        mnemonic: Mnemonic,
+        form: &Form<'_>,
+    ) -> bool {
         self.instructions.set(at);
         if let Form::One(Notation::Plain(Pattern::Immediate), Value::Number(_)) = form {
             self.numbers.set(at.saturating_add(1));
         }
-        let opcode = scene.byte(at).unwrap_or(0);
-        if opcode == JSR || opcode == JMP {
-            self.put_routine(scene, at.saturating_add(1), 0);
-        } else if len == 3 && opcode % 16 != 15 {
+        match scene.byte(at).unwrap_or(0) {
+            // `jsr` and `jmp` of an address.
+            0x20 | 0x4C => self.put_routine(scene, at.saturating_add(1), 0),
             // Those that end in F are branches.
-            self.operands.set(at);
+            opcode if len == 3 && opcode % 16 != 15 => self.operands.set(at),
+            _ => {}
         }
-        !ENDS.contains(&opcode)
+        !matches!(mnemonic, Mnemonic::Jmp | Mnemonic::Rts | Mnemonic::Rti)
     }
 
     /// Code begins at the word of an address and this many bytes behind it, if the image has that.
@@ -150,16 +153,13 @@ impl Lines {
         }
     }
 
-    /// Takes the operands of a `.word`. Names are addresses of code, or one less; for a number no name can be written by halves.
-    fn take_words(&mut self, scene: &Scene, from: u16, values: &[Value<'_>]) {
-        let mut at = from;
-        for value in values {
-            match value {
-                Value::Number(_) => {}
-                Value::Name(_, _, Minus::One) => self.put_routine(scene, at, 1),
-                _ => self.put_routine(scene, at, 0),
-            }
-            at = at.saturating_add(2);
+    /// Takes an operand of a `.word` or `.addr`. Names are addresses of code, or one less.
+    fn take_word(&mut self, scene: &Scene, at: u16, directive: &Directive, value: &Value<'_>) {
+        match (directive, value) {
+            (Directive::Word, Value::Number(_)) => self.words.set(at),
+            (_, Value::Number(_)) => {}
+            (_, Value::Name(_, _, Minus::One)) => self.put_routine(scene, at, 1),
+            _ => self.put_routine(scene, at, 0),
         }
     }
 }

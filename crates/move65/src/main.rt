@@ -1,51 +1,39 @@
 //! Says whether a listing moves: `move65 [options] [listing]`.
 //!
 //! In order: the options, then help or version, the information file, the listing, both images and their runs, and the output, which is
-//! created only now. The output is text of an information file: groups for the bytes that have not moved and must, and for those that have
-//! and must not, and comments. The status is 0 if nothing parts, or if the help text or the version was written; 1 if something does; and
-//! otherwise 2.
+//! created only now: groups for the bytes that have not moved and must, and for those that have and must not, and comments. The status is
+//! 0 if nothing parts, or if the help text or the version was written; 1 if something does; and otherwise 2.
 #![tactic(auto)]
 
 mod command;
 mod failure;
-mod information;
 mod judge;
 mod lines;
 mod moving;
 mod pair;
+mod progress;
 mod report;
 mod request;
 mod runs;
 mod scene;
-mod sightings;
 mod variables;
 mod world;
 
 use failure::Failure;
 use files65::{Output, Placeholders, keep_files, read_information, read_listing, say, write_text};
-use moving::{Moved, text_of};
+use moving::text_of;
 use request::{Moving, request_of};
 use std::process::ExitCode;
 use usage65::{Request, words_of};
 
-/// What is found of the listing.
-fn found(rt: &HostRuntime, moving: &Moving) -> Result<Moved, Failure> {
-    let bytes = read_information(rt, moving.names.info.as_deref())?;
-    let text = read_listing(rt, moving.names.listing.as_str())?;
-    text_of(rt.alloc(), moving, &bytes, &text)
-}
-
-/// Writes a text to the output of this name, which is created only now.
-fn write(rt: &HostRuntime, name: Option<String>, text: &[u8]) -> Result<(), Failure> {
-    let mut output = Output::create_new(rt, name)?;
-    Ok(write_text(&mut output, text)?)
-}
-
-/// Reads the listing, and writes what is found. Returns whether something parts.
+/// Reads the listing, and writes what is found to an output that is created only then. Returns whether something parts.
 fn move_listing(rt: &HostRuntime, moving: &mut Moving) -> Result<bool, Failure> {
     keep_files(rt, &moving.names)?;
-    let moved = found(rt, moving)?;
-    write(rt, moving.names.output.take(), &moved.text)?;
+    let bytes = read_information(rt, moving.names.info.as_deref())?;
+    let text = read_listing(rt, moving.names.listing.as_str())?;
+    let moved = text_of(rt, moving, &bytes, &text)?;
+    let mut output = Output::create_new(rt, moving.names.output.take())?;
+    write_text(&mut output, moved.text.as_bytes())?;
     Ok(moved.parts)
 }
 

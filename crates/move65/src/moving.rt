@@ -1,18 +1,20 @@
 //! Assembles a listing here and later, runs both, and judges what is seen.
 
+ghost use Rattle.std.specs.Prelude.{◌≡◌, ◌++◌, [], ◌∷◌, IfOk, Ok};
+ghost use Rattle.info65.specs.Words.{information};
+
 use crate::failure::{Failure, Refused};
-use crate::information::{Information, options_with, read_back};
 use crate::judge::Findings;
 use crate::lines::Lines;
-pub use crate::report::Moved;
-use crate::report::Report;
+use crate::progress::Progress;
+use crate::report::Moved;
 use crate::request::Moving;
 use crate::runs::{Both, run_all};
 use crate::scene::Scene;
 use crate::variables::move_variables;
 use crate::world::World;
-use files65::{layout_of, repair, start_or_end};
-use info65::{Tag, TagKind};
+use files65::{information_of, layout_of, repair, start_or_end, tags_of};
+use info65::{Info, InfoFault, InfoFaultKind, Options, Tag, TagKind, read_info, without_numbers};
 use map65::Marks;
 use run65::{Machine, Registers};
 use std::alloc::{AllocError, Global};
@@ -102,31 +104,30 @@ fn entries_of(
     Ok(found)
 }
 
-/// Runs both images until nothing more is found.
-fn find(
-    alloc: Global,
+/// Runs both images until nothing more is found, and returns what is written of them.
+fn study(
+    rt: &HostRuntime,
     machine: &mut Both,
     lines: &Lines,
     entries: &[u16],
     tags: &[Tag],
-) -> Result<Findings, AllocError> {
-    let mut found = Findings::new(alloc, tags)?;
+) -> Result<Moved, AllocError> {
+    let mut found = Findings::new(rt.alloc(), tags)?;
+    let mut shown = Progress::new(rt);
     for _ in 0..ROUNDS {
-        machine.bus.clear();
-        run_all(machine, lines, entries);
+        run_all(machine, lines, entries, &mut shown);
         if machine.bus.is_out_of_memory {
             return Err(AllocError);
         }
         let has_moved = move_variables(&mut machine.bus, lines, &mut found.variables)?;
-        if !has_moved && !found.judge(&mut machine.bus, lines, tags)? {
+        if !has_moved && !found.judge(&mut machine.bus, lines)? {
             break;
         }
     }
     // Those with their bytes as far apart follow each other.
-    found
-        .claims
-        .sort_by_key(|claim| (claim.high.wrapping_sub(claim.low), claim.low))?;
-    Ok(found)
+    let claims = &mut found.claims;
+    claims.sort_by_key(|claim| (claim.high.wrapping_sub(claim.low), claim.low))?;
+    found.text(rt.alloc(), &machine.bus, lines)
 }
 
 /// What the listing of this name means.
@@ -144,63 +145,94 @@ fn assembled<'t, 'b>(
     }
 }
 
-/// Runs both images from these entries, and returns what is written of them.
-fn study(
-    alloc: Global,
-    machine: &mut Both,
-    lines: &Lines,
-    entries: &[u16],
-    tags: &[Tag],
-) -> Result<Moved, AllocError> {
-    let found = find(alloc, machine, lines, entries, tags)?;
-    let report = Report {
-        world: &machine.bus,
-        lines,
-        found: &found,
-    };
-    report.text(alloc)
-}
-
 /// What is written of these lines and both images.
 fn moved(
-    alloc: Global,
+    rt: &HostRuntime,
     moving: &Moving,
-    info: &Information,
+    info: &Info,
     lines: &Lines,
+    tags: &[Tag],
     scene: Scene,
 ) -> Result<Moved, AllocError> {
-    let entries = entries_of(alloc, &moving.entries, &info.tags, &scene)?;
-    let registers = Registers::at(scene.start);
-    let world = World::new(alloc, scene)?;
-    let mut machine = Machine::new(info.cpu, registers, world);
-    study(alloc, &mut machine, lines, &entries, &info.tags)
+    let entries = entries_of(rt.alloc(), &moving.entries, tags, &scene)?;
+    let world = World::new(rt.alloc(), scene)?;
+    let mut machine = Machine::new(info.settings().cpu, Registers::at(0), world);
+    study(rt, &mut machine, lines, &entries, tags)
 }
 
-/// What is written of a listing.
+/// What is written of a listing under what the information file says.
 fn written(
-    alloc: Global,
+    rt: &HostRuntime,
     moving: &Moving,
-    info: &Information,
+    info: &Info,
+    tags: &[Tag],
     source: &Source<'_, '_, '_>,
 ) -> Result<Moved, Failure> {
+    let alloc = rt.alloc();
     let assembly = assembled(&alloc, moving.names.listing.as_str(), source)?;
-    let scene = scene_of(alloc, source, &assembly.bytes, moving.by, &info.tags)?;
-    let lines = Lines::of(alloc, &scene, source.text, &assembly, &info.named)?;
-    Ok(moved(alloc, moving, info, &lines, scene)?)
+    let scene = scene_of(alloc, source, &assembly.bytes, moving.by, tags)?;
+    let lines = Lines::of(alloc, &scene, source.text, &assembly, info)?;
+    Ok(moved(rt, moving, info, &lines, tags, scene)?)
+}
+
+/// What is written of a listing under the information file of these bytes. Halves that a NUMBER takes back count for nothing.
+fn listed(
+    rt: &HostRuntime,
+    moving: &Moving,
+    info: &Info,
+    bytes: &[u8],
+    text: &[u8],
+) -> Result<Moved, Failure> {
+    let all = tags_of(rt.alloc(), bytes)?;
+    let tags = without_numbers(rt.alloc(), &all)?;
+    let layout = layout_of(rt.alloc(), &[], None)?;
+    let start = start_or_end(rt.alloc(), info.settings().start, &layout, text)?;
+    written(rt, moving, info, &tags, &repair(&layout, start, text))
 }
 
 /// What is written of a listing, and of the information file of these bytes.
 pub fn text_of(
-    alloc: Global,
+    rt: &HostRuntime,
     moving: &Moving,
     bytes: &[u8],
     text: &[u8],
 ) -> Result<Moved, Failure> {
-    let options = options_with(moving.start, moving.cpu);
-    let info = Information::of(alloc, &options, bytes)?;
-    let layout = layout_of(alloc, &[], None)?;
-    let start = start_or_end(alloc, info.start, &layout, text)?;
-    let moved = written(alloc, moving, &info, &repair(&layout, start, text))?;
-    let _ = read_back(alloc, &options, bytes, &moved.text)?;
+    let info: Info = information_of(rt.alloc(), &moving.options, bytes)?;
+    let moved = listed(rt, moving, &info, bytes, text)?;
+    let _ = read_back(rt.alloc(), &moving.options, bytes, moved.text.as_bytes())?;
     Ok(moved)
+}
+
+/// The failure for a fault of the file with what is found.
+fn refused(fault: InfoFault) -> Failure {
+    match fault.kind {
+        InfoFaultKind::Memory => Failure::Memory,
+        _ => Failure::Own(Refused::Text(fault)),
+    }
+}
+
+/// Reads the information file with the text behind it, and its groups in lines `#: ..`. Fails with the fault that it would be refused for.
+pub fn read_back(
+    alloc: Global,
+    options: &Options,
+    bytes: &[u8],
+    text: &[u8],
+) -> Result<Info, Failure>
+    /// Reads an information file with a line feed and a text behind it. Returns only what the definition says of
+    /// both together.
+    ensures accepted { IfOk result (λ info.
+        information options.now ((bytes.now ++ (10 ∷ [])) ++ text.now) ≡ Ok info) }
+{
+    let mut whole = Vec::from_slice(alloc, bytes)?;
+    whole.extend_from_slice(b"\n")?;
+    whole.extend_from_slice(text)?;
+    let info = match read_info(alloc, options, &whole) {
+        Ok(info) => info,
+        Err(fault) => return Err(refused(fault)),
+    };
+    match tags_of(alloc, &whole) {
+        Ok(_) => Ok(info),
+        Err(Failure::Info(fault)) => Err(refused(fault)),
+        Err(failure) => Err(failure),
+    }
 }

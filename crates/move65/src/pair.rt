@@ -5,7 +5,7 @@ use run65::{Operation, Value};
 /// The most places that a value is known to come from.
 const MOST: usize = 6;
 
-/// Places of the image, in order, each once. A value of more places than fit comes from `MOST` + 1, of which none is known.
+/// Places of the image, in order, each once. Of more than fit there are `MOST` + 1, of which none is known.
 #[derive(Clone, Copy, Debug, PartialEq, Eq)]
 pub struct Places {
     count: u8,
@@ -14,18 +14,17 @@ pub struct Places {
 
 impl Places {
     /// No places.
-    pub fn none() -> Places {
-        Places {
-            count: 0,
-            at: [0; MOST],
-        }
-    }
+    pub const NONE: Places = Places {
+        count: 0,
+        at: [0; MOST],
+    };
 
     /// This place.
     pub fn one(place: u16) -> Places {
-        let mut places = Places::none();
-        places.put(place);
-        places
+        Places {
+            count: 1,
+            at: [place, 0, 0, 0, 0, 0],
+        }
     }
 
     /// The places, if they are known.
@@ -33,35 +32,25 @@ impl Places {
         self.at.get(..usize::from(self.count)).unwrap_or(&[])
     }
 
-    /// Adds a place behind the others.
-    fn put(&mut self, place: u16) {
-        match self.at.get_mut(usize::from(self.count)) {
-            Some(free) => {
-                *free = place;
-                self.count = self.count.saturating_add(1);
-            }
-            None => {
-                *self = Places {
-                    count: (MOST + 1) as u8,
-                    at: [0; MOST],
-                }
-            }
-        }
-    }
-
     /// These places and those.
     pub fn with(self, other: Places) -> Places {
-        if other.count == 0 || self == other {
-            return self;
-        }
         if self.count == 0 || MOST < usize::from(other.count) {
             return other;
         }
         let mut both = self;
         for &place in other.as_slice() {
-            if !self.as_slice().contains(&place) {
-                both.put(place);
+            if both.as_slice().contains(&place) {
+                continue;
             }
+            let count = usize::from(both.count);
+            let Some(free) = both.at.get_mut(count) else {
+                return Places {
+                    count: (MOST + 1) as u8,
+                    ..Places::NONE
+                };
+            };
+            *free = place;
+            both.count = both.count.saturating_add(1);
         }
         both
     }
@@ -94,14 +83,6 @@ impl Pair {
         }
     }
 
-    /// A byte that both runs have, from outside of the image.
-    pub fn unknown(byte: u8) -> Pair {
-        Pair {
-            is_mixed: true,
-            ..Pair::of(byte)
-        }
-    }
-
     /// These bytes, which come from another one too.
     pub fn with_origin(self, other: Pair) -> Pair {
         Pair {
@@ -111,18 +92,13 @@ impl Pair {
             ..self
         }
     }
-
-    /// Whether both runs have the same byte.
-    pub fn is_same(&self) -> bool {
-        self.here == self.later
-    }
 }
 
 impl Value for Pair {
     fn of(byte: u8) -> Pair {
         Pair {
             is_known: false,
-            ..Pair::known(byte, byte, Places::none())
+            ..Pair::known(byte, byte, Places::NONE)
         }
     }
 
@@ -130,6 +106,7 @@ impl Value for Pair {
         self.here
     }
 
+    #[inline(always)]
     fn apply(operation: Operation, a: Pair, b: Pair, c: Pair) -> Pair {
         let both = Pair {
             here: operation.result(a.here, b.here, c.here),
@@ -139,6 +116,15 @@ impl Value for Pair {
         match operation {
             Operation::SumCarry | Operation::DecimalCarry => both.with_origin(c),
             _ => both,
+        }
+    }
+
+    #[inline(always)]
+    fn alone(self, operation: Operation) -> Pair {
+        Pair {
+            here: operation.result(self.here, self.here, self.here),
+            later: operation.result(self.later, self.later, self.later),
+            ..self
         }
     }
 }

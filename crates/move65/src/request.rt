@@ -2,7 +2,7 @@
 
 use crate::command::this_program;
 use clap::ArgMatches;
-use isa65::Cpu;
+use info65::Options;
 use std::alloc::Global;
 use usage65::{
     FileNames, Request, RequestFault, UsageFault, address_of, addresses_of, cpu_of, info_named,
@@ -13,9 +13,8 @@ use usage65::{
 #[derive(Drop)]
 pub struct Moving {
     pub names: FileNames,
-    /// The address of the first byte; without one the information file says where it is, or the last byte is at $FFFF.
-    pub start: Option<u16>,
-    pub cpu: Option<Cpu>,
+    /// The options of da65 that say where the first byte belongs and which CPU runs.
+    pub options: Options,
     /// Where code begins.
     pub entries: Vec<u16>,
     /// How much later the second image lies.
@@ -37,8 +36,9 @@ pub fn request_of(alloc: Global, words: &[String]) -> Result<Request<Moving>, Re
 
 /// The run that the matches ask for.
 fn moving_in(alloc: Global, matches: &ArgMatches) -> Result<Moving, RequestFault> {
-    let start = address_of(matches, "start")?;
-    let cpu = cpu_of(matches, "cpu")?;
+    let mut options = Options::none();
+    options.start = address_of(matches, "start")?;
+    options.cpu = cpu_of(matches, "cpu")?;
     let entries = addresses_of(alloc, matches, "entry")?;
     let by = address_of(matches, "by")?.unwrap_or(BY);
     if by == 0 {
@@ -50,8 +50,7 @@ fn moving_in(alloc: Global, matches: &ArgMatches) -> Result<Moving, RequestFault
     let names = names_apart(alloc, listing, info, output)?;
     Ok(Moving {
         names,
-        start,
-        cpu,
+        options,
         entries,
         by,
     })

@@ -2,6 +2,7 @@
 
 use crate::lines::Lines;
 use crate::pair::Pair;
+use crate::progress::Progress;
 use crate::world::World;
 use run65::{DECIMAL, Machine, Registers, Value};
 
@@ -15,11 +16,6 @@ const SHORT: u32 = 1_500;
 const ENTRY_SEEDS: u32 = 2;
 
 const ROUTINE_SEEDS: u32 = 4;
-
-/// The opcodes of `brk` and `rti`, where a run ends.
-const BRK: u8 = 0x00;
-
-const RTI: u8 = 0x40;
 
 /// Both machines as one.
 pub type Both = Machine<Pair, World>;
@@ -43,8 +39,9 @@ fn run_from(machine: &mut Both, lines: &Lines, from: u16, steps: u32) {
     for _ in 0..steps {
         let at = machine.registers.pc;
         let goes_on = if machine.bus.scene.has(at) {
-            let ends = matches!(machine.bus.opcode(at), None | Some(BRK) | Some(RTI));
-            if ends || !lines.instructions.get(at) {
+            // A run ends at `brk` and `rti`.
+            let opcode = machine.bus.cell(at).map(|pair| pair.here);
+            if matches!(opcode, None | Some(0x00 | 0x40)) || !lines.instructions.get(at) {
                 return;
             }
             machine.bus.begin(at);
@@ -59,11 +56,15 @@ fn run_from(machine: &mut Both, lines: &Lines, from: u16, steps: u32) {
     }
 }
 
-/// Runs from all entries, and then from each routine, each with memory of which only the image is known.
-pub fn run_all(machine: &mut Both, lines: &Lines, entries: &[u16]) {
+/// Forgets what was seen, and runs from all entries and then from each routine, each with memory of which only the image is known.
+pub fn run_all(machine: &mut Both, lines: &Lines, entries: &[u16], shown: &mut Progress<'_>) {
+    for seen in machine.bus.seen.iter_mut() {
+        seen.clear();
+    }
     for seed in 0..ENTRY_SEEDS {
         machine.bus.reset(seed);
         for &entry in entries {
+            shown.say(entry);
             run_from(machine, lines, entry, LONG);
         }
     }
@@ -72,10 +73,12 @@ pub fn run_all(machine: &mut Both, lines: &Lines, entries: &[u16]) {
         if !lines.routines.get(routine) {
             continue;
         }
+        shown.say(routine);
         for seed in 0..ROUTINE_SEEDS {
             machine.bus.begin_trial(seed.saturating_add(10));
             run_from(machine, lines, routine, SHORT);
             machine.bus.end_trial();
         }
     }
+    shown.end();
 }

@@ -28,11 +28,7 @@ impl Scene {
     /// The index of an address in the image, if it has that.
     fn index(&self, address: u16) -> Option<usize> {
         let index = usize::from(address).checked_sub(usize::from(self.start))?;
-        if index < self.here.len() {
-            Some(index)
-        } else {
-            None
-        }
+        (index < self.here.len()).then_some(index)
     }
 
     /// Whether the image has the address.

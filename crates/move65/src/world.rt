@@ -1,17 +1,46 @@
-//! What both runs are connected to: the image, unknown memory, and what is seen.
+//! What both runs are connected to: the image, unknown memory, and what is seen: where they part, and which places of the image that comes from.
 
 use crate::pair::{Pair, Places};
 use crate::scene::Scene;
-use crate::sightings::{Kind, Sighting};
 use map65::Marks;
-use run65::{Bus, Purpose, Word};
+use run65::{Bus, Purpose, Value, Word};
 use std::alloc::{AllocError, Global};
+use std::mem::take;
 
 /// The page of the stack ends before this address. Nothing is written below it by an address that nobody knows.
 const STACK_END: u16 = 0x0200;
 
 /// The most that is kept of what is seen of one instruction.
 const MOST: usize = 24;
+
+/// What parts.
+#[derive(Clone, Copy, Debug, PartialEq, Eq)]
+pub enum Kind {
+    /// An address of the image that does not lie later in the other run.
+    Stays(Purpose),
+    /// An address outside of the image that is not the same in the other run.
+    Moves(Purpose),
+    /// A branch that goes another way in the other run.
+    Branch,
+}
+
+/// Where both runs part.
+#[derive(Clone, Copy, Debug, PartialEq, Eq)]
+pub struct Sighting {
+    pub kind: Kind,
+    /// The instruction.
+    pub at: u16,
+    /// The address that is used, without its index.
+    pub here: u16,
+    /// The places that its low byte comes from, or all that comes into it.
+    pub low: Places,
+    /// Those of its high byte.
+    pub high: Places,
+    /// Whether something comes into it that nobody knows.
+    pub is_mixed: bool,
+    /// Whether the run began at an entry, and not at a routine that nobody called.
+    pub is_sure: bool,
+}
 
 /// Both memories, and what is seen of them.
 #[derive(Drop)]
@@ -25,7 +54,6 @@ pub struct World {
     undo: Vec<(u16, Option<Pair>)>,
     /// Whether something that nobody knows came into the last address.
     is_guess: bool,
-    /// Whether memory ran out.
     pub is_out_of_memory: bool,
     /// The address of the instruction that runs.
     at: u16,
@@ -44,30 +72,16 @@ pub struct World {
     pub used: Marks,
 }
 
-/// A byte that nobody knows, by what decides it.
-fn unknown_byte(of: u32, seed: u32) -> u8 {
-    if seed == 0 {
-        return 0;
-    }
-    let mixed = of
-        .wrapping_mul(0x9E37_79B1)
-        .wrapping_add(seed.wrapping_mul(0x85EB_CA6B));
-    let mixed = (mixed ^ (mixed / 0x8000)).wrapping_mul(0xC2B2_AE35);
-    (mixed / 0x10000 % 256) as u8
-}
-
 impl World {
     /// The memories with these images, of which nothing is known yet.
     pub fn new(alloc: Global, scene: Scene) -> Result<World, AllocError> {
-        let mut cells = Vec::new(alloc);
         let mut seen = Vec::new(alloc);
         for _ in 0..65_536 {
-            cells.push(None)?;
             seen.push(Vec::new(alloc))?;
         }
         Ok(World {
             scene,
-            cells,
+            cells: vec![in alloc; None; 65_536]?,
             is_trial: false,
             undo: Vec::new(alloc),
             is_guess: false,
@@ -83,24 +97,13 @@ impl World {
         })
     }
 
-    /// Forgets what is seen.
-    pub fn clear(&mut self) {
-        for seen in self.seen.iter_mut() {
-            seen.clear();
-        }
-    }
-
     /// Nothing is known but the images, and these unknown bytes are elsewhere.
     pub fn reset(&mut self, seed: u32) {
         self.seed = seed;
         self.clock = 0;
         for address in 0..=u16::MAX {
-            let cell = match (self.scene.byte(address), self.scene.later_byte(address)) {
-                (Some(here), Some(later)) => {
-                    Some(Pair::known(here, later, Places::one(address)))
-                }
-                _ => None,
-            };
+            let bytes = self.scene.byte(address).zip(self.scene.later_byte(address));
+            let cell = bytes.map(|(here, later)| Pair::known(here, later, Places::one(address)));
             self.set(address, cell);
         }
     }
@@ -128,19 +131,27 @@ impl World {
     }
 
     /// What an address holds, if it is known.
-    fn cell(&self, address: u16) -> Option<Pair> {
-        self.cells.get(usize::from(address)).copied().flatten()
+    pub fn cell(&self, address: u16) -> Option<Pair> {
+        *self.cells.get(usize::from(address))?
     }
 
-    /// The byte at the address, where the image belongs.
-    pub fn opcode(&self, address: u16) -> Option<u8> {
-        Some(self.cell(address)?.here)
+    /// A byte that nobody knows and both runs have, by what decides it.
+    fn unknown(&self, of: u32) -> Pair {
+        let mixed = of
+            .wrapping_mul(0x9E37_79B1)
+            .wrapping_add(self.seed.wrapping_mul(0x85EB_CA6B));
+        let mixed = (mixed ^ (mixed / 0x8000)).wrapping_mul(0xC2B2_AE35);
+        let byte = (mixed / 0x10000 % 256) as u8;
+        Pair {
+            is_mixed: true,
+            ..Pair::of(if self.seed == 0 { 0 } else { byte })
+        }
     }
 
     /// Another byte that nobody knows, at each call.
     pub fn fresh(&mut self) -> Pair {
         self.clock = self.clock.wrapping_add(1);
-        Pair::unknown(unknown_byte(self.clock.wrapping_add(0x0100_0000), self.seed))
+        self.unknown(self.clock.wrapping_add(0x0100_0000))
     }
 
     /// Takes down that an instruction runs at an address.
@@ -162,7 +173,10 @@ impl World {
         };
         if let Some(seen) = self.seen.get_mut(usize::from(self.at))
             && seen.len() < MOST
-            && !seen.iter().any(|other| other.is_like(&sighting))
+            // Which address is used tells nothing more.
+            && !seen
+                .iter()
+                .any(|&other| Sighting { here, ..other } == sighting)
             && seen.push(sighting).is_err()
         {
             self.is_out_of_memory = true;
@@ -181,11 +195,7 @@ impl Bus<Pair> for World {
         self.is_guess = low.is_mixed || high.is_mixed || index.is_mixed;
         if !low.is_known && !high.is_known {
             let is_low = here < STACK_END && purpose == Purpose::Write && high.here != 1;
-            return if is_low || self.scene.has(here) {
-                None
-            } else {
-                Some(here)
-            };
+            return (!is_low && !self.scene.has(here)).then_some(here);
         }
         if self.scene.moves(here) || base != here && self.scene.moves(base) {
             if later != moved {
@@ -204,8 +214,7 @@ impl Bus<Pair> for World {
         let Some(address) = place else {
             return self.fresh();
         };
-        let is_guess = self.is_guess;
-        self.is_guess = false;
+        let is_guess = take(&mut self.is_guess);
         if !is_guess && self.scene.is_behind(address) {
             self.read.set(address);
         }
@@ -215,27 +224,24 @@ impl Bus<Pair> for World {
                 ..pair
             },
             // What waits for a change goes on some time.
-            None => Pair::unknown(unknown_byte(
-                u32::from(address).wrapping_add((self.clock / 4096).wrapping_mul(0x10000)),
-                self.seed,
-            )),
+            None => {
+                let time = (self.clock / 4096).wrapping_mul(0x10000);
+                self.unknown(u32::from(address).wrapping_add(time))
+            }
         }
     }
 
     fn write(&mut self, place: Option<u16>, value: Pair) {
-        let is_guess = self.is_guess;
-        self.is_guess = false;
+        let is_guess = take(&mut self.is_guess);
         let Some(address) = place else {
             return;
         };
         if !is_guess && self.scene.is_behind(address) {
             self.written.set(address);
         }
-        if self.is_trial {
-            let before = (address, self.cell(address));
-            if self.undo.push(before).is_err() {
-                self.is_out_of_memory = true;
-            }
+        let before = (address, self.cell(address));
+        if self.is_trial && self.undo.push(before).is_err() {
+            self.is_out_of_memory = true;
         }
         self.set(address, Some(value));
     }
@@ -244,13 +250,13 @@ impl Bus<Pair> for World {
         let [low, high] = address.to_le_bytes();
         let [later_low, later_high] = self.scene.wanted(address);
         Word {
-            low: Pair::known(low, later_low, Places::none()),
-            high: Pair::known(high, later_high, Places::none()),
+            low: Pair::known(low, later_low, Places::NONE),
+            high: Pair::known(high, later_high, Places::NONE),
         }
     }
 
     fn takes(&mut self, flag: Pair, wanted: bool) -> bool {
-        if !flag.is_same() {
+        if flag.here != flag.later {
             self.see(Kind::Branch, self.at, flag, flag);
         }
         (flag.here != 0) == wanted
