@@ -13,13 +13,11 @@ pub struct Places {
 }
 
 impl Places {
-    /// No places.
     pub const NONE: Places = Places {
         count: 0,
         at: [0; MOST],
     };
 
-    /// This place.
     pub fn one(place: u16) -> Places {
         Places {
             count: 1,

@@ -17,7 +17,6 @@ const ENTRY_SEEDS: u32 = 2;
 
 const ROUTINE_SEEDS: u32 = 4;
 
-/// Both machines as one.
 pub type Both = Machine<Pair, World>;
 
 /// Sets the registers and the flags to what nobody knows.

@@ -8,9 +8,7 @@ const BEHIND: usize = 0x1000;
 /// The bytes of a listing, where it belongs and somewhere else.
 #[derive(Drop)]
 pub struct Scene {
-    /// The first address.
     pub start: u16,
-    /// The bytes there.
     pub here: Vec<u8>,
     /// The bytes if the image begins `by` addresses later. What is found to stay, and must not, is moved in them.
     pub later: Vec<u8>,

@@ -63,7 +63,6 @@ pub struct World {
     seed: u32,
     /// Where instructions have run.
     pub ran: Marks,
-    /// What is seen of each instruction.
     pub seen: Vec<Vec<Sighting>>,
     /// What is read behind the image, and what is written there, by addresses that are known.
     pub read: Marks,
