@@ -17,7 +17,6 @@ pub struct Lines {
     pub numbers: Marks,
     /// A number of a `.word` begins there.
     pub words: Marks,
-    /// An instruction begins there.
     pub instructions: Marks,
     /// An instruction begins there that has an address of two bytes as its operand, and is no jump or call of it.
     pub operands: Marks,

@@ -54,12 +54,10 @@ impl Places {
     }
 }
 
-/// A byte of both runs.
+/// A byte of both runs: where the image belongs, and in the image that lies later.
 #[derive(Clone, Copy, Debug)]
 pub struct Pair {
-    /// What it is where the image belongs.
     pub here: u8,
-    /// What it is in the image that lies later.
     pub later: u8,
     /// Whether it comes from the image, or from an address of the code.
     pub is_known: bool,

@@ -41,7 +41,6 @@ impl<'r> Progress<'r> {
         }
     }
 
-    /// Takes the line away.
     pub fn end(&self) {
         if 9 < self.written {
             let _ = write!(self.rt.stderr(), "\r\x1B[K");

@@ -155,7 +155,6 @@ impl Findings<'_> {
         Ok(())
     }
 
-    /// All of it, and whether something parts.
     pub fn text(&self, alloc: Global, world: &World, lines: &Lines) -> Result<Moved, AllocError> {
         let mut text = String::new(alloc);
         self.put_names(alloc, &mut text, lines)?;

@@ -29,7 +29,6 @@ impl Scene {
         (index < self.here.len()).then_some(index)
     }
 
-    /// Whether the image has the address.
     pub fn has(&self, address: u16) -> bool {
         self.index(address).is_some()
     }
@@ -39,7 +38,6 @@ impl Scene {
         usize::from(self.start).saturating_add(self.here.len())
     }
 
-    /// Whether the address lies behind the image.
     pub fn is_behind(&self, address: u16) -> bool {
         self.end() <= usize::from(address)
     }

@@ -129,7 +129,6 @@ impl World {
         }
     }
 
-    /// What an address holds, if it is known.
     pub fn cell(&self, address: u16) -> Option<Pair> {
         *self.cells.get(usize::from(address))?
     }
