@@ -50,16 +50,13 @@ def tables(file):
             found[match[1]] = match[2].replace("#", "").split(" | "), table
         elif line and line[0] != "#":
             name, *cells = (text(cell.removeprefix(" ")) for cell in re.split(r" \|(?= |$)", line))
-            if "{}" not in name and len(cells) > len(names):
-                raise pytest.UsageError(f"{path}:{number}: {len(cells)} cells after the name, and {len(names)} parameters")
-            for part in cells[len(names):] or ["{}"]:
-                row = [cell.replace("{}", part) for cell in cells[:len(names)]] + [""] * (len(names) - len(cells))
-                if name.replace("{}", part) in (row[0] for row in table):
-                    raise pytest.UsageError(f"{path}:{number}: a row above has this name")
-                try:
-                    table.append((name.replace("{}", part), *map(value, names, row)))
-                except ValueError as error:
-                    raise pytest.UsageError(f"{path}:{number}: {error}")
+            for part in cells[len(names):] if "{}" in name else ["{}"]:
+                row = [cell.replace("{}", part) for cell in cells] + [""] * (len(names) - len(cells))
+                named = name.replace("{}", part)
+                at = f"{path}:{number}"
+                assert "{}" in name or len(cells) <= len(names), f"{at}: {len(cells)} cells after the name"
+                assert named not in (row[0] for row in table), f"{at}: a row above has this name"
+                table.append((named, *map(value, names, row)))
     return texts, found
 
 
