@@ -54,15 +54,6 @@ def test_the_page_has_no_other_row():
     assert sorted(re.findall(r"^\| `([a-z0-9_]+)` \|", PAGE, re.M)) == sorted(PEERS)
 
 
-# cc65 has other names for the NES, and none for the BBC Micro and the Atari 7800. Its PTRIG6 is PTRIG5, and it has the
-# registers of the TIA that are read at the addresses where others are written.
-@pytest.mark.parametrize("name, count, others, includes", [
-    ("c64", 140, "", "c64 cbm_kernal"), ("vic20", 80, "", "vic20 cbm_kernal"), ("c128", 160, "", "c128 cbm_kernal"),
-    ("pet", 30, "", "pet cbm_kernal"), ("apple2", 35, "", "apple2"), ("atari", 350, "PTRIG6", "atari"),
-    ("atari5200", 100, "", "atari5200"), ("oric", 45, "", "atmos"),
-    ("atari2600", 65, "CXM0P CXM1P CXP0FB CXP1FB CXM0FB CXM1FB CXBLPF CXPPMM INPT0 INPT1 INPT2 INPT3 INPT4 INPT5",
-     "atari2600"),
-])
 def test_names_agree(name, count, others, includes):
     """These include files have at least that many of the names, and give them the same values, except the others."""
     names = re.findall(r"^(\w+) += (\$....)  ;", (ROOT / "names" / (name + ".inc")).read_text(), re.M)

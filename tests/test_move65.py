@@ -1,6 +1,6 @@
 """move65 on real files: its messages, what it says, and that da65 and name65 accept what it says. Rows are in
 tests/rows/move65.txt."""
-import os, pty, random, re, subprocess
+import os, pty, random, re
 import pytest
 from conftest import holds, read, tables, write
 
@@ -52,9 +52,7 @@ def test_long_run(move65):
     write("loop.s", "L1000: inx\n jmp L1000\n")
     words = ["-S", "0x1000", "--entry", ",".join(60 * ["0x1000"]), "loop.s"]
     ours, theirs = pty.openpty()
-    subprocess.run([move65.path, *words], stdout=subprocess.DEVNULL, stderr=theirs, check=True)
+    move65(words, 0, said := "# 2 of 2 instructions have run in both\n", stderr=theirs)
     os.close(theirs)
-    shown = os.read(ours, 65536)
-    os.close(ours)
-    assert re.fullmatch(rb"(\rmove65: at \$1000 )+\r\x1b\[K", shown), shown
-    move65(words, 0, "# 2 of 2 instructions have run in both\n")
+    move65(words, 0, said)
+    assert re.fullmatch(rb"(\rmove65: at \$1000 )+\r\x1b\[K", os.read(ours, 65536))

@@ -1,7 +1,6 @@
 """Counts instructions by valgrind's callgrind: of da65 beside cc65's da65 on the same bytes, as65 beside ca65 and ld65,
-name65 and html65 beside as65, and trace65 and move65 by themselves. Each row has the figure of docs/GATE.md, and fails
-if it is more than a twentieth above that; runs differ by less than a thousandth. Twice as much takes at most 2.3 times
-the instructions. The end of the run has the figures."""
+name65 and html65 beside as65, trace65 and move65 alone. A row has the figure of docs/GATE.md, and fails if it is a
+twentieth above that. Twice as much takes at most 2.3 times the instructions. The end of the run has the figures."""
 import bisect, functools, itertools, random, re
 import pytest
 from conftest import ROOT, Program, read, same, tables, write

@@ -45,15 +45,14 @@ def says(trace65, form, words, wanted):
     same(wanted, "".join(text + ("|" if form == "test_shown" else ";") for text in found), run.line)
 
 
-def test_of(form):
+def of(form):
     def test(trace65, data, words, wanted, info):
         says(trace65, form, words_for(data, words, info), wanted)
     test.__name__ = form
     return test
 
 
-globals().update({form: test_of(form) for form in FORMS})
-del test_of
+globals().update({form: of(form) for form in FORMS})
 
 
 def test_helps(trace65, data, line, count, info):
