@@ -4,7 +4,10 @@
 //! (`tests/corpus`) say how often it is. `search` tries entries, `growth` lets sound ones join by
 //! the other rules. `survey` has what reached code does with addresses, and the rest says what the other bytes are.
 
-pub use crate::steps as step;
+pub use crate::steps::{Placed, Step};
+
+/// The instructions of an image, each read once.
+pub type Steps<'a> = crate::steps::Steps<'a, 'a>;
 
 pub mod bases;
 pub mod bytes;

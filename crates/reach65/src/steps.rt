@@ -123,6 +123,7 @@ fn entry_of(steps: &[Option<Step>], index: usize) -> Option<&Step>
 /// The instructions of the image of a map, each read once, with the groups `#: ..` of its information file.
 #[derive(Drop)]
 pub struct Steps<'f, 'm> {
+    alloc: Global,
     flow: Flow<'f, 'm>,
     steps: Vec<Option<Step>>,
 }
@@ -146,7 +147,12 @@ impl<'f, 'm> Steps<'f, 'm> {
     {
         let flow = Flow::new(alloc, map, tags)?;
         let steps = steps_of(alloc, &flow)?;
-        Ok(Steps { flow, steps })
+        Ok(Steps { alloc, flow, steps })
+    }
+
+    /// Returns what allocates.
+    pub fn alloc(&self) -> Global {
+        self.alloc
     }
 
     /// Returns the map.

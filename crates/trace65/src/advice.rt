@@ -1,7 +1,8 @@
 //! What guides: which entries join, and what the bytes may be that no code has.
 
 use info65::{Tag, TagKind};
-use map65::{Image, Marks};
+use map65::Marks;
+use reach65::rules::Steps;
 use reach65::rules::bases::{Base, bases_of};
 use reach65::rules::bytes::ends;
 use reach65::rules::declared::{addresses_of, declared_of};
@@ -15,9 +16,8 @@ use reach65::rules::loads::mark_loaded;
 use reach65::rules::obstacles::Stops;
 use reach65::rules::orphans::mark_orphans;
 use reach65::rules::pointers::mark_pointers;
-use reach65::rules::readers::{Table, tables_of};
+use reach65::rules::readers::Table;
 use reach65::rules::rows::{mark_rows, words_of};
-use reach65::rules::step::Steps;
 use reach65::rules::survey::Survey;
 use reach65::rules::tables::{Split, mark_tables};
 use reach65::rules::variables::variables_of;
@@ -41,8 +41,8 @@ pub struct Reach<'a> {
 
 /// What is found of an image.
 #[derive(Drop)]
-pub struct Advice<'a, 'f, 'm> {
-    pub steps: &'a Steps<'f, 'm>,
+pub struct Advice<'a> {
+    pub steps: &'a Steps<'a>,
     /// What the ranges of the information file and reached instructions have.
     pub taken: &'a Marks,
     /// What keeps bytes from being code.
@@ -82,20 +82,13 @@ pub fn given_entries(alloc: Global, given: &[u16], tags: &[Tag]) -> Result<Vec<u
 
 /// Returns all entries: where reading begins, with those that are given, and, unless no more than the entries are to be followed, those that join
 /// them. Fails only if an allocation failed.
-pub fn entries(
-    alloc: Global,
-    steps: &Steps<'_, '_>,
-    given: &[u16],
-    plain: bool,
-) -> Result<Followed, AllocError> {
-    let entries = entries_of(alloc, steps, given, plain)?;
+pub fn entries(steps: &Steps<'_>, given: &[u16], plain: bool) -> Result<Followed, AllocError> {
+    let entries = entries_of(steps, given, plain)?;
     if plain {
-        return Ok(Followed {
-            entries,
-            stops: Stops::none(alloc)?,
-        });
+        let stops = Stops::none(steps.alloc())?;
+        return Ok(Followed { entries, stops });
     }
-    follow(alloc, steps, &entries)
+    follow(steps, &entries)
 }
 
 /// The places of the bytes that groups HALVES and NUMBER of the information file have.
@@ -118,90 +111,60 @@ fn said_places(alloc: Global, tags: &[Tag]) -> Result<Marks, AllocError> {
 }
 
 /// The addresses that nothing speaks for, with the words and halves of tables among them, and the tables of halves.
-fn ground_of<'a, 'm: 'a>(
-    alloc: Global,
-    steps: &Steps<'_, 'm>,
-    survey: &Survey<'_>,
+fn ground_of<'a>(
+    survey: &Survey<'a>,
     reach: Reach<'a>,
     said: &Marks,
     tables: &[Table],
 ) -> Result<(Ground<'a>, Vec<Split>), AllocError> {
+    let alloc = survey.steps.alloc();
     let numbers = said.copy(alloc)?;
     let texts = survey.texts.copy(alloc)?;
-    let mut ground = Ground::of(alloc, steps.image(), reach.taken, numbers, texts)?;
+    let mut ground = Ground::of(alloc, survey.steps.image(), reach.taken, numbers, texts)?;
     mark_vectors(&mut ground, reach.reached);
-    let splits = mark_tables(alloc, &mut ground, steps, survey, tables)?;
+    let splits = mark_tables(&mut ground, survey, tables)?;
     Ok((ground, splits))
 }
 
 /// The pairs of halves, whose addresses lie in the image or little behind the last of these variables. None is at a place that `said` has.
 fn pairs_of(
-    alloc: Global,
-    steps: &Steps<'_, '_>,
     survey: &Survey<'_>,
     taken: &Marks,
     said: Marks,
     variables: &[u16],
 ) -> Result<Halves, AllocError> {
-    let (_, end) = ends(steps.image());
-    let behind = match variables.last() {
-        Some(&last) => usize::from(last),
-        None => end,
-    };
-    let items = items_of(alloc, steps, taken)?;
-    let limit = behind.saturating_add(PAGE);
-    halves_of(alloc, steps, survey, &items, said, limit)
+    let (_, end) = ends(survey.steps.image());
+    let behind = variables.last().map_or(end, |last| usize::from(*last));
+    let items = items_of(survey.steps, taken)?;
+    halves_of(survey, &items, said, behind.saturating_add(PAGE))
 }
 
-/// Adds the addresses of the tables from which operands are counted, and those in these tables of halves.
-fn put_others(
-    others: &mut Vec<u16>,
-    alloc: Global,
-    image: &Image,
-    bases: &[Base],
-    tables: [&[Split]; 2],
-) -> Result<(), AllocError> {
-    for base in bases {
-        others.push(base.table)?;
-    }
-    for splits in tables {
-        others.extend_from_slice(&addresses_of(alloc, image, splits)?)?;
-    }
-    Ok(())
-}
-
-impl<'a, 'f, 'm: 'a> Advice<'a, 'f, 'm> {
+impl<'a> Advice<'a> {
     /// Looks at an image of which this is reached. Fails only if an allocation failed.
-    pub fn of(
-        alloc: Global,
-        steps: &'a Steps<'f, 'm>,
-        reach: Reach<'a>,
-    ) -> Result<Advice<'a, 'f, 'm>, AllocError> {
-        let survey = Survey::of(alloc, steps, reach.reached, reach.code)?;
-        let said = said_places(alloc, steps.tags())?;
-        let tables = tables_of(alloc, steps, reach.reached, reach.code)?;
-        let declared = declared_of(alloc, steps, &tables)?;
-        let (mut ground, splits) = ground_of(alloc, steps, &survey, reach, &said, &tables)?;
-        let words = words_of(alloc, &ground, &survey, steps.map().info())?;
+    pub fn of(steps: &'a Steps<'a>, reach: Reach<'a>) -> Result<Advice<'a>, AllocError> {
+        let survey = Survey::of(steps, reach.reached, reach.code)?;
+        let said = said_places(steps.alloc(), steps.tags())?;
+        let tables = survey.readers.tables(steps, reach.reached, reach.code)?;
+        let declared = declared_of(steps, &tables)?;
+        let (mut ground, splits) = ground_of(&survey, reach, &said, &tables)?;
+        let words = words_of(&ground, &survey)?;
         mark_rows(&mut ground, &survey, &words);
-        let variables = variables_of(alloc, steps.map(), &survey)?;
+        let variables = variables_of(&survey)?;
         let Halves {
             sure: pairs,
             likely,
-        } = pairs_of(alloc, steps, &survey, reach.taken, said, &variables)?;
-        mark_loaded(&mut ground, steps, &survey);
-        mark_pointers(alloc, &mut ground)?;
-        mark_orphans(alloc, &mut ground, &survey, &pairs, &words)?;
-        let bases = bases_of(alloc, steps, &survey)?;
-        let mut others = Vec::from_slice(alloc, &variables)?;
-        put_others(
-            &mut others,
-            alloc,
-            steps.image(),
-            &bases,
-            [&splits, &declared],
-        )?;
-        let labels = labels_of(alloc, steps, &pairs, &others)?;
+        } = pairs_of(&survey, reach.taken, said, &variables)?;
+        mark_loaded(&mut ground, &survey);
+        mark_pointers(steps.alloc(), &mut ground)?;
+        mark_orphans(&mut ground, &survey, &pairs, &words)?;
+        let bases = bases_of(&survey)?;
+        let mut others = Vec::from_slice(steps.alloc(), &variables)?;
+        for base in &bases {
+            others.push(base.table)?;
+        }
+        others.extend_from_slice(&addresses_of(steps, &splits)?)?;
+        others.extend_from_slice(&addresses_of(steps, &declared)?)?;
+        let labels = labels_of(steps, &pairs, &others)?;
         Ok(Advice {
             steps,
             taken: reach.taken,
@@ -217,23 +180,5 @@ impl<'a, 'f, 'm: 'a> Advice<'a, 'f, 'm> {
             variables,
             labels,
         })
-    }
-
-    /// Returns the first address of the image, and the first one after it.
-    pub fn ends(&self) -> (usize, usize) {
-        ends(self.image())
-    }
-
-    /// Returns the bytes of the image from an address to before another one, as far as it has them.
-    pub fn bytes(&self, from: usize, end: usize) -> &'a [u8] {
-        let start = usize::from(self.image().start());
-        let bytes = self.image().bytes();
-        let end = end.saturating_sub(start).min(bytes.len());
-        let from = from.saturating_sub(start).min(end);
-        &bytes[from..end]
-    }
-
-    fn image(&self) -> &'a Image {
-        self.steps.image()
     }
 }

@@ -10,7 +10,7 @@ use crate::advice::{Advice, Reach, entries, given_entries};
 use crate::check::read_back;
 use crate::failure::Failure;
 use crate::request::Tracing;
-use crate::text::put_text;
+use crate::text::text_of;
 use crate::unshown::{put_unshown, unshown_of};
 use info65::{Info, Options, RangeSpec, Tag};
 use map65::{Image, Map, Marks};
@@ -63,7 +63,7 @@ fn all_entries(
     ensures { IfOk result (λ all. Begins all.entries.items tracing.now.entries.items) }
 {
     let mut all = Vec::from_slice(alloc, &tracing.entries)?;
-    let Followed { entries, stops } = entries(alloc, steps, given, tracing.plain)?;
+    let Followed { entries, stops } = entries(steps, given, tracing.plain)?;
     all.extend_from_slice(&entries)?;
     Ok(Followed {
         entries: all,
@@ -84,7 +84,7 @@ fn ranges_by(
     alloc: Global,
     image: &Image,
     taken: &Marks,
-    pieces: &Pieces<'_, '_>,
+    pieces: &Pieces<'_>,
 ) -> Result<Vec<RangeSpec>, AllocError>
     ensures cover { IfOk result (λ list. HaveAllFree image.now (is_marked taken.now) list.items) }
     ensures inside { IfOk result (λ ranges. LieIn image.now ranges.items) }
@@ -94,9 +94,9 @@ fn ranges_by(
 }
 
 /// Looks at an image of which this is reached. Fails only if an allocation failed.
-fn propose_from<'a, 'f, 'm>(
+fn propose_from<'a>(
     alloc: Global,
-    steps: &'a Steps<'f, 'm>,
+    steps: &'a Steps<'a, 'a>,
     given: &[u16],
     reach: Reach<'a>,
 ) -> Result<Proposals, AllocError>
@@ -105,11 +105,10 @@ fn propose_from<'a, 'f, 'm>(
     ensures inside { IfOk result (λ p. LieIn steps.entry.now.map.image p.ranges.items) }
     ensures apart { IfOk result (λ p. AreInOrder p.ranges.items) }
 {
-    let advice = Advice::of(alloc, steps, reach)?;
+    let advice = Advice::of(steps, reach)?;
     let pieces = Pieces::of(alloc, &advice.ground)?;
     let ranges = ranges_by(alloc, steps.image(), reach.taken, &pieces)?;
-    let mut text = Vec::new(alloc);
-    put_text(&mut text, alloc, &advice, given, &ranges)?;
+    let text = text_of(&advice, given, &ranges)?;
     let labels = Vec::from_slice(alloc, &advice.labels)?;
     Ok(Proposals {
         ranges,

@@ -1,42 +1,108 @@
 //! What is found of an image, as text of an information file: comments, groups, and lines `#: ..`.
 
-pub mod bases;
-pub mod calls;
-pub mod labels;
-pub mod likely;
-pub mod misplaced;
-pub mod moves;
-pub mod picture;
-pub mod ranges;
-pub mod room;
-pub mod stops;
-pub mod tables;
+mod bases;
+mod calls;
+mod labels;
+mod likely;
+mod misplaced;
+mod moves;
+mod picture;
+mod ranges;
+mod room;
+mod stops;
+mod tables;
 
 use crate::advice::Advice;
 use info65::RangeSpec;
-use std::alloc::{AllocError, Global};
+use reach65::rules::bytes::ends;
+use std::alloc::AllocError;
 
-/// Adds the text: a picture and counts, what is given where it counts for nothing, the ranges, the labels, the lines `#: ..`, and what is only
-/// likely, what keeps bytes from being code, and where there is room. `given` has the entries of the command line and of the information file. Fails only if an allocation failed.
-pub fn put_text(
-    out: &mut Vec<u8>,
-    alloc: Global,
-    advice: &Advice<'_, '_, '_>,
+/// The text, and what it is about.
+#[derive(Drop)]
+struct Text<'a> {
+    out: Vec<u8>,
+    advice: &'a Advice<'a>,
+    /// The entries of the command line and of the information file.
+    given: &'a [u16],
+    /// The ranges that are proposed.
+    ranges: &'a [RangeSpec],
+}
+
+impl<'a> Text<'a> {
+    /// Adds these bytes.
+    fn put(&mut self, text: &[u8]) -> Result<(), AllocError> {
+        self.out.extend_from_slice(text)
+    }
+
+    /// Adds these bytes, and the address in hexadecimal.
+    fn put_address(&mut self, text: &[u8], address: u16) -> Result<(), AllocError> {
+        files65::put_address(&mut self.out, text, usize::from(address))
+    }
+
+    /// Adds these bytes, and the number in decimal.
+    fn put_decimal(&mut self, text: &[u8], number: usize) -> Result<(), AllocError> {
+        files65::put_decimal(&mut self.out, text, number)
+    }
+
+    /// Adds the name of an address, if it has one, and how far the address lies after that of its name.
+    fn put_name(&mut self, address: u16) -> Result<(), AllocError> {
+        let Some(name) = self.advice.steps.map().info().covering(address) else {
+            return Ok(());
+        };
+        self.put(b" ")?;
+        self.put(name.text)?;
+        match address.saturating_sub(name.address) {
+            0 => Ok(()),
+            offset => self.put_decimal(b"+", usize::from(offset)),
+        }
+    }
+
+    /// The first address of the image, and the first one after it.
+    fn ends(&self) -> (usize, usize) {
+        ends(self.advice.steps.image())
+    }
+
+    /// The bytes of a range, as far as the image has them.
+    fn bytes(&self, range: RangeSpec) -> &'a [u8] {
+        let image = self.advice.steps.image();
+        let start = usize::from(image.start());
+        let bytes = image.bytes();
+        let end = usize::from(range.last)
+            .saturating_add(1)
+            .saturating_sub(start);
+        let end = end.min(bytes.len());
+        let from = usize::from(range.first).saturating_sub(start).min(end);
+        &bytes[from..end]
+    }
+}
+
+/// Returns the text: a picture and counts, what is given where it counts for nothing, the ranges, the labels, the lines `#: ..`, and what is only
+/// likely, what keeps bytes from being code, and where there is room. `given` has the entries of the command line and of the information file. Fails
+/// only if an allocation failed.
+pub fn text_of(
+    advice: &Advice<'_>,
     given: &[u16],
     ranges: &[RangeSpec],
-) -> Result<(), AllocError> {
-    picture::put_picture(out, advice)?;
-    misplaced::put_misplaced(out, advice, given)?;
-    ranges::put_ranges(out, advice, ranges)?;
-    labels::put_labels(out, &advice.labels)?;
-    moves::put_pairs(out, advice)?;
-    moves::put_splits(out, advice)?;
-    moves::put_after(out, advice)?;
-    moves::put_likely(out, advice)?;
-    tables::put_pointers(out, advice)?;
-    likely::put_words(out, advice)?;
-    bases::put_bases(out, advice)?;
-    calls::put_calls(out, alloc, advice)?;
-    stops::put_stops(out, advice)?;
-    room::put_room(out, advice, ranges)
+) -> Result<Vec<u8>, AllocError> {
+    let mut text = Text {
+        out: Vec::new(advice.steps.alloc()),
+        advice,
+        given,
+        ranges,
+    };
+    text.put_picture()?;
+    text.put_misplaced()?;
+    text.put_ranges()?;
+    text.put_labels()?;
+    text.put_pairs()?;
+    text.put_splits()?;
+    text.put_after()?;
+    text.put_likely()?;
+    text.put_pointers()?;
+    text.put_words()?;
+    text.put_bases()?;
+    text.put_calls()?;
+    text.put_stops()?;
+    text.put_room()?;
+    Ok(text.out)
 }

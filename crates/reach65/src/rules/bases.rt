@@ -1,11 +1,11 @@
 //! Operands that lie in code right before a table, which they are likely counted from.
 
+use crate::rules::Step;
 use crate::rules::bytes::{address, ends};
-use crate::rules::step::{Step, Steps};
 use crate::rules::survey::{Survey, writes};
 use info65::TagKind;
 use isa65::Mode;
-use std::alloc::{AllocError, Global};
+use std::alloc::AllocError;
 
 /// How far a table may lie behind the operand that is counted from it.
 const FAR: usize = 256;
@@ -19,10 +19,10 @@ pub struct Base {
 }
 
 /// The table from which the operand of an instruction is counted: it lies in code, and the table behind that code.
-fn base_of(steps: &Steps<'_, '_>, survey: &Survey<'_>, reader: u16, step: &Step) -> Option<Base> {
+fn base_of(survey: &Survey<'_>, reader: u16, step: &Step) -> Option<Base> {
     let operand = step.operand?;
     let from = usize::from(operand);
-    let (_, end) = ends(steps.image());
+    let (_, end) = ends(survey.steps.image());
     if !matches!(step.op.mode, Mode::Absx | Mode::Absy)
         || writes(step.op.mnemonic)
         || !survey.code.get_at(from)
@@ -39,15 +39,12 @@ fn base_of(steps: &Steps<'_, '_>, survey: &Survey<'_>, reader: u16, step: &Step)
 
 /// Returns the operands with an index that are likely counted from a table behind them, but for those of groups BASE. Fails only if an allocation
 /// failed.
-pub fn bases_of(
-    alloc: Global,
-    steps: &Steps<'_, '_>,
-    survey: &Survey<'_>,
-) -> Result<Vec<Base>, AllocError> {
-    let mut found = Vec::new(alloc);
+pub fn bases_of(survey: &Survey<'_>) -> Result<Vec<Base>, AllocError> {
+    let steps = survey.steps;
+    let mut found = Vec::new(steps.alloc());
     for &reader in &survey.users {
         if let Some(step) = steps.at(reader)
-            && let Some(base) = base_of(steps, survey, reader, step)
+            && let Some(base) = base_of(survey, reader, step)
             && !steps.tags().iter().any(|tag| tag.kind == TagKind::Base
                 && tag.address == Some(reader))
         {

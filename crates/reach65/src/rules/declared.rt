@@ -1,15 +1,15 @@
 //! Addresses that the information file says in halves.
 
+use crate::rules::Steps;
 use crate::rules::readers::Table;
-use crate::rules::step::Steps;
 use crate::rules::tables::Split;
 use info65::TagKind;
-use map65::{Image, Marks};
-use std::alloc::{AllocError, Global};
+use map65::Marks;
+use std::alloc::AllocError;
 
 /// The table whose halves begin at these addresses: as code reads it, if it is one of these, which are in order; else as one of addresses of
 /// code, or of such addresses less one, if only the address after its first one has a name.
-fn table_of(steps: &Steps<'_, '_>, tables: &[Table], low: u16, high: u16) -> Table {
+fn table_of(steps: &Steps<'_>, tables: &[Table], low: u16, high: u16) -> Table {
     let index = tables.partition_point(|table| (table.low, table.high) < (low, high));
     if let Some(&table) = tables.get(index)
         && (table.low, table.high) == (low, high)
@@ -29,11 +29,8 @@ fn table_of(steps: &Steps<'_, '_>, tables: &[Table], low: u16, high: u16) -> Tab
 
 /// Returns the halves of the groups HALVES without ADDR: as code reads them, if they are one of these tables, else as addresses of code. Fails
 /// only if an allocation failed.
-pub fn declared_of(
-    alloc: Global,
-    steps: &Steps<'_, '_>,
-    tables: &[Table],
-) -> Result<Vec<Split>, AllocError> {
+pub fn declared_of(steps: &Steps<'_>, tables: &[Table]) -> Result<Vec<Split>, AllocError> {
+    let alloc = steps.alloc();
     let mut tables = Vec::from_slice(alloc, tables)?;
     tables.sort_by_key(|table| (table.low, table.high))?;
     let mut found = Vec::new(alloc);
@@ -53,16 +50,12 @@ pub fn declared_of(
 }
 
 /// Returns the addresses in these tables, each once. Fails only if an allocation failed.
-pub fn addresses_of(
-    alloc: Global,
-    image: &Image,
-    splits: &[Split],
-) -> Result<Vec<u16>, AllocError> {
-    let mut marks = Marks::none(alloc)?;
-    let mut found = Vec::new(alloc);
+pub fn addresses_of(steps: &Steps<'_>, splits: &[Split]) -> Result<Vec<u16>, AllocError> {
+    let mut marks = Marks::none(steps.alloc())?;
+    let mut found = Vec::new(steps.alloc());
     for split in splits {
         for index in 0..split.count {
-            if let Some(address) = split.table.entry(image, index)
+            if let Some(address) = split.table.entry(steps.image(), index)
                 && !marks.get(address)
             {
                 marks.set(address);

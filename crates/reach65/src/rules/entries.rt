@@ -1,12 +1,12 @@
 //! Where reading begins.
 
+use crate::rules::Steps;
 use crate::rules::bytes::{addresses, ends, word};
 use crate::rules::growth::LEAST;
 use crate::rules::sound::reads_on;
-use crate::rules::step::Steps;
 use info65::{Entry, RangeType};
 use map65::{Image, Map};
-use std::alloc::{AllocError, Global};
+use std::alloc::AllocError;
 
 /// Returns whether the image has the bytes at $FFFA to $FFFF, where the vectors of the CPU are.
 pub fn has_vectors(image: &Image) -> bool {
@@ -30,8 +30,9 @@ fn pointer_at(map: &Map<'_>, address: u16) -> Option<u16> {
 
 /// Returns what the tables of addresses and of returns of the information file refer to, in the order of their entries. Fails only if an
 /// allocation failed.
-pub fn pointers_of(alloc: Global, map: &Map<'_>) -> Result<Vec<u16>, AllocError> {
-    let mut found = Vec::new(alloc);
+pub fn pointers_of(steps: &Steps<'_>) -> Result<Vec<u16>, AllocError> {
+    let map = steps.map();
+    let mut found = Vec::new(steps.alloc());
     if map.info().ranges().is_empty() {
         return Ok(found);
     }
@@ -47,16 +48,15 @@ pub fn pointers_of(alloc: Global, map: &Map<'_>) -> Result<Vec<u16>, AllocError>
 /// range of code; the vectors, if the image has them; without any of these the first address of the image, but one that reads as no code if
 /// addresses are given; and these. Fails only if an allocation failed.
 pub fn entries_of(
-    alloc: Global,
-    steps: &Steps<'_, '_>,
+    steps: &Steps<'_>,
     given: &[u16],
     with_tables: bool,
 ) -> Result<Vec<u16>, AllocError> {
     let map = steps.map();
     let start = map.image().start();
-    let mut found = Vec::new(alloc);
+    let mut found = Vec::new(steps.alloc());
     if with_tables {
-        found = pointers_of(alloc, map)?;
+        found = pointers_of(steps)?;
     }
     for range in map.info().ranges() {
         if range.role == RangeType::Code {

@@ -1,11 +1,11 @@
 //! Addresses that code loads in halves.
 
 use crate::rules::sound::holder_of;
-use crate::rules::step::{Placed, Step, Steps};
 use crate::rules::survey::Survey;
+use crate::rules::{Placed, Step, Steps};
 use isa65::{Mnemonic, Mode, Op};
 use map65::Marks;
-use std::alloc::{AllocError, Global};
+use std::alloc::AllocError;
 
 /// How many instructions may stand between two stores through a pointer.
 const BETWEEN: usize = 8;
@@ -110,12 +110,12 @@ pub fn stored_to(step: &Step) -> Option<u16> {
 
 /// The instructions of an image, and where those begin that are reached.
 #[derive(Clone, Copy)]
-struct Code<'a, 'f, 'm> {
-    steps: &'a Steps<'f, 'm>,
+struct Code<'a> {
+    steps: &'a Steps<'a>,
     marks: &'a Marks,
 }
 
-impl<'a, 'f, 'm> Code<'a, 'f, 'm> {
+impl<'a> Code<'a> {
     /// The reached instruction right behind this one.
     fn behind(&self, placed: Placed<'a>) -> Option<Placed<'a>> {
         self.steps.behind(self.marks, placed)
@@ -212,7 +212,7 @@ impl<'a, 'f, 'm> Code<'a, 'f, 'm> {
 
 /// Returns the pairs of which the instruction is the first: two loads of different registers, one right behind the other, or one of
 /// the forms above; a `ldy #` may stand before a store through a pointer.
-pub fn pairs_at(steps: &Steps<'_, '_>, marks: &Marks, first: Placed<'_>) -> [Option<Pair>; 3] {
+pub fn pairs_at(steps: &Steps<'_>, marks: &Marks, first: Placed<'_>) -> [Option<Pair>; 3] {
     Code { steps, marks }.pairs_of(first)
 }
 
@@ -240,12 +240,14 @@ fn stored_through(step: &Step) -> Option<u8> {
 }
 
 /// Whether code from elsewhere enters between the two loads, or an instruction between them shares a byte with another one.
-fn is_broken(steps: &Steps<'_, '_>, survey: &Survey<'_>, pair: Pair) -> bool {
+fn is_broken(survey: &Survey<'_>, pair: Pair) -> bool {
     let first = pair.low.min(pair.high).saturating_sub(1);
     let second = pair.low.max(pair.high).saturating_sub(1);
     for at in first..second.saturating_add(1) {
         let inside = at != first && survey.goals.get(at);
-        if survey.reached.get(at) && (inside || holder_of(steps, survey.reached, at).is_some()) {
+        if survey.reached.get(at)
+            && (inside || holder_of(survey.steps, survey.reached, at).is_some())
+        {
             return true;
         }
     }
@@ -253,9 +255,9 @@ fn is_broken(steps: &Steps<'_, '_>, survey: &Survey<'_>, pair: Pair) -> bool {
 }
 
 /// Whether a pair is sure to be meant as an address: it is plausible, nothing breaks it, and its instructions are listed.
-fn is_sure(steps: &Steps<'_, '_>, survey: &Survey<'_>, items: &Marks, pair: Pair) -> bool {
+fn is_sure(survey: &Survey<'_>, items: &Marks, pair: Pair) -> bool {
     pair.is_plausible()
-        && !is_broken(steps, survey, pair)
+        && !is_broken(survey, pair)
         && items.get(pair.low.saturating_sub(1))
         && items.get(pair.high.saturating_sub(1))
 }
@@ -270,14 +272,13 @@ pub struct Halves {
 /// The pairs of immediates in reached code that may be an address from the start of the image to before `limit`, and whether each is only likely. The
 /// sure ones come first, and of these and of the others those of lower ranks.
 fn pairs_of(
-    alloc: Global,
-    steps: &Steps<'_, '_>,
     survey: &Survey<'_>,
     items: &Marks,
     limit: usize,
 ) -> Result<Vec<(bool, Pair)>, AllocError> {
+    let steps = survey.steps;
     let start = steps.image().start();
-    let mut pairs = Vec::new(alloc);
+    let mut pairs = Vec::new(steps.alloc());
     for &at in &survey.firsts {
         let Some(first) = steps.marked(survey.reached, at) else {
             continue;
@@ -289,7 +290,7 @@ fn pairs_of(
                 && (pair.less == 0 && survey.is_likely(pair.address)
                     || survey.is_routine(pair.meant()))
             {
-                pairs.push((!is_sure(steps, survey, items, pair), pair))?;
+                pairs.push((!is_sure(survey, items, pair), pair))?;
             }
         }
     }
@@ -301,19 +302,18 @@ fn pairs_of(
 /// address, or a routine begins there; it lies before `limit`; each byte is in one pair, of two the likelier; and none is at a place that `said`
 /// has. A pair that is not sure, or not in `items`, which are listed, is only likely. Fails only if an allocation failed.
 pub fn halves_of(
-    alloc: Global,
-    steps: &Steps<'_, '_>,
     survey: &Survey<'_>,
     items: &Marks,
     said: Marks,
     limit: usize,
 ) -> Result<Halves, AllocError> {
+    let alloc = survey.steps.alloc();
     let mut used = said;
     let mut found = Halves {
         sure: Vec::new(alloc),
         likely: Vec::new(alloc),
     };
-    for &(is_likely, pair) in &pairs_of(alloc, steps, survey, items, limit)? {
+    for &(is_likely, pair) in &pairs_of(survey, items, limit)? {
         if used.get(pair.low) || used.get(pair.high) {
             continue;
         }

@@ -1,9 +1,9 @@
 //! Which instructions are listed as such.
 
+use crate::rules::Steps;
 use crate::rules::bytes::{address, addresses};
-use crate::rules::step::Steps;
 use map65::{Map, Marks};
-use std::alloc::{AllocError, Global};
+use std::alloc::AllocError;
 
 /// Whether the address is listed as code, once ranges have what neither the information file nor reached code has.
 fn is_code(map: &Map<'_>, taken: &Marks, at: usize) -> bool {
@@ -12,8 +12,8 @@ fn is_code(map: &Map<'_>, taken: &Marks, at: usize) -> bool {
 
 /// Returns marks of where the instructions begin that are listed: each begins where the one before it ends, and neither a range nor a border of a
 /// segment cuts it. Fails only if an allocation failed.
-pub fn items_of(alloc: Global, steps: &Steps<'_, '_>, taken: &Marks) -> Result<Marks, AllocError> {
-    let map = steps.map();
+pub fn items_of(steps: &Steps<'_>, taken: &Marks) -> Result<Marks, AllocError> {
+    let (alloc, map) = (steps.alloc(), steps.map());
     let mut borders = Vec::new(alloc);
     for segment in map.info().segments() {
         borders.push(usize::from(segment.first))?;

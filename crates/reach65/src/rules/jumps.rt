@@ -1,9 +1,9 @@
 //! Rows of jumps, by which drivers and libraries give their routines.
 
+use crate::rules::Steps;
 use crate::rules::bytes::{address, ends};
 use crate::rules::growth::IN_TABLE;
 use crate::rules::search::{Least, Search};
-use crate::rules::step::Steps;
 use isa65::{Mnemonic, Mode};
 use std::alloc::AllocError;
 
@@ -14,7 +14,7 @@ const ROW: usize = 3;
 const JUMP: usize = 3;
 
 /// The address of the image to which the bytes at the address jump, if they are a `jmp`.
-fn target(steps: &Steps<'_, '_>, at: usize) -> Option<u16> {
+fn target(steps: &Steps<'_>, at: usize) -> Option<u16> {
     let step = steps.at(address(at)?)?;
     if step.op.mnemonic == Mnemonic::Jmp && step.op.mode == Mode::Abs {
         step.goal
@@ -24,51 +24,53 @@ fn target(steps: &Steps<'_, '_>, at: usize) -> Option<u16> {
 }
 
 /// How many jumps stand at the address and behind it.
-fn count_at(steps: &Steps<'_, '_>, from: usize, end: usize) -> usize {
+fn count_at(steps: &Steps<'_>, from: usize, end: usize) -> usize {
     let places = (from..end).step_by(JUMP);
     places.take_while(|at| target(steps, *at).is_some()).count()
 }
 
-/// Whether three quarters of the jumps of a row lead to code, and one at least is not reached.
-fn is_row(search: &mut Search<'_, '_, '_>, from: usize, count: usize) -> Result<bool, AllocError> {
-    let mut good = 0usize;
-    let mut is_new = false;
-    for index in 0..count {
-        let at = from.saturating_add(index.saturating_mul(JUMP));
-        if let Some(to) = target(search.steps, at) {
-            is_new = is_new || !search.marks.get_at(at);
-            if search.marks.get(to) || search.would_join(to, Least::Count(IN_TABLE))? {
-                good = good.saturating_add(1);
+impl Search<'_> {
+    /// Whether three quarters of the jumps of a row lead to code, and one at least is not reached.
+    fn is_row(&mut self, from: usize, count: usize) -> Result<bool, AllocError> {
+        let mut good = 0usize;
+        let mut is_new = false;
+        for index in 0..count {
+            let at = from.saturating_add(index.saturating_mul(JUMP));
+            if let Some(to) = target(self.steps, at) {
+                is_new = is_new || !self.marks.get_at(at);
+                if self.marks.get(to) || self.would_join(to, Least::Count(IN_TABLE))? {
+                    good = good.saturating_add(1);
+                }
             }
         }
+        Ok(is_new && count.saturating_mul(3) <= good.saturating_mul(4))
     }
-    Ok(is_new && count.saturating_mul(3) <= good.saturating_mul(4))
-}
 
-/// Lets the jumps of rows join, three at least one behind the other, of which three quarters lead to code. Fails only if an
-/// allocation failed.
-pub fn join_jumps(search: &mut Search<'_, '_, '_>) -> Result<(), AllocError> {
-    let image = search.steps.image();
-    let (start, end) = ends(image);
-    let mut behind = start;
-    for (index, &byte) in image.bytes().iter().enumerate() {
-        let from = start.saturating_add(index);
-        if byte != 0x4C || from < behind {
-            continue;
-        }
-        let count = count_at(search.steps, from, end);
-        if count < ROW {
-            continue;
-        }
-        behind = from.saturating_add(count.saturating_mul(JUMP));
-        if !is_row(search, from, count)? {
-            continue;
-        }
-        for at in (from..behind).step_by(JUMP) {
-            if let Some(jump) = address(at) {
-                search.join(jump, Least::Count(1))?;
+    /// Lets the jumps of rows join, three at least one behind the other, of which three quarters lead to code. Fails only if an
+    /// allocation failed.
+    pub fn join_jumps(&mut self) -> Result<(), AllocError> {
+        let image = self.steps.image();
+        let (start, end) = ends(image);
+        let mut behind = start;
+        for (index, &byte) in image.bytes().iter().enumerate() {
+            let from = start.saturating_add(index);
+            if byte != 0x4C || from < behind {
+                continue;
+            }
+            let count = count_at(self.steps, from, end);
+            if count < ROW {
+                continue;
+            }
+            behind = from.saturating_add(count.saturating_mul(JUMP));
+            if !self.is_row(from, count)? {
+                continue;
+            }
+            for at in (from..behind).step_by(JUMP) {
+                if let Some(jump) = address(at) {
+                    self.join(jump, Least::Count(1))?;
+                }
             }
         }
+        Ok(())
     }
-    Ok(())
 }

@@ -1,20 +1,19 @@
 //! The addresses that get labels with default names.
 
+use crate::rules::Steps;
 use crate::rules::bytes::address;
 use crate::rules::halves::Pair;
-use crate::rules::step::Steps;
 use info65::TagKind;
-use std::alloc::{AllocError, Global};
+use std::alloc::AllocError;
 
 /// Returns the addresses that get labels, in order: those of the pairs, the others, and those that groups HALVES and BASE give by themselves, but
 /// for those that a name of the information file covers. Fails only if an allocation failed.
 pub fn labels_of(
-    alloc: Global,
-    steps: &Steps<'_, '_>,
+    steps: &Steps<'_>,
     pairs: &[Pair],
     others: &[u16],
 ) -> Result<Vec<u16>, AllocError> {
-    let info = steps.map().info();
+    let (alloc, info) = (steps.alloc(), steps.map().info());
     let mut wanted = Vec::from_slice(alloc, others)?;
     for tag in steps.tags() {
         match (tag.kind, tag.address, tag.first) {

@@ -1,7 +1,7 @@
 //! Words of data that reached code loads a byte after the other.
 
+use crate::rules::Step;
 use crate::rules::ground::Ground;
-use crate::rules::step::{Step, Steps};
 use crate::rules::survey::Survey;
 use isa65::{Mnemonic, Mode};
 use map65::is_inside;
@@ -16,7 +16,8 @@ fn loaded_from(step: &Step) -> Option<u16> {
 
 /// Marks two neighbouring bytes that nothing speaks for, if reached code loads both, one right after the other or with a store between, and they
 /// form an address of the image that no reached code has, or where a routine begins.
-pub fn mark_loaded(ground: &mut Ground<'_>, steps: &Steps<'_, '_>, survey: &Survey<'_>) {
+pub fn mark_loaded(ground: &mut Ground<'_>, survey: &Survey<'_>) {
+    let steps = survey.steps;
     for &at in &survey.users {
         let Some(one) = steps.at(at).and_then(|step| loaded_from(step)) else {
             continue;

@@ -1,7 +1,8 @@
 //! What keeps bytes from being code: where reading cannot go on that looks like code up to there.
 
+use crate::rules::Steps;
+use crate::rules::search::Search;
 use crate::rules::sound::begins;
-use crate::rules::step::Steps;
 use isa65::Mnemonic;
 use map65::Marks;
 use std::alloc::{AllocError, Global};
@@ -40,7 +41,7 @@ impl Stops {
 }
 
 /// Returns where code cannot go on, of an instruction at the address that is not fine: there, behind it, or where it leads.
-pub fn obstacle_of(steps: &Steps<'_, '_>, address: u16) -> u16 {
+pub fn obstacle_of(steps: &Steps<'_>, address: u16) -> u16 {
     let Some(step) = steps.at(address) else {
         return address;
     };
@@ -57,10 +58,11 @@ pub fn obstacle_of(steps: &Steps<'_, '_>, address: u16) -> u16 {
     address
 }
 
-/// Returns those of the obstacles that keep the most bytes from being code, three at most, from the worst on. Fails only if an allocation
+/// Returns those of the obstacles of a search that keep the most bytes from being code, three at most, from the worst on. Fails only if an allocation
 /// failed.
-pub fn worst_of(alloc: Global, obstacles: &[Obstacle]) -> Result<Vec<Obstacle>, AllocError> {
-    let mut sorted = Vec::from_slice(alloc, obstacles)?;
+pub fn worst_of(search: &Search<'_>) -> Result<Vec<Obstacle>, AllocError> {
+    let alloc = search.steps.alloc();
+    let mut sorted = Vec::from_slice(alloc, &search.obstacles)?;
     sorted.sort_by_key(|obstacle| (Reverse(obstacle.bytes), obstacle.address))?;
     let mut found: Vec<Obstacle> = Vec::new(alloc);
     for &obstacle in &sorted {

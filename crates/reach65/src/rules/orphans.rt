@@ -5,7 +5,7 @@ use crate::rules::ground::Ground;
 use crate::rules::halves::Pair;
 use crate::rules::survey::Survey;
 use map65::Marks;
-use std::alloc::{AllocError, Global};
+use std::alloc::AllocError;
 
 /// How many words may have the address of one routine.
 const MOST: usize = 2;
@@ -16,13 +16,8 @@ fn set_two(marks: &mut Marks, address: u16) {
 }
 
 /// The addresses to which an operand, a half, or a word of a row refers.
-fn referred(
-    alloc: Global,
-    ground: &Ground<'_>,
-    survey: &Survey<'_>,
-    pairs: &[Pair],
-) -> Result<Marks, AllocError> {
-    let mut marks = survey.operands.copy(alloc)?;
+fn referred(ground: &Ground<'_>, survey: &Survey<'_>, pairs: &[Pair]) -> Result<Marks, AllocError> {
+    let mut marks = survey.operands.copy(survey.steps.alloc())?;
     for pair in pairs {
         set_two(&mut marks, pair.address);
     }
@@ -48,14 +43,13 @@ fn is_unled(survey: &Survey<'_>, address: u16) -> bool {
 /// Marks the words of data that are the address of a reached routine to which nothing else refers, where two words at most are it. `words` has
 /// where such words may begin. Fails only if an allocation failed.
 pub fn mark_orphans(
-    alloc: Global,
     ground: &mut Ground<'_>,
     survey: &Survey<'_>,
     pairs: &[Pair],
     words: &[u16],
 ) -> Result<(), AllocError> {
     let start = ground.image.start();
-    let mut found = Vec::new(alloc);
+    let mut found = Vec::new(survey.steps.alloc());
     for &first in words {
         let at = usize::from(first);
         if let Some(word) = ground.word(at)
@@ -68,7 +62,7 @@ pub fn mark_orphans(
     if found.is_empty() {
         return Ok(());
     }
-    let referred = referred(alloc, ground, survey, pairs)?;
+    let referred = referred(ground, survey, pairs)?;
     found.sort()?;
     for same in found.as_slice().chunk_by(|one, other| one.0 == other.0) {
         if MOST < same.len() {

@@ -22,8 +22,8 @@ enum Begins {
 
 /// The bytes that nothing speaks for, cut into pieces.
 #[derive(Drop)]
-pub struct Pieces<'g, 'i> {
-    ground: &'g Ground<'i>,
+pub struct Pieces<'a> {
+    ground: &'a Ground<'a>,
     start: usize,
     end: usize,
     begins: Vec<Begins>,
@@ -83,9 +83,9 @@ fn begins_backward(alloc: Global, ground: &Ground<'_>) -> Result<Vec<Begins>, Al
     Ok(found)
 }
 
-impl<'g, 'i> Pieces<'g, 'i> {
+impl<'a> Pieces<'a> {
     /// Looks at the addresses that nothing speaks for. The time grows with the size of the image. Fails only if an allocation failed.
-    pub fn of(alloc: Global, ground: &'g Ground<'i>) -> Result<Pieces<'g, 'i>, AllocError> {
+    pub fn of(alloc: Global, ground: &'a Ground<'a>) -> Result<Pieces<'a>, AllocError> {
         let (start, end) = ends(ground.image);
         Ok(Pieces {
             ground,

@@ -1,10 +1,10 @@
 //! Tables by the instructions that read them.
 
-use crate::rules::bytes::{address, addresses, byte};
+use crate::rules::bytes::{address, byte};
 use crate::rules::growth::IN_TABLE;
 use crate::rules::halves::stored_to;
 use crate::rules::sound::reads_on;
-use crate::rules::step::{Step, Steps};
+use crate::rules::{Placed, Step, Steps};
 use isa65::{Mnemonic, Mode};
 use map65::{Image, Marks};
 use std::alloc::{AllocError, Global};
@@ -65,7 +65,7 @@ impl Table {
 
     /// Returns whether one of two tables of halves begins right behind the other: three quarters of the entries up to there lead to what reads as
     /// code.
-    pub fn is_whole(&self, steps: &Steps<'_, '_>) -> bool {
+    pub fn is_whole(&self, steps: &Steps<'_>) -> bool {
         if !self.is_code || self.has_words() {
             return false;
         }
@@ -100,18 +100,33 @@ fn indexed(step: &Step) -> Option<u16> {
     }
 }
 
-/// What reached code does with pointers.
+/// Which reached instructions may read tables, and what reached code does with pointers.
 #[derive(Drop)]
-struct Pointers {
+pub struct Readers {
+    /// Where the instructions begin.
+    readers: Vec<u16>,
     /// It jumps through the pointer. The operand of a jump or a call is one too: other code may store to it.
     jumps: Marks,
     /// It loads or stores through the pointer.
     others: Marks,
 }
 
-impl Pointers {
-    /// Adds what the instruction at the address does.
-    fn put(&mut self, at: u16, step: &Step) {
+impl Readers {
+    /// Returns none. Fails only if an allocation failed.
+    pub fn none(alloc: Global) -> Result<Readers, AllocError> {
+        Ok(Readers {
+            readers: Vec::new(alloc),
+            jumps: Marks::none(alloc)?,
+            others: Marks::none(alloc)?,
+        })
+    }
+
+    /// Adds what a reached instruction does. Fails only if an allocation failed.
+    pub fn put(&mut self, placed: Placed<'_>) -> Result<(), AllocError> {
+        let Placed { at, step } = placed;
+        if matches!(step.op.mode, Mode::Absx | Mode::Absy | Mode::Absindx) {
+            self.readers.push(at)?;
+        }
         match (step.op.mode, step.operand, step.byte) {
             (Mode::Ind, Some(pointer), _) => self.jumps.set(pointer),
             (Mode::Indx | Mode::Indy | Mode::Zpind, _, Some(pointer)) => {
@@ -120,10 +135,11 @@ impl Pointers {
             (Mode::Abs, Some(_), _) if step.to.is_some() => self.jumps.set(at.saturating_add(1)),
             _ => {}
         }
+        Ok(())
     }
 
     /// The table that this instruction and those behind it read: two loads with an index, each pushed or stored to one byte of a pointer.
-    fn table_at(&self, steps: &Steps<'_, '_>, reached: &Marks, at: u16) -> Option<Table> {
+    fn table_at(&self, steps: &Steps<'_>, reached: &Marks, at: u16) -> Option<Table> {
         let first = steps.marked(reached, at)?;
         if first.step.op.mode == Mode::Absindx {
             let low = first.step.operand?;
@@ -151,37 +167,25 @@ impl Pointers {
         };
         Some(Table { is_code, ..table })
     }
-}
 
-/// Returns the tables that reached code reads, which has these bytes, in the order of the instructions. Fails only if an allocation failed.
-pub fn tables_of(
-    alloc: Global,
-    steps: &Steps<'_, '_>,
-    reached: &Marks,
-    code: &Marks,
-) -> Result<Vec<Table>, AllocError> {
-    let mut pointers = Pointers {
-        jumps: Marks::none(alloc)?,
-        others: Marks::none(alloc)?,
-    };
-    let mut readers = Vec::new(alloc);
-    for at in addresses(steps.image()) {
-        if reached.get(at)
-            && let Some(step) = steps.at(at)
-        {
-            pointers.put(at, step);
-            if matches!(step.op.mode, Mode::Absx | Mode::Absy | Mode::Absindx) {
-                readers.push(at)?;
+    /// Returns the tables that reached code reads, which has these bytes, in the order of the instructions. Fails only if an allocation failed.
+    pub fn tables(
+        &self,
+        steps: &Steps<'_>,
+        reached: &Marks,
+        code: &Marks,
+    ) -> Result<Vec<Table>, AllocError> {
+        let alloc = steps.alloc();
+        let mut readers = Vec::from_slice(alloc, &self.readers)?;
+        readers.sort()?;
+        let mut found = Vec::new(alloc);
+        for &at in &readers {
+            if let Some(table) = self.table_at(steps, reached, at) {
+                let behind = table.behind(code);
+                let is_better = behind.low != table.low && behind.is_whole(steps);
+                found.push(if is_better { behind } else { table })?;
             }
         }
+        Ok(found)
     }
-    let mut found = Vec::new(alloc);
-    for &at in &readers {
-        if let Some(table) = pointers.table_at(steps, reached, at) {
-            let behind = table.behind(code);
-            let is_better = behind.low != table.low && behind.is_whole(steps);
-            found.push(if is_better { behind } else { table })?;
-        }
-    }
-    Ok(found)
 }

@@ -4,37 +4,39 @@ use crate::rules::bytes::{addresses, ends};
 use crate::rules::ground::Ground;
 use crate::rules::survey::Survey;
 use crate::rules::words::ROW;
-use info65::Info;
 use map65::Marks;
-use std::alloc::{AllocError, Global};
+use std::alloc::AllocError;
 
-/// Whether the word at the address, and this much more, is the address of a routine.
-fn leads(ground: &Ground<'_>, survey: &Survey<'_>, less: u16, at: usize) -> bool {
-    ground.word(at).is_some_and(|word| survey.is_routine(usize::from(word).saturating_add(
-        usize::from(less),
-    )))
+/// The word at the address, if it is the address of a routine, less so much.
+fn leading(ground: &Ground<'_>, survey: &Survey<'_>, less: u16, at: usize) -> Option<u16> {
+    let word = ground.word(at)?;
+    if survey.is_routine(usize::from(word) + usize::from(less)) {
+        Some(word)
+    } else {
+        None
+    }
 }
 
-/// How many words a row has that begins at the address: each, and this much more, is the address of a routine, there are three at least, and the first
+/// How many words a row has that begins at the address: each is the address of a routine, less so much, there are three at least, and the first
 /// two are different.
 fn row_len(ground: &Ground<'_>, survey: &Survey<'_>, less: u16, from: usize, end: usize) -> usize {
-    if ground.word(from) == ground.word(from.saturating_add(2)) {
+    let Some(one) = leading(ground, survey, less, from) else {
         return 0;
+    };
+    match leading(ground, survey, less, from.saturating_add(2)) {
+        Some(two) if one != two => {}
+        _ => return 0,
     }
     let words = (from..end).step_by(2);
     let count = words
-        .take_while(|at| leads(ground, survey, less, *at))
+        .take_while(|at| leading(ground, survey, less, *at).is_some())
         .count();
     if ROW <= count { count } else { 0 }
 }
 
 /// Returns where words begin that may be an address of a routine, or less one, or that of a name. Fails only if an allocation failed.
-pub fn words_of(
-    alloc: Global,
-    ground: &Ground<'_>,
-    survey: &Survey<'_>,
-    info: &Info,
-) -> Result<Vec<u16>, AllocError> {
+pub fn words_of(ground: &Ground<'_>, survey: &Survey<'_>) -> Result<Vec<u16>, AllocError> {
+    let (alloc, info) = (survey.steps.alloc(), survey.steps.map().info());
     let mut named = Marks::none(alloc)?;
     for k in 0..info.given_count() {
         named.set(info.given(k).address);

@@ -1,9 +1,10 @@
 //! The search for code, with trials: an entry joins if all that is reached from it reads as code, else all is as before.
 
 use crate::rules::obstacles::{Obstacle, obstacle_of};
+use crate::rules::readers::Readers;
 use crate::rules::sound::{is_apart, is_fine};
-use crate::rules::step::Steps;
 use crate::rules::texts::{ALPHABETS, text_len};
+use crate::rules::{Placed, Steps};
 use isa65::Mnemonic;
 use map65::{ADDRESSES, Image, Marks, is_inside};
 use std::alloc::{AllocError, Global};
@@ -31,14 +32,16 @@ pub enum Least {
 /// trial began; and how many instructions the trials that failed have looked at. An address is to be looked at from when it is marked, so
 /// each is looked at once.
 #[derive(Drop)]
-pub struct Search<'a, 'f, 'm> {
-    pub steps: &'a Steps<'f, 'm>,
+pub struct Search<'a> {
+    pub steps: &'a Steps<'a>,
     pub entries: Vec<u16>,
     pub marks: Marks,
     /// What the instructions have that have joined.
     pub code: Marks,
     /// Where the instructions begin that have joined and that no rule has looked at.
     pub joined: Vec<u16>,
+    /// Those that have joined and read tables.
+    pub readers: Readers,
     todo: Vec<u16>,
     added: Vec<u16>,
     /// Those that were marked since the last trial began.
@@ -71,19 +74,17 @@ fn stored_marks(alloc: Global, image: &Image) -> Result<Marks, AllocError> {
     Ok(marks)
 }
 
-impl<'a, 'f, 'm> Search<'a, 'f, 'm> {
+impl<'a> Search<'a> {
     /// Returns the search of all that is reached from the entries. Fails only if an allocation failed.
-    pub fn from(
-        alloc: Global,
-        steps: &'a Steps<'f, 'm>,
-        entries: &[u16],
-    ) -> Result<Search<'a, 'f, 'm>, AllocError> {
+    pub fn from(steps: &'a Steps<'a>, entries: &[u16]) -> Result<Search<'a>, AllocError> {
+        let alloc = steps.alloc();
         let mut search = Search {
             steps,
             entries: Vec::new(alloc),
             marks: Marks::none(alloc)?,
             code: Marks::none(alloc)?,
             joined: Vec::new(alloc),
+            readers: Readers::none(alloc)?,
             todo: Vec::new(alloc),
             added: Vec::new(alloc),
             fresh: Marks::none(alloc)?,
@@ -253,10 +254,12 @@ impl<'a, 'f, 'm> Search<'a, 'f, 'm> {
 
     /// Marks what the instructions have that were added.
     fn keep(&mut self) -> Result<(), AllocError> {
-        for &address in self.added.as_slice() {
-            let at = usize::from(address);
-            self.code
-                .set_span(at, at.saturating_add(self.steps.len_at(address)));
+        for &at in self.added.as_slice() {
+            if let Some(step) = self.steps.at(at) {
+                let from = usize::from(at);
+                self.code.set_span(from, from.saturating_add(step.len()));
+                self.readers.put(Placed { at, step })?;
+            }
         }
         self.joined.extend_from_slice(self.added.as_slice())
     }

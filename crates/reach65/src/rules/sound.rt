@@ -1,18 +1,18 @@
 //! What reads as code: each instruction is fine, and none shares a byte with another one.
 
 use crate::flow::is_last;
-use crate::rules::step::{Step, Steps};
+use crate::rules::{Step, Steps};
 use isa65::{Mnemonic, Mode, OperandKind, Row};
 use map65::Marks;
 
 /// Returns whether an instruction begins at the address, if there is one.
-pub fn begins(steps: &Steps<'_, '_>, address: Option<u16>) -> bool {
+pub fn begins(steps: &Steps<'_>, address: Option<u16>) -> bool {
     address.is_some_and(|address| steps.at(address).is_some())
 }
 
 /// Returns whether that many instructions from the address on read as code, or fewer up to one behind which code does not go on: each decodes,
 /// and none is `brk`.
-pub fn reads_on(steps: &Steps<'_, '_>, from: Option<u16>, count: usize) -> bool {
+pub fn reads_on(steps: &Steps<'_>, from: Option<u16>, count: usize) -> bool {
     let mut at = from;
     for _ in 0..count {
         let Some(step) = at.and_then(|address| steps.at(address)) else {
@@ -35,13 +35,13 @@ fn is_branch(step: &Step) -> bool {
 }
 
 /// Whether code may stand at an address below $0100 outside the image: it has a name, or the image stores to it.
-fn is_filled(steps: &Steps<'_, '_>, stored: &Marks, to: u16) -> bool {
+fn is_filled(steps: &Steps<'_>, stored: &Marks, to: u16) -> bool {
     stored.get(to) || steps.map().info().covering(to).is_some()
 }
 
 /// Whether the instruction leads to another one by its operand, or a jump leaves the image. One to $0000 is filled in at run time, and the
 /// zero page has code only where it is filled.
-fn leads_well(steps: &Steps<'_, '_>, stored: &Marks, step: &Step) -> bool {
+fn leads_well(steps: &Steps<'_>, stored: &Marks, step: &Step) -> bool {
     let Some(to) = step.to else {
         return !is_branch(step);
     };
@@ -56,20 +56,20 @@ fn leads_well(steps: &Steps<'_, '_>, stored: &Marks, step: &Step) -> bool {
 
 /// Returns whether the instruction is no `brk`, and instructions begin where it leads. `stored` has the addresses of the zero page that the
 /// image stores to.
-pub fn is_fine(steps: &Steps<'_, '_>, stored: &Marks, step: &Step) -> bool {
+pub fn is_fine(steps: &Steps<'_>, stored: &Marks, step: &Step) -> bool {
     step.op.mnemonic != Mnemonic::Brk
         && (is_last(step.op.mnemonic) || begins(steps, step.next))
         && leads_well(steps, stored, step)
 }
 
 /// Whether the marked instruction this many bytes before the address has the address.
-fn reaches(steps: &Steps<'_, '_>, marks: &Marks, address: u16, distance: u16) -> bool {
+fn reaches(steps: &Steps<'_>, marks: &Marks, address: u16, distance: u16) -> bool {
     address.checked_sub(distance).is_some_and(|at| marks.get(at)
         && usize::from(distance) < steps.len_at(at))
 }
 
 /// Returns where the marked instruction begins that the address lies inside of. An instruction has at most three bytes.
-pub fn holder_of(steps: &Steps<'_, '_>, marks: &Marks, address: u16) -> Option<u16> {
+pub fn holder_of(steps: &Steps<'_>, marks: &Marks, address: u16) -> Option<u16> {
     for distance in [1u16, 2] {
         if reaches(steps, marks, address, distance) {
             return address.checked_sub(distance);
@@ -80,7 +80,7 @@ pub fn holder_of(steps: &Steps<'_, '_>, marks: &Marks, address: u16) -> Option<u
 
 /// Whether the operand of a `bit` at the first address is an instruction at the second one, which ends where the `bit` ends: `.byte $2C` skips
 /// that instruction.
-fn hides(steps: &Steps<'_, '_>, outer: u16, inner: u16) -> bool {
+fn hides(steps: &Steps<'_>, outer: u16, inner: u16) -> bool {
     steps.at(outer).is_some_and(|step| {
         step.op.mnemonic == Mnemonic::Bit
             && (step.op.mode == Mode::Abs || step.op.mode == Mode::Zp)
@@ -89,7 +89,7 @@ fn hides(steps: &Steps<'_, '_>, outer: u16, inner: u16) -> bool {
 }
 
 /// Returns whether the instruction of the address shares no byte with another one that is marked, but for one in the operand of a `bit`.
-pub fn is_apart(steps: &Steps<'_, '_>, marks: &Marks, address: u16) -> bool {
+pub fn is_apart(steps: &Steps<'_>, marks: &Marks, address: u16) -> bool {
     let len = steps.len_at(address);
     let at = usize::from(address);
     if 2 < len && marks.get_at(at + 2) || reaches(steps, marks, address, 2) {

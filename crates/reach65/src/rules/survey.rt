@@ -2,26 +2,26 @@
 
 use crate::rules::bytes::addresses;
 use crate::rules::halves::may_begin;
-use crate::rules::step::{Placed, Steps};
+use crate::rules::readers::Readers;
+use crate::rules::{Placed, Steps};
 use isa65::Mnemonic;
 use map65::{Marks, is_jump};
-use std::alloc::{AllocError, Global};
+use std::alloc::AllocError;
 
 /// Marks of addresses, by what reached instructions do with them.
 #[derive(Drop)]
-pub struct Survey<'r> {
+pub struct Survey<'a> {
+    pub steps: &'a Steps<'a>,
     /// A reached instruction begins at the address.
-    pub reached: &'r Marks,
+    pub reached: &'a Marks,
     /// One has it.
-    pub code: &'r Marks,
+    pub code: &'a Marks,
     /// One goes on to it: it leads there as the next one, or branches there.
     pub gone_on: Marks,
     /// One goes to it by its operand.
     pub goals: Marks,
     /// One calls it.
     called: Marks,
-    /// A routine begins there: it is called, or no code goes on to it.
-    pub routines: Marks,
     /// One has it as its absolute operand, and does not go there.
     pub operands: Marks,
     /// One stores to it, or changes it.
@@ -34,6 +34,8 @@ pub struct Survey<'r> {
     pub users: Vec<u16>,
     /// Where calls begin.
     pub calls: Vec<u16>,
+    /// Those that read tables.
+    pub readers: Readers,
 }
 
 /// Returns whether an instruction stores to its operand, or changes it.
@@ -62,37 +64,32 @@ fn set_some(marks: &mut Marks, address: Option<u16>) {
     }
 }
 
-impl<'r> Survey<'r> {
+impl<'a> Survey<'a> {
     /// Looks at the reached instructions. Fails only if an allocation failed.
     pub fn of(
-        alloc: Global,
-        steps: &Steps<'_, '_>,
-        reached: &'r Marks,
-        code: &'r Marks,
-    ) -> Result<Survey<'r>, AllocError> {
+        steps: &'a Steps<'a>,
+        reached: &'a Marks,
+        code: &'a Marks,
+    ) -> Result<Survey<'a>, AllocError> {
+        let alloc = steps.alloc();
         let mut survey = Survey {
+            steps,
             reached,
             code,
             gone_on: Marks::none(alloc)?,
             goals: Marks::none(alloc)?,
             called: Marks::none(alloc)?,
-            routines: Marks::none(alloc)?,
             operands: Marks::none(alloc)?,
             written: Marks::none(alloc)?,
             texts: Marks::none(alloc)?,
             firsts: Vec::new(alloc),
             users: Vec::new(alloc),
             calls: Vec::new(alloc),
+            readers: Readers::none(alloc)?,
         };
         for at in addresses(steps.image()) {
             if let Some(placed) = steps.marked(reached, at) {
                 survey.put(placed)?;
-            }
-        }
-        for at in addresses(steps.image()) {
-            let is_begun = survey.called.get(at) || !survey.gone_on.get(at);
-            if reached.get(at) && code.get(at) && is_begun {
-                survey.routines.set(at);
             }
         }
         Ok(survey)
@@ -101,6 +98,7 @@ impl<'r> Survey<'r> {
     /// Marks what the instruction does.
     fn put(&mut self, placed: Placed<'_>) -> Result<(), AllocError> {
         let Placed { at, step } = placed;
+        self.readers.put(placed)?;
         if may_begin(step.op) {
             self.firsts.push(at)?;
         }
@@ -130,13 +128,15 @@ impl<'r> Survey<'r> {
         Ok(())
     }
 
-    /// Returns whether a routine begins at the address, which may lie past $FFFF.
+    /// Returns whether a routine begins at the address, which may lie past $FFFF: it is reached, and it is called, or no code goes on to it.
     pub fn is_routine(&self, at: usize) -> bool {
-        self.routines.get_at(at)
+        self.reached.get_at(at)
+            && self.code.get_at(at)
+            && (self.called.get_at(at) || !self.gone_on.get_at(at))
     }
 
     /// Returns whether no reached instruction has the address, or a routine begins there.
     pub fn is_likely(&self, address: u16) -> bool {
-        !self.code.get(address) || self.routines.get(address)
+        !self.code.get(address) || self.is_routine(usize::from(address))
     }
 }

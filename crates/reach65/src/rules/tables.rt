@@ -2,10 +2,9 @@
 
 use crate::rules::ground::Ground;
 use crate::rules::readers::Table;
-use crate::rules::step::Steps;
 use crate::rules::survey::Survey;
 use map65::is_inside;
-use std::alloc::{AllocError, Global};
+use std::alloc::AllocError;
 
 /// Two tables of halves: where the low and the high bytes begin, and how many there are of each.
 #[derive(Clone, Copy)]
@@ -24,12 +23,7 @@ fn is_entry(ground: &Ground<'_>, survey: &Survey<'_>, table: Table, index: usize
 }
 
 /// How many entries the table has: up to one that is none, unless it is whole, or at which another table begins.
-fn entry_count(
-    ground: &Ground<'_>,
-    steps: &Steps<'_, '_>,
-    survey: &Survey<'_>,
-    table: Table,
-) -> usize {
+fn entry_count(ground: &Ground<'_>, survey: &Survey<'_>, table: Table) -> usize {
     let mut is_whole = false;
     let mut count = 0;
     for index in 0..table.most() {
@@ -39,7 +33,7 @@ fn entry_count(
             break;
         }
         let fits = is_entry(ground, survey, table, index);
-        is_whole = is_whole || !fits && table.is_whole(steps);
+        is_whole = is_whole || !fits && table.is_whole(survey.steps);
         if !fits && !is_whole {
             break;
         }
@@ -50,15 +44,13 @@ fn entry_count(
 
 /// Marks the words of the tables, and returns the tables of halves whose entries are addresses. Fails only if an allocation failed.
 pub fn mark_tables(
-    alloc: Global,
     ground: &mut Ground<'_>,
-    steps: &Steps<'_, '_>,
     survey: &Survey<'_>,
     tables: &[Table],
 ) -> Result<Vec<Split>, AllocError> {
-    let mut splits = Vec::new(alloc);
+    let mut splits = Vec::new(survey.steps.alloc());
     for &table in tables {
-        let count = entry_count(ground, steps, survey, table);
+        let count = entry_count(ground, survey, table);
         let (low, high) = table.places(0);
         let (low_end, high_end) = (low.saturating_add(count), high.saturating_add(count));
         if table.has_words() {

@@ -3,8 +3,8 @@
 use crate::rules::bytes::{address, ends};
 use crate::rules::survey::Survey;
 use info65::Info;
-use map65::{ADDRESSES, Map};
-use std::alloc::{AllocError, Global};
+use map65::ADDRESSES;
+use std::alloc::AllocError;
 
 /// How far a variable may lie after the one before it.
 const GAP: usize = 4096;
@@ -28,12 +28,9 @@ fn first_named(info: &Info, from: usize) -> usize {
 /// Returns the variables right after the image: from its end on the operands, each at most 4,096 bytes after the one before, up to where a name
 /// of the information file covers one, and before $D000. An image that ends in the zero page has none, and one that writes to none of them
 /// has none. Fails only if an allocation failed.
-pub fn variables_of(
-    alloc: Global,
-    map: &Map<'_>,
-    survey: &Survey<'_>,
-) -> Result<Vec<u16>, AllocError> {
-    let mut found = Vec::new(alloc);
+pub fn variables_of(survey: &Survey<'_>) -> Result<Vec<u16>, AllocError> {
+    let map = survey.steps.map();
+    let mut found = Vec::new(survey.steps.alloc());
     let (_, end) = ends(map.image());
     let mut last = end;
     let mut writes = false;

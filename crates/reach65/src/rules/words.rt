@@ -4,10 +4,10 @@ use crate::flow::is_last;
 use crate::rules::bytes::{addresses, ends, word};
 use crate::rules::growth::IN_TABLE;
 use crate::rules::search::{Least, Search};
-use crate::rules::step::{Step, Steps};
+use crate::rules::{Step, Steps};
 use isa65::Mnemonic;
 use map65::{ADDRESSES, Image, Marks};
-use std::alloc::{AllocError, Global};
+use std::alloc::AllocError;
 
 /// How many words a row has at least.
 pub const ROW: usize = 3;
@@ -18,18 +18,19 @@ pub struct DataWords<'i> {
     image: &'i Image,
     given: Marks,
     hopeful: Marks,
-    /// Where words begin that may lead to code.
+    /// Where two words begin that may lead to code.
     worth: Vec<u16>,
 }
 
-/// Whether the word at the address may lead to code, itself or as one less, and is not followed by the same.
+/// Whether the word at the address and the one behind it differ, and both may lead to code, themselves or as one less.
 fn is_worth(image: &Image, hopeful: &Marks, at: usize) -> bool {
-    let Some(one) = word(image, at) else {
+    let (Some(one), Some(two)) = (word(image, at), word(image, at.saturating_add(2))) else {
         return false;
     };
-    let to = usize::from(one);
-    (hopeful.get_at(to) || hopeful.get_at(to.saturating_add(1)))
-        && word(image, at.saturating_add(2)).is_some_and(|other| one != other)
+    let (to, then) = (usize::from(one), usize::from(two));
+    one != two
+        && (hopeful.get_at(to) && hopeful.get_at(then)
+            || hopeful.get_at(to + 1) && hopeful.get_at(then + 1))
 }
 
 /// Whether code may go on at a later address, if there is one: an earlier one is not known yet.
@@ -49,7 +50,7 @@ fn is_hopeful(marks: &Marks, address: u16, step: &Step) -> bool {
 }
 
 /// Whether a reached instruction right before the address goes on to it.
-fn is_gone_on(search: &Search<'_, '_, '_>, address: u16) -> bool {
+fn is_gone_on(search: &Search<'_>, address: u16) -> bool {
     (1..=3u16).any(|distance| {
         let before = address.saturating_sub(distance);
         let placed = search.steps.marked(&search.marks, before);
@@ -58,16 +59,12 @@ fn is_gone_on(search: &Search<'_, '_, '_>, address: u16) -> bool {
 }
 
 /// Whether a reached instruction begins at the address. For a word that is one less, none right before it goes on to it, either.
-fn is_entered(search: &Search<'_, '_, '_>, less: u16, address: u16) -> bool {
+fn is_entered(search: &Search<'_>, less: u16, address: u16) -> bool {
     search.steps.at(address).is_some() && (less == 0 || !is_gone_on(search, address))
 }
 
 /// Whether code begins at the address, of a word that is this much less.
-fn begins_code(
-    search: &mut Search<'_, '_, '_>,
-    less: u16,
-    address: u16,
-) -> Result<bool, AllocError> {
+fn begins_code(search: &mut Search<'_>, less: u16, address: u16) -> Result<bool, AllocError> {
     if search.marks.get(address) {
         return Ok(is_entered(search, less, address));
     }
@@ -77,11 +74,9 @@ fn begins_code(
 impl<'i> DataWords<'i> {
     /// Looks at an image of which these instructions are reached. What leads to the end of a routine is hopeful, as far as that is known
     /// from the instructions after it: few bytes of data do. That saves trials, and no more.
-    pub fn of<'m: 'i>(
-        alloc: Global,
-        search: &Search<'_, '_, 'm>,
-    ) -> Result<DataWords<'i>, AllocError> {
+    pub fn of(search: &Search<'i>) -> Result<DataWords<'i>, AllocError> {
         let steps = search.steps;
+        let alloc = steps.alloc();
         let reached = &search.marks;
         let image = steps.image();
         let mut given = Marks::none(alloc)?;
@@ -115,12 +110,12 @@ impl<'i> DataWords<'i> {
     }
 
     /// Whether nothing speaks for the address.
-    fn is_open(&self, search: &Search<'_, '_, '_>, at: usize) -> bool {
+    fn is_open(&self, search: &Search<'_>, at: usize) -> bool {
         at < ADDRESSES && !self.given.get_at(at) && !search.code.get_at(at)
     }
 
     /// The address to which the word at the address leads, if nothing speaks for its bytes and code may begin there.
-    fn target(&self, search: &Search<'_, '_, '_>, less: u16, at: usize) -> Option<u16> {
+    fn target(&self, search: &Search<'_>, less: u16, at: usize) -> Option<u16> {
         let to = word(self.image, at)?.checked_add(less)?;
         let is_open = self.is_open(search, at) && self.is_open(search, at.saturating_add(1));
         if is_open && self.hopeful.get(to) {
@@ -133,7 +128,7 @@ impl<'i> DataWords<'i> {
     /// Whether a row begins at the address: three different words lead to code.
     fn begins_row(
         &self,
-        search: &mut Search<'_, '_, '_>,
+        search: &mut Search<'_>,
         less: u16,
         at: usize,
     ) -> Result<bool, AllocError> {
@@ -156,7 +151,7 @@ impl<'i> DataWords<'i> {
     /// Lets the sound beginnings among the words of a row join, up to one that leads to no code. Marks where the words begin.
     fn join_row(
         &self,
-        search: &mut Search<'_, '_, '_>,
+        search: &mut Search<'_>,
         rows: &mut Marks,
         less: u16,
         from: usize,
@@ -177,13 +172,9 @@ impl<'i> DataWords<'i> {
     }
 
     /// Lets the sound beginnings among the words of rows join. Fails only if an allocation failed.
-    pub fn join_rows(
-        &self,
-        alloc: Global,
-        search: &mut Search<'_, '_, '_>,
-    ) -> Result<(), AllocError> {
+    pub fn join_rows(&self, search: &mut Search<'_>) -> Result<(), AllocError> {
         for less in [0u16, 1] {
-            let mut rows = Marks::none(alloc)?;
+            let mut rows = Marks::none(search.steps.alloc())?;
             for &at in &self.worth {
                 let from = usize::from(at);
                 if !rows.get(at) && self.begins_row(search, less, from)? {
@@ -195,18 +186,14 @@ impl<'i> DataWords<'i> {
     }
 
     /// Whether a word at the address leads to reached code, this much after it.
-    fn leads(&self, search: &Search<'_, '_, '_>, less: u16, at: usize) -> bool {
+    fn leads(&self, search: &Search<'_>, less: u16, at: usize) -> bool {
         self.target(search, less, at)
             .is_some_and(|to| search.marks.get(to) && is_entered(search, less, to))
     }
 
     /// Returns the addresses right behind rows of words that lead to reached code. Fails only if an allocation failed.
-    pub fn behind_rows(
-        &self,
-        alloc: Global,
-        search: &Search<'_, '_, '_>,
-    ) -> Result<Vec<u16>, AllocError> {
-        let mut found = Vec::new(alloc);
+    pub fn behind_rows(&self, search: &Search<'_>) -> Result<Vec<u16>, AllocError> {
+        let mut found = Vec::new(search.steps.alloc());
         for &first in &self.worth {
             let at = usize::from(first);
             for less in [0u16, 1] {

@@ -1,77 +1,67 @@
 //! Comments for calls after which nothing decodes: text that the called routine reads may follow them.
 
 use crate::advice::Advice;
-use files65::{put_address, put_decimal};
-use reach65::rules::bytes::address;
+use crate::text::Text;
+use reach65::rules::bytes::addresses;
 use reach65::rules::sound::reads_on;
-use std::alloc::{AllocError, Global};
+use std::alloc::AllocError;
 
 /// How many instructions after a call are looked at.
 const STEPS: usize = 8;
 
-/// Adds the call at the address: the routine, and whether nothing decodes after the call. A call that is not reached counts if its routine is, or
+/// The routine of the call at the address, and whether nothing decodes after the call. A call that is not reached counts if its routine is, or
 /// lies outside the image.
-fn put_call(
-    calls: &mut Vec<(u16, bool)>,
-    advice: &Advice<'_, '_, '_>,
-    at: u16,
-    is_reached: bool,
-) -> Result<(), AllocError> {
-    let Some(step) = advice.steps.at(at) else {
-        return Ok(());
-    };
-    if let Some(routine) = step.to
-        && (is_reached || step.goal.is_none() || advice.survey.reached.get(routine))
-    {
-        calls.push((routine, !reads_on(advice.steps, step.next, STEPS)))?;
+fn call_at(advice: &Advice<'_>, at: u16, is_reached: bool) -> Option<(u16, bool)> {
+    let step = advice.steps.at(at)?;
+    let routine = step.to?;
+    if is_reached || step.goal.is_none() || advice.survey.reached.get(routine) {
+        Some((routine, !reads_on(advice.steps, step.next, STEPS)))
+    } else {
+        None
     }
-    Ok(())
 }
 
 /// The calls that are reached, and those that were read in trials that failed; by routine.
-fn calls_of(alloc: Global, advice: &Advice<'_, '_, '_>) -> Result<Vec<(u16, bool)>, AllocError> {
-    let mut calls = Vec::new(alloc);
+fn calls_of(advice: &Advice<'_>) -> Result<Vec<(u16, bool)>, AllocError> {
+    let mut calls = Vec::new(advice.steps.alloc());
     for &at in &advice.survey.calls {
-        put_call(&mut calls, advice, at, true)?;
+        if let Some(call) = call_at(advice, at, true) {
+            calls.push(call)?;
+        }
     }
-    let (start, end) = advice.ends();
-    for at in start..end {
-        if let Some(at) = address(at)
-            && advice.stops.calls.get(at)
+    for at in addresses(advice.steps.image()) {
+        if advice.stops.calls.get(at)
             && !advice.survey.reached.get(at)
+            && let Some(call) = call_at(advice, at, false)
         {
-            put_call(&mut calls, advice, at, false)?;
+            calls.push(call)?;
         }
     }
     calls.sort_by_key(|call| call.0)?;
     Ok(calls)
 }
 
-/// Adds a comment for each routine after half of whose calls nothing decodes at least, by address, unless a group INLINE of the file has it.
-pub fn put_calls(
-    out: &mut Vec<u8>,
-    alloc: Global,
-    advice: &Advice<'_, '_, '_>,
-) -> Result<(), AllocError> {
-    let calls = calls_of(alloc, advice)?;
-    for same in calls.as_slice().chunk_by(|one, other| one.0 == other.0) {
-        let Some(&(routine, _)) = same.first() else {
-            continue;
-        };
-        let mut failing = 0usize;
-        for call in same {
-            failing = failing.saturating_add(usize::from(call.1));
+impl Text<'_> {
+    /// Adds a comment for each routine after half of whose calls nothing decodes at least, by address, unless a group INLINE of the file has it.
+    pub fn put_calls(&mut self) -> Result<(), AllocError> {
+        let advice = self.advice;
+        let calls = calls_of(advice)?;
+        for same in calls.as_slice().chunk_by(|one, other| one.0 == other.0) {
+            let Some(&(routine, _)) = same.first() else {
+                continue;
+            };
+            let failing = same.iter().filter(|call| call.1).count();
+            if failing == 0
+                || failing.saturating_mul(2) < same.len()
+                || advice.steps.inline_at(routine).is_some()
+            {
+                continue;
+            }
+            self.put_decimal(b"# what follows ", failing)?;
+            self.put_decimal(b" of ", same.len())?;
+            self.put_address(b" calls of $", routine)?;
+            self.put(b" does not decode: INLINE?\n")?;
         }
-        if failing == 0
-            || failing.saturating_mul(2) < same.len()
-            || advice.steps.inline_at(routine).is_some()
-        {
-            continue;
-        }
-        put_decimal(out, b"# what follows ", failing)?;
-        put_decimal(out, b" of ", same.len())?;
-        put_address(out, b" calls of $", usize::from(routine))?;
-        out.extend_from_slice(b" does not decode: INLINE?\n")?;
+        Ok(())
     }
-    Ok(())
 }

@@ -1,7 +1,6 @@
 //! A picture of an image: a character for 64 bytes, and the counts of its bytes; and what helps where little is known.
 
-use crate::advice::Advice;
-use files65::{put_address, put_decimal};
+use crate::text::Text;
 use std::alloc::AllocError;
 
 /// How many bytes a character stands for.
@@ -27,42 +26,45 @@ fn character(len: usize, code: usize, both: usize) -> u8 {
     }
 }
 
-/// Adds a picture of the image, with what its characters stand for, and the counts of its bytes; and what usually helps, in the order that helped, if
-/// code and ranges have less than half of the image.
-pub fn put_picture(out: &mut Vec<u8>, advice: &Advice<'_, '_, '_>) -> Result<(), AllocError> {
-    out.extend_from_slice(b"# a character for 64 bytes: # code that is reached, + partly,\n")?;
-    out.extend_from_slice(b"# r in a range of the information file, . neither\n")?;
-    let (start, end) = advice.ends();
-    let (mut reached, mut both) = (0usize, 0usize);
-    for row in (start..end).step_by(ROW) {
-        put_address(out, b"# $", row)?;
-        out.extend_from_slice(b" ")?;
-        for cell in (row..end.min(row.saturating_add(ROW))).step_by(CELL) {
-            let next = end.min(cell.saturating_add(CELL));
-            let (mut code, mut taken) = (0usize, 0usize);
-            for at in cell..next {
-                if advice.taken.get_at(at) {
-                    taken = taken.saturating_add(1);
-                    code = code.saturating_add(usize::from(advice.survey.code.get_at(at)));
+impl Text<'_> {
+    /// Adds a picture of the image, with what its characters stand for, and the counts of its bytes; and what usually helps, in the order that helped,
+    /// if code and ranges have less than half of the image.
+    pub fn put_picture(&mut self) -> Result<(), AllocError> {
+        self.put(b"# a character for 64 bytes: # code that is reached, + partly,\n")?;
+        self.put(b"# r in a range of the information file, . neither\n")?;
+        let advice = self.advice;
+        let (start, end) = self.ends();
+        let (mut reached, mut both) = (0usize, 0usize);
+        for row in (start..end).step_by(ROW) {
+            self.put_address(b"# $", row as u16)?;
+            self.put(b" ")?;
+            for cell in (row..end.min(row.saturating_add(ROW))).step_by(CELL) {
+                let next = end.min(cell.saturating_add(CELL));
+                let (mut code, mut taken) = (0usize, 0usize);
+                for at in cell..next {
+                    if advice.taken.get_at(at) {
+                        taken = taken.saturating_add(1);
+                        code = code.saturating_add(usize::from(advice.survey.code.get_at(at)));
+                    }
                 }
+                self.out
+                    .push(character(next.saturating_sub(cell), code, taken))?;
+                reached = reached.saturating_add(code);
+                both = both.saturating_add(taken);
             }
-            out.push(character(next.saturating_sub(cell), code, taken))?;
-            reached = reached.saturating_add(code);
-            both = both.saturating_add(taken);
+            self.put(b"\n")?;
         }
-        out.extend_from_slice(b"\n")?;
+        let len = end.saturating_sub(start);
+        self.put_decimal(b"# ", reached)?;
+        self.put_decimal(
+            b" bytes of code that is reached, ",
+            both.saturating_sub(reached),
+        )?;
+        self.put_decimal(b" in ranges, ", len.saturating_sub(both))?;
+        self.put(b" in neither\n")?;
+        if len <= both.saturating_mul(2) || len < ROW {
+            return Ok(());
+        }
+        self.put(HELP)
     }
-    let len = end.saturating_sub(start);
-    put_decimal(out, b"# ", reached)?;
-    put_decimal(
-        out,
-        b" bytes of code that is reached, ",
-        both.saturating_sub(reached),
-    )?;
-    put_decimal(out, b" in ranges, ", len.saturating_sub(both))?;
-    out.extend_from_slice(b" in neither\n")?;
-    if len <= both.saturating_mul(2) || len < ROW {
-        return Ok(());
-    }
-    out.extend_from_slice(HELP)
 }

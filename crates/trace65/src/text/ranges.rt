@@ -1,8 +1,7 @@
 //! The lines of the ranges that are proposed: each is a group, with the bytes of the range as a comment.
 
-use crate::advice::Advice;
-use files65::put_address;
-use info65::{RangeSpec, RangeType};
+use crate::text::Text;
+use info65::RangeType;
 use reach65::rules::texts::Alphabet;
 use std::alloc::AllocError;
 
@@ -59,34 +58,31 @@ fn alphabet_of(role: RangeType, bytes: &[u8]) -> (Alphabet, &'static str) {
     }
 }
 
-/// Adds the bytes of a range of this type as characters: the first 32 of them, and two dots if there are more.
-fn put_bytes(out: &mut Vec<u8>, role: RangeType, bytes: &[u8]) -> Result<(), AllocError> {
-    let (alphabet, title) = alphabet_of(role, bytes);
-    out.extend_from_slice(title.as_bytes())?;
-    for &byte in bytes.iter().take(SHOWN) {
-        out.push(shown(alphabet.in_ascii(byte)))?;
+impl Text<'_> {
+    /// Adds the bytes of a range of this type as characters: the first 32 of them, and two dots if there are more.
+    fn put_bytes(&mut self, role: RangeType, bytes: &[u8]) -> Result<(), AllocError> {
+        let (alphabet, title) = alphabet_of(role, bytes);
+        self.put(title.as_bytes())?;
+        for &byte in bytes.iter().take(SHOWN) {
+            self.out.push(shown(alphabet.in_ascii(byte)))?;
+        }
+        if SHOWN < bytes.len() {
+            self.put(b" ..")?;
+        }
+        Ok(())
     }
-    if SHOWN < bytes.len() {
-        out.extend_from_slice(b" ..")?;
-    }
-    Ok(())
-}
 
-/// Adds the lines of the ranges.
-pub fn put_ranges(
-    out: &mut Vec<u8>,
-    advice: &Advice<'_, '_, '_>,
-    ranges: &[RangeSpec],
-) -> Result<(), AllocError> {
-    for range in ranges {
-        let (first, last) = (usize::from(range.first), usize::from(range.last));
-        put_address(out, b"RANGE { START $", first)?;
-        put_address(out, b"; END $", last)?;
-        out.extend_from_slice(b"; TYPE ")?;
-        out.extend_from_slice(type_text(range.role).as_bytes())?;
-        out.extend_from_slice(b"; }; # ")?;
-        put_bytes(out, range.role, advice.bytes(first, last.saturating_add(1)))?;
-        out.extend_from_slice(b"\n")?;
+    /// Adds the lines of the ranges.
+    pub fn put_ranges(&mut self) -> Result<(), AllocError> {
+        for &range in self.ranges {
+            self.put_address(b"RANGE { START $", range.first)?;
+            self.put_address(b"; END $", range.last)?;
+            self.put(b"; TYPE ")?;
+            self.put(type_text(range.role).as_bytes())?;
+            self.put(b"; }; # ")?;
+            self.put_bytes(range.role, self.bytes(range))?;
+            self.put(b"\n")?;
+        }
+        Ok(())
     }
-    Ok(())
 }

@@ -1,7 +1,6 @@
 //! Comments for the addresses in tables of the information file that are not followed.
 
-use crate::advice::Advice;
-use files65::put_address;
+use crate::text::Text;
 use info65::{RangeSpec, RangeType};
 use isa65::Mnemonic;
 use map65::{ADDRESSES, is_inside};
@@ -12,28 +11,6 @@ use std::alloc::AllocError;
 
 /// How many addresses get a comment.
 const MOST: usize = 16;
-
-/// Adds why code does not begin at the address: the first instruction on the way that is none, or `brk`, else it shares a byte with other code.
-fn put_reason(
-    out: &mut Vec<u8>,
-    advice: &Advice<'_, '_, '_>,
-    address: u16,
-) -> Result<(), AllocError> {
-    let mut at = address;
-    for _ in 0..ADDRESSES {
-        let Some(step) = advice.steps.at(at) else {
-            return put_address(out, b"undefined opcode at $", usize::from(at));
-        };
-        if step.op.mnemonic == Mnemonic::Brk {
-            return put_address(out, b"brk at $", usize::from(at));
-        }
-        match step.next {
-            Some(next) => at = next,
-            None => break,
-        }
-    }
-    out.extend_from_slice(b"it does not read as code")
-}
 
 /// The table of a range, whose words are so much less than the addresses.
 fn table_of(range: RangeSpec, less: u16) -> Split {
@@ -48,55 +25,72 @@ fn table_of(range: RangeSpec, less: u16) -> Split {
     }
 }
 
-/// Adds the comments for a table, for so many addresses at most; for one in halves, which `--plain` does not follow, only for those that do not read
-/// as code.
-fn put_table(
-    out: &mut Vec<u8>,
-    advice: &Advice<'_, '_, '_>,
-    split: Split,
-    left: &mut usize,
-) -> Result<(), AllocError> {
-    let map = advice.steps.map();
-    for index in 0..split.count {
-        let Some(to) = split.table.entry(map.image(), index) else {
-            continue;
-        };
-        if !is_inside(map.image(), usize::from(to))
-            || map.role(to) != Some(RangeType::Code)
-            || advice.survey.reached.get(to)
-            || *left == 0
-        {
-            continue;
+impl Text<'_> {
+    /// Adds why code does not begin at the address: the first instruction on the way that is none, or `brk`, else it shares a byte with other code.
+    fn put_reason(&mut self, address: u16) -> Result<(), AllocError> {
+        let mut at = address;
+        for _ in 0..ADDRESSES {
+            let Some(step) = self.advice.steps.at(at) else {
+                return self.put_address(b"undefined opcode at $", at);
+            };
+            if step.op.mnemonic == Mnemonic::Brk {
+                return self.put_address(b"brk at $", at);
+            }
+            match step.next {
+                Some(next) => at = next,
+                None => break,
+            }
         }
-        *left -= 1;
-        if !split.table.has_words() && reads_on(advice.steps, Some(to), ADDRESSES) {
-            continue;
-        }
-        put_address(out, b"# $", usize::from(to))?;
-        put_address(out, b" in the table at $", usize::from(split.table.low))?;
-        out.extend_from_slice(b" is not followed: ")?;
-        put_reason(out, advice, to)?;
-        out.extend_from_slice(b"\n")?;
+        self.put(b"it does not read as code")
     }
-    Ok(())
-}
 
-/// Adds a comment for each address in a table of the information file to which reading does not lead, at most 16 for each range, and for all
-/// tables of halves.
-pub fn put_pointers(out: &mut Vec<u8>, advice: &Advice<'_, '_, '_>) -> Result<(), AllocError> {
-    for &range in advice.steps.map().info().ranges() {
+    /// Adds the comments for a table, for so many addresses at most; for one in halves, which `--plain` does not follow, only for those that do not
+    /// read as code.
+    fn put_table(&mut self, split: Split, left: &mut usize) -> Result<(), AllocError> {
+        let steps = self.advice.steps;
+        let map = steps.map();
+        for index in 0..split.count {
+            let Some(to) = split.table.entry(map.image(), index) else {
+                continue;
+            };
+            if !is_inside(map.image(), usize::from(to))
+                || map.role(to) != Some(RangeType::Code)
+                || self.advice.survey.reached.get(to)
+                || *left == 0
+            {
+                continue;
+            }
+            *left -= 1;
+            if !split.table.has_words() && reads_on(steps, Some(to), ADDRESSES) {
+                continue;
+            }
+            self.put_address(b"# $", to)?;
+            self.put_address(b" in the table at $", split.table.low)?;
+            self.put(b" is not followed: ")?;
+            self.put_reason(to)?;
+            self.put(b"\n")?;
+        }
+        Ok(())
+    }
+
+    /// Adds a comment for each address in a table of the information file to which reading does not lead, at most 16 for each range, and for all
+    /// tables of halves.
+    pub fn put_pointers(&mut self) -> Result<(), AllocError> {
+        let advice = self.advice;
+        for &range in advice.steps.map().info().ranges() {
+            let mut left = MOST;
+            match range.role {
+                RangeType::AddrTable => self.put_table(table_of(range, 0), &mut left)?,
+                RangeType::RtsTable => self.put_table(table_of(range, 1), &mut left)?,
+                _ => {}
+            }
+        }
         let mut left = MOST;
-        match range.role {
-            RangeType::AddrTable => put_table(out, advice, table_of(range, 0), &mut left)?,
-            RangeType::RtsTable => put_table(out, advice, table_of(range, 1), &mut left)?,
-            _ => {}
+        for &split in &advice.declared {
+            if split.table.is_code && 1 < split.count {
+                self.put_table(split, &mut left)?;
+            }
         }
+        Ok(())
     }
-    let mut left = MOST;
-    for &split in &advice.declared {
-        if split.table.is_code && 1 < split.count {
-            put_table(out, advice, split, &mut left)?;
-        }
-    }
-    Ok(())
 }
