@@ -48,7 +48,7 @@ relist Failure::from 2
 step65 program 2
 stmt65 AsmFault::from 1
 stmt65 Symbols::define 1
-trace65 failure_of 4
+trace65 failure_of 2
 usage65 RequestFault::from 3
 usage65 UsageFault::from 2
 usage65 UsageFault::of_words 2

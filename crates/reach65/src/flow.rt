@@ -183,13 +183,10 @@ impl<'a, 'm> Flow<'a, 'm> {
     {
         match text {
             None => Some(address),
-            Some(
-                Tag {
-                    size: Some(size),
-                    ..
-                },
-            ) => Some(address + usize::from(size)),
-            Some(_) => self.zero_end(address),
+            Some(tag) => match tag.size {
+                Some(size) => Some(address + usize::from(size)),
+                None => self.zero_end(address),
+            },
         }
     }
 }

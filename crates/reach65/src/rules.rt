@@ -32,5 +32,4 @@ pub mod survey;
 pub mod tables;
 pub mod texts;
 pub mod variables;
-pub mod vectors;
 pub mod words;

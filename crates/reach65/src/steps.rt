@@ -213,10 +213,7 @@ impl<'f, 'm> Steps<'f, 'm> {
 
     /// Returns the length of the instruction that begins at the address, and 0 if none does.
     pub fn len_at(&self, address: u16) -> usize {
-        match self.at(address) {
-            Some(step) => step.len(),
-            None => 0,
-        }
+        self.at(address).map_or(0, |step| step.len())
     }
 
     /// Returns the instruction that begins at the address, if that is marked.

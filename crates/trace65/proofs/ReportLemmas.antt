@@ -9,15 +9,15 @@ use Rattle.trace65.specs.declared.report.InfoFile.{InfoFile}
 
 module _ (o : OptionsView) (file : InfoFile) (m : MapView) (f : Findings) (info : InfoView) where
   pub accepted : (text all unshown lines labels : List ℕ) (ranges : List RangeSpec) (shown : MapView)
-      → text ≡ file.bytes.now ++ f.text.items → lines ≡ unshown → all ≡ text ++ unshown_lines lines → information o all ≡ Ok info
-      → ranges ≡ f.ranges.items → labels ≡ f.labels.items → Says file.info.now ranges labels info
+      → text ≡ file.bytes.now ++ f.proposed.text.items → lines ≡ unshown → all ≡ text ++ unshown_lines lines → information o all ≡ Ok info
+      → ranges ≡ f.proposed.ranges.items → labels ≡ f.proposed.labels.items → Says file.info.now ranges labels info
       → shown ≡ mapped info m.image → unshown ≡ unshown_in shown m f.reached → IsReadBack o file m f unshown
   accepted text all unshown lines labels ranges shown first same more accepts are_ranges are_labels says is_map are =
       let P : List RangeSpec → Type 0 = λ l. Says file.info.now l labels info in
-      let Q : List ℕ → Type 0 = λ l. Says file.info.now f.ranges.items l info in
-      let whole : all ≡ file.bytes.now ++ (f.text.items ++ unshown_lines unshown) =
-      more ∙ ap (λ l. l ++ unshown_lines lines) first ∙ append_assoc file.bytes.now f.text.items (unshown_lines lines)
-      ∙ ap (λ l. file.bytes.now ++ (f.text.items ++ unshown_lines l)) same in
+      let Q : List ℕ → Type 0 = λ l. Says file.info.now f.proposed.ranges.items l info in
+      let whole : all ≡ file.bytes.now ++ (f.proposed.text.items ++ unshown_lines unshown) =
+      more ∙ ap (λ l. l ++ unshown_lines lines) first ∙ append_assoc file.bytes.now f.proposed.text.items (unshown_lines lines)
+      ∙ ap (λ l. file.bytes.now ++ (f.proposed.text.items ++ unshown_lines l)) same in
       record {
         info = info;
         accepted = ap (information o) (sym whole) ∙ accepts;

@@ -30,22 +30,22 @@ HaveTheRest m reached ranges = HaveAllFree m.image (is_taken m (is_code m (is_ma
 pub record AreFindings (flow : FlowView) (asked : Tracing) (f : Findings) : Type 0 where
   pub given_first : Begins f.entries.items asked.entries.items
   pub reached : AreReached flow f.entries.items (is_marked f.reached)
-  pub cover : HaveTheRest flow.map f.reached f.ranges.items
-  pub inside : LieIn flow.map.image f.ranges.items
-  pub apart : AreInOrder f.ranges.items
+  pub cover : HaveTheRest flow.map f.reached f.proposed.ranges.items
+  pub inside : LieIn flow.map.image f.proposed.ranges.items
+  pub apart : AreInOrder f.proposed.ranges.items
 
 -- ---- what is written
 
 -- what follows the information file: what is found, and a comment on each reached instruction that the listing does not show
 abbrev pub proposals : Findings → List ℕ → List ℕ
-proposals f unshown = f.text.items ++ unshown_lines unshown
+proposals f unshown = f.proposed.text.items ++ unshown_lines unshown
 
 -- After the information file this is accepted, and the whole says what the file says, these ranges and these labels. In the map of all that,
 -- each reached instruction is an item that is as long, except those of the list.
 pub record IsReadBack (o : OptionsView) (file : InfoFile) (m : MapView) (f : Findings) (unshown : List ℕ) : Type 0 where
   pub info : InfoView
   pub accepted : information o (file.bytes.now ++ proposals f unshown) ≡ Ok info
-  pub says : Says file.info.now f.ranges.items f.labels.items info
+  pub says : Says file.info.now f.proposed.ranges.items f.proposed.labels.items info
   pub shown : unshown ≡ unshown_in (mapped info m.image) m f.reached
 
 abbrev pub IsAccepted : OptionsView → InfoFile → MapView → Report → Type 0

@@ -5,7 +5,7 @@ use map65::Marks;
 use reach65::rules::Steps;
 use reach65::rules::bases::{Base, bases_of};
 use reach65::rules::bytes::ends;
-use reach65::rules::declared::{addresses_of, declared_of};
+use reach65::rules::declared::declared_of;
 use reach65::rules::entries::entries_of;
 use reach65::rules::ground::Ground;
 use reach65::rules::growth::{Followed, follow};
@@ -13,7 +13,6 @@ use reach65::rules::halves::{Halves, Pair, halves_of};
 use reach65::rules::items::items_of;
 use reach65::rules::labels::labels_of;
 use reach65::rules::loads::mark_loaded;
-use reach65::rules::obstacles::Stops;
 use reach65::rules::orphans::mark_orphans;
 use reach65::rules::pointers::mark_pointers;
 use reach65::rules::readers::Table;
@@ -21,7 +20,6 @@ use reach65::rules::rows::{mark_rows, words_of};
 use reach65::rules::survey::Survey;
 use reach65::rules::tables::{Split, mark_tables};
 use reach65::rules::variables::variables_of;
-use reach65::rules::vectors::mark_vectors;
 use std::alloc::{AllocError, Global};
 
 /// How far behind the image and its variables an address in halves may lie.
@@ -36,7 +34,7 @@ pub struct Reach<'a> {
     pub code: &'a Marks,
     /// One has it, or a range of the information file.
     pub taken: &'a Marks,
-    pub stops: &'a Stops,
+    pub followed: &'a Followed,
 }
 
 /// What is found of an image.
@@ -46,7 +44,7 @@ pub struct Advice<'a> {
     /// What the ranges of the information file and reached instructions have.
     pub taken: &'a Marks,
     /// What keeps bytes from being code.
-    pub stops: &'a Stops,
+    pub followed: &'a Followed,
     /// What reached instructions do with addresses.
     pub survey: Survey<'a>,
     /// What nothing speaks for, with the words among it.
@@ -82,11 +80,14 @@ pub fn given_entries(alloc: Global, given: &[u16], tags: &[Tag]) -> Result<Vec<u
 
 /// Returns all entries: where reading begins, with those that are given, and, unless no more than the entries are to be followed, those that join
 /// them. Fails only if an allocation failed.
-pub fn entries(steps: &Steps<'_>, given: &[u16], plain: bool) -> Result<Followed, AllocError> {
+pub fn followed(steps: &Steps<'_>, given: &[u16], plain: bool) -> Result<Followed, AllocError> {
     let entries = entries_of(steps, given, plain)?;
     if plain {
-        let stops = Stops::none(steps.alloc())?;
-        return Ok(Followed { entries, stops });
+        return Ok(Followed {
+            entries,
+            obstacles: Vec::new(steps.alloc()),
+            calls: Marks::none(steps.alloc())?,
+        });
     }
     follow(steps, &entries)
 }
@@ -121,7 +122,7 @@ fn ground_of<'a>(
     let numbers = said.copy(alloc)?;
     let texts = survey.texts.copy(alloc)?;
     let mut ground = Ground::of(alloc, survey.steps.image(), reach.taken, numbers, texts)?;
-    mark_vectors(&mut ground, reach.reached);
+    ground.put_vectors(reach.reached);
     let splits = mark_tables(&mut ground, survey, tables)?;
     Ok((ground, splits))
 }
@@ -158,17 +159,11 @@ impl<'a> Advice<'a> {
         mark_pointers(steps.alloc(), &mut ground)?;
         mark_orphans(&mut ground, &survey, &pairs, &words)?;
         let bases = bases_of(&survey)?;
-        let mut others = Vec::from_slice(steps.alloc(), &variables)?;
-        for base in &bases {
-            others.push(base.table)?;
-        }
-        others.extend_from_slice(&addresses_of(steps, &splits)?)?;
-        others.extend_from_slice(&addresses_of(steps, &declared)?)?;
-        let labels = labels_of(steps, &pairs, &others)?;
+        let labels = labels_of(steps, &pairs, &variables, &bases, [&splits, &declared])?;
         Ok(Advice {
             steps,
             taken: reach.taken,
-            stops: reach.stops,
+            followed: reach.followed,
             survey,
             ground,
             words,

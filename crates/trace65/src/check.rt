@@ -1,14 +1,12 @@
 //! Whether an information says what another one says, and what is found.
 
-ghost use Rattle.std.specs.Prelude.{◌≡◌, ◌≢◌, ◌++◌, IfErr, IfOk, IsTrue, Ok};
-ghost use Rattle.files65.specs.declared.failure.Failure.TheVariants.{Memory, Own};
+ghost use Rattle.std.specs.Prelude.{◌≡◌, ◌++◌, IfErr, IfOk, IsTrue, Ok};
 ghost use Rattle.info65.specs.Words.{default_label, given_seen, information, name_seen, segment_seen, segments_seen};
 ghost use Rattle.trace65.specs.Words.{AreMerged, Explains, Says};
 
-use crate::failure::{Failure, Refused};
+use crate::failure::{Failure, Refused, failure_of};
 use info65::{
-    Given, IncludeSpec, Info, InfoFault, InfoFaultKind, Options, RangeSpec, SegmentSpec, Settings,
-    default_name, read_info,
+    Given, IncludeSpec, Info, Options, RangeSpec, SegmentSpec, Settings, default_name, read_info,
 };
 use std::alloc::Global;
 
@@ -73,13 +71,6 @@ fn is_default(name: Given<'_>, address: u16) -> bool
         && name.text == default_name(address).as_slice()
 }
 
-/// Whether two ranges are the same.
-fn is_same_range(a: &RangeSpec, b: &RangeSpec) -> bool
-    ensures { IsTrue result → a.now ≡ b.now }
-{
-    a.first == b.first && a.last == b.last && a.role == b.role
-}
-
 /// Whether the ranges are the same.
 fn are_same_ranges(a: &[RangeSpec], b: &[RangeSpec]) -> bool
     ensures { IsTrue result → a.now ≡ b.now }
@@ -88,7 +79,7 @@ fn are_same_ranges(a: &[RangeSpec], b: &[RangeSpec]) -> bool
         return false;
     }
     'pairs: for index in 0..a.len() {
-        if !is_same_range(&a[index], &b[index]) {
+        if a[index] != b[index] {
             return false;
         }
     }
@@ -169,19 +160,6 @@ pub fn says(new: &Info, base: &Info, ranges: &[RangeSpec], labels: &[u16]) -> bo
         && are_same_includes(new.includes(), base.includes())
 }
 
-/// The failure for a fault of the text.
-fn failure_of(fault: InfoFault) -> Failure
-    /// A fault of the text that is read back is reported as that fault, unless memory ran out.
-    ensures memory { fault.kind ≡ InfoFaultKind.Memory → result ≡ Memory }
-    ensures other { fault.kind ≢ InfoFaultKind.Memory → result ≡ Own (Refused.Text fault) }
-{
-    if fault.kind == InfoFaultKind::Memory {
-        Failure::Memory
-    } else {
-        Failure::Own(Refused::Text(fault))
-    }
-}
-
 /// Reads an information file with what is found, and returns what it says. Fails with the fault that it would be refused for, and with
 /// `Other` unless it says what the base says, these ranges after those of the base, default names for these addresses, and nothing else.
 pub fn read_back(
@@ -200,7 +178,7 @@ pub fn read_back(
 {
     let info = match read_info(alloc, options, text) {
         Ok(info) => info,
-        Err(fault) => return Err(failure_of(fault)),
+        Err(fault) => return Err(failure_of(fault.kind, Refused::Text(fault))),
     };
     if !says(&info, base, ranges, labels) {
         return Err(Failure::Own(Refused::Other));

@@ -1,6 +1,9 @@
 //! Why the program gives up.
 
-use info65::InfoFault;
+ghost use Rattle.std.specs.Prelude.{◌≡◌, ◌≢◌};
+ghost use Rattle.files65.specs.declared.failure.Failure.TheVariants.{Memory, Own};
+
+use info65::{InfoFault, InfoFaultKind};
 use map65::ImageFault;
 use thiserror::Error;
 
@@ -25,4 +28,17 @@ pub enum Refused {
     /// After what is found the information file does not say that.
     #[error("the information file with what is found would say something else")]
     Other,
+}
+
+/// The failure for a fault of this kind, which is this unless memory ran out.
+pub fn failure_of(kind: InfoFaultKind, refused: Refused) -> Failure
+    /// A fault of an include file, or of the text that is read back, is reported as that fault, unless memory ran out.
+    ensures memory { kind ≡ InfoFaultKind.Memory → result ≡ Memory }
+    ensures other { kind ≢ InfoFaultKind.Memory → result ≡ Own refused }
+{
+    if kind == InfoFaultKind::Memory {
+        Failure::Memory
+    } else {
+        Failure::Own(refused)
+    }
 }

@@ -1,25 +1,12 @@
 //! What the information file and its include files say, and the image.
 
-ghost use Rattle.std.specs.Prelude.{◌≡◌, ◌≢◌};
-ghost use Rattle.files65.specs.declared.failure.Failure.TheVariants.{Memory, Own};
+ghost use Rattle.std.specs.Prelude.{◌≡◌};
+ghost use Rattle.files65.specs.declared.failure.Failure.TheVariants.{Own};
 
-use crate::failure::{Failure, Refused};
+use crate::failure::{Failure, Refused, failure_of};
 use files65::{INFORMATION_LIMIT, Input, information_of, needed_contents};
-use info65::{Info, InfoFault, InfoFaultKind, Options, read_include, read_info};
+use info65::{Info, Options, read_include};
 use map65::{Image, ImageFault, read_image};
-
-/// The failure for a fault of the include file of this name.
-fn failure_of(fault: InfoFault, name: String) -> Failure
-    /// A fault of an include file is reported as that fault, with the name of the file, unless memory ran out.
-    ensures memory { fault.kind ≡ InfoFaultKind.Memory → result ≡ Memory }
-    ensures other { fault.kind ≢ InfoFaultKind.Memory → result ≡ Own (Refused.Include name fault) }
-{
-    if fault.kind == InfoFaultKind::Memory {
-        Failure::Memory
-    } else {
-        Failure::Own(Refused::Include(name, fault))
-    }
-}
 
 /// Adds the names of the include file at this index.
 fn add_include(rt: &HostRuntime, info: &mut Info, index: usize) -> Result<(), Failure> {
@@ -30,7 +17,7 @@ fn add_include(rt: &HostRuntime, info: &mut Info, index: usize) -> Result<(), Fa
     let bytes = needed_contents(rt, name.as_str(), INFORMATION_LIMIT)?;
     match read_include(rt.alloc(), info, index, &bytes) {
         Ok(()) => Ok(()),
-        Err(fault) => Err(failure_of(fault, name)),
+        Err(fault) => Err(failure_of(fault.kind, Refused::Include(name, fault))),
     }
 }
 
@@ -41,19 +28,6 @@ pub fn information(rt: &HostRuntime, options: &Options, bytes: &[u8]) -> Result<
         add_include(rt, &mut info, index)?;
     }
     Ok(info)
-}
-
-/// What the information file of these bytes says without the names of its include files, if it has any: else what it says is this.
-pub fn without_includes(
-    rt: &HostRuntime,
-    options: &Options,
-    bytes: &[u8],
-    info: &Info,
-) -> Result<Option<Info>, Failure> {
-    if info.includes().is_empty() {
-        return Ok(None);
-    }
-    Ok(Some(read_info(rt.alloc(), options, bytes)?))
 }
 
 /// The failure for a fault of the image.
@@ -71,8 +45,5 @@ pub fn image(rt: &HostRuntime, info: &Info) -> Result<Image, Failure> {
         return Err(Failure::Own(Refused::NoInput));
     };
     let mut input = Input::open(rt, name)?;
-    match read_image(rt.alloc(), info, &mut input) {
-        Ok(image) => Ok(image),
-        Err(fault) => Err(image_failure(fault)),
-    }
+    read_image(rt.alloc(), info, &mut input).map_err(|fault| image_failure(fault))
 }

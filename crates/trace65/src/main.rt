@@ -18,40 +18,33 @@ mod text;
 mod unshown;
 
 use failure::Failure;
-use files65::{Output, Placeholders, end, read_information, tags_of, write_text};
-use info65::Info;
-use information::{image, information, without_includes};
+use files65::{Output, Placeholders, end, information_of, read_information, tags_of, write_text};
+use information::{image, information};
 use map65::Map;
 use report::{InfoFile, report_of};
 use request::{Tracing, request_of};
 use std::process::ExitCode;
 use usage65::{Request, words_of};
 
-/// The text that is written of an image, which has this information with that of the include files.
-fn text_of(
-    rt: &HostRuntime,
-    tracing: &Tracing,
-    info: &Info,
-    file: &InfoFile<'_>,
-) -> Result<Vec<u8>, Failure> {
-    let image = image(rt, info)?;
-    let map = Map::build(rt.alloc(), info, &image)?;
-    Ok(report_of(rt.alloc(), &map, file, tracing)?.text)
-}
-
 /// The text that is written.
 fn traced_text(rt: &HostRuntime, tracing: &Tracing) -> Result<Vec<u8>, Failure> {
     let options = &tracing.options;
     let bytes = read_information(rt, options.info.as_deref())?;
     let info = information(rt, options, &bytes)?;
-    let alone = without_includes(rt, options, &bytes, &info)?;
+    // What the file says without the names of its include files, if it has any.
+    let alone = match info.includes() {
+        [] => None,
+        _ => Some(information_of(rt.alloc(), options, &bytes)?),
+    };
     let tags = tags_of(rt.alloc(), &bytes)?;
     let file = InfoFile {
         bytes: &bytes,
         info: alone.as_ref().unwrap_or(&info),
         tags: &tags,
     };
-    text_of(rt, tracing, &info, &file)
+    let image = image(rt, &info)?;
+    let map = Map::build(rt.alloc(), &info, &image)?;
+    Ok(report_of(rt.alloc(), &map, &file, tracing)?.text)
 }
 
 /// Writes what is found in the image. The output is created once the text is there.

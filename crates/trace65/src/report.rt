@@ -6,16 +6,15 @@ ghost use Rattle.map65.specs.Words.{is_marked};
 ghost use Rattle.reach65.specs.Words.{AreInOrder, HaveAllFree, LieIn};
 ghost use Rattle.trace65.specs.Words.{AreFindings, Begins, HaveTheRest, IsAccepted, IsReadBack, IsWritten, flow_of, unshown_lines, written};
 
-use crate::advice::{Advice, Reach, entries, given_entries};
+use crate::advice::{Advice, Reach, followed, given_entries};
 use crate::check::read_back;
 use crate::failure::Failure;
 use crate::request::Tracing;
 use crate::text::text_of;
 use crate::unshown::{put_unshown, unshown_of};
 use info65::{Info, Options, RangeSpec, Tag};
-use map65::{Image, Map, Marks};
+use map65::{Map, Marks};
 use reach65::rules::growth::Followed;
-use reach65::rules::obstacles::Stops;
 use reach65::rules::pieces::Pieces;
 use reach65::{Steps, code_of, ranges_of, reached, taken_of};
 use std::alloc::{AllocError, Global};
@@ -28,6 +27,17 @@ pub struct InfoFile<'a> {
     pub tags: &'a [Tag],
 }
 
+/// What is proposed of an image.
+#[derive(Drop)]
+pub struct Proposals {
+    /// The ranges of the bytes that nothing speaks for.
+    pub ranges: Vec<RangeSpec>,
+    /// The addresses that get labels.
+    pub labels: Vec<u16>,
+    /// What is written of all that is found, after the information file.
+    pub text: Vec<u8>,
+}
+
 /// What is found of an image.
 #[derive(Drop)]
 pub struct Findings {
@@ -35,12 +45,7 @@ pub struct Findings {
     pub entries: Vec<u16>,
     /// Where the instructions begin that are reached from the entries.
     pub reached: Marks,
-    /// The ranges of the bytes that nothing speaks for.
-    pub ranges: Vec<RangeSpec>,
-    /// The addresses that get labels.
-    pub labels: Vec<u16>,
-    /// What is written of all that after the information file.
-    pub text: Vec<u8>,
+    pub proposed: Proposals,
 }
 
 /// What is found of an image, and what is written of it.
@@ -53,49 +58,27 @@ pub struct Report {
     pub text: Vec<u8>,
 }
 
-/// The entries that are given, and then all entries; and what kept others from joining them.
-fn all_entries(
-    alloc: Global,
-    steps: &Steps<'_, '_>,
-    tracing: &Tracing,
-    given: &[u16],
-) -> Result<Followed, AllocError>
-    ensures { IfOk result (λ all. Begins all.entries.items tracing.now.entries.items) }
-{
-    let mut all = Vec::from_slice(alloc, &tracing.entries)?;
-    let Followed { entries, stops } = entries(steps, given, tracing.plain)?;
-    all.extend_from_slice(&entries)?;
-    Ok(Followed {
-        entries: all,
-        stops,
-    })
-}
-
-/// What is proposed of an image.
-#[derive(Drop)]
-struct Proposals {
-    ranges: Vec<RangeSpec>,
-    labels: Vec<u16>,
-    text: Vec<u8>,
-}
-
 /// The ranges of these pieces, of the addresses of the image that are not taken. Fails only if an allocation failed.
 fn ranges_by(
-    alloc: Global,
-    image: &Image,
+    steps: &Steps<'_, '_>,
     taken: &Marks,
     pieces: &Pieces<'_>,
 ) -> Result<Vec<RangeSpec>, AllocError>
-    ensures cover { IfOk result (λ list. HaveAllFree image.now (is_marked taken.now) list.items) }
-    ensures inside { IfOk result (λ ranges. LieIn image.now ranges.items) }
-    ensures apart { IfOk result (λ ranges. AreInOrder ranges.items) }
+    ensures cover { IfOk result (λ l.
+        HaveAllFree steps.now.map.image (is_marked taken.now) l.items) }
+    ensures inside { IfOk result (λ l. LieIn steps.now.map.image l.items) }
+    ensures apart { IfOk result (λ l. AreInOrder l.items) }
 {
-    ranges_of(alloc, image, taken, |first| pieces.piece_at(first))
+    ranges_of(
+        steps.alloc(),
+        steps.image(),
+        taken,
+        |first| pieces.piece_at(first),
+    )
 }
 
 /// Looks at an image of which this is reached. Fails only if an allocation failed.
 fn propose_from<'a>(
-    alloc: Global,
     steps: &'a Steps<'a, 'a>,
     given: &[u16],
     reach: Reach<'a>,
@@ -106,38 +89,36 @@ fn propose_from<'a>(
     ensures apart { IfOk result (λ p. AreInOrder p.ranges.items) }
 {
     let advice = Advice::of(steps, reach)?;
-    let pieces = Pieces::of(alloc, &advice.ground)?;
-    let ranges = ranges_by(alloc, steps.image(), reach.taken, &pieces)?;
+    let pieces = Pieces::of(steps.alloc(), &advice.ground)?;
+    let ranges = ranges_by(steps, reach.taken, &pieces)?;
     let text = text_of(&advice, given, &ranges)?;
-    let labels = Vec::from_slice(alloc, &advice.labels)?;
     Ok(Proposals {
         ranges,
-        labels,
+        labels: Vec::from_slice(steps.alloc(), &advice.labels)?,
         text,
     })
 }
 
 /// Looks at an image of which these instructions are reached. Fails only if an allocation failed.
-fn propose<'f, 'm>(
-    alloc: Global,
-    steps: &Steps<'f, 'm>,
+fn propose(
+    steps: &Steps<'_, '_>,
     given: &[u16],
     reached: &Marks,
-    stops: &Stops,
+    followed: &Followed,
 ) -> Result<Proposals, AllocError>
     ensures cover { IfOk result (λ p. HaveTheRest steps.now.map reached.now p.ranges.items) }
     ensures inside { IfOk result (λ p. LieIn steps.now.map.image p.ranges.items) }
     ensures apart { IfOk result (λ p. AreInOrder p.ranges.items) }
 {
-    let code = code_of(alloc, steps, reached)?;
-    let taken = taken_of(alloc, steps, &code)?;
+    let code = code_of(steps.alloc(), steps, reached)?;
+    let taken = taken_of(steps.alloc(), steps, &code)?;
     let reach = Reach {
         reached,
         code: &code,
         taken: &taken,
-        stops,
+        followed,
     };
-    propose_from(alloc, steps, given, reach)
+    propose_from(steps, given, reach)
 }
 
 /// Looks at an image. Fails only if an allocation failed.
@@ -145,19 +126,15 @@ fn find(alloc: Global, steps: &Steps<'_, '_>, tracing: &Tracing) -> Result<Findi
     ensures { IfOk result (AreFindings steps.now tracing.now) }
 {
     let given = given_entries(alloc, &tracing.entries, steps.tags())?;
-    let Followed { entries, stops } = all_entries(alloc, steps, tracing, &given)?;
+    let followed = followed(steps, &given, tracing.plain)?;
+    let mut entries = Vec::from_slice(alloc, &tracing.entries)?;
+    entries.extend_from_slice(&followed.entries)?;
     let reached = reached(alloc, steps, &entries)?;
-    let Proposals {
-        ranges,
-        labels,
-        text,
-    } = propose(alloc, steps, &given, &reached, &stops)?;
+    let proposed = propose(steps, &given, &reached, &followed)?;
     Ok(Findings {
         entries,
         reached,
-        ranges,
-        labels,
-        text,
+        proposed,
     })
 }
 
@@ -193,14 +170,14 @@ fn unshown_with(
     ensures { IfOk result (λ list. IsReadBack options.now file.now steps.now.map found.now list.items) }
 {
     let mut text = Vec::from_slice(alloc, file.bytes)?;
-    text.extend_from_slice(&found.text)?;
+    text.extend_from_slice(&found.proposed.text)?;
     let info = read_back(
         alloc,
         options,
         file.info,
         &text,
-        &found.ranges,
-        &found.labels,
+        &found.proposed.ranges,
+        &found.proposed.labels,
     )?;
     let map = Map::build(alloc, &info, steps.image())?;
     let unshown = unshown_of(alloc, &map, steps, &found.reached)?;
@@ -222,7 +199,7 @@ fn written(
     if whole {
         text.extend_from_slice(file.bytes)?;
     }
-    text.extend_from_slice(&found.text)?;
+    text.extend_from_slice(&found.proposed.text)?;
     put_unshown(&mut text, unshown)?;
     Ok(text)
 }

@@ -1,20 +1,16 @@
 //! What is found of an image, as text of an information file: comments, groups, and lines `#: ..`.
 
-mod bases;
 mod calls;
-mod labels;
 mod likely;
 mod misplaced;
 mod moves;
 mod picture;
 mod ranges;
-mod room;
-mod stops;
 mod tables;
 
 use crate::advice::Advice;
 use info65::RangeSpec;
-use reach65::rules::bytes::ends;
+use reach65::rules::bytes::{bytes_at, ends};
 use std::alloc::AllocError;
 
 /// The text, and what it is about.
@@ -62,23 +58,33 @@ impl<'a> Text<'a> {
         ends(self.advice.steps.image())
     }
 
-    /// The bytes of a range, as far as the image has them.
+    /// The bytes of a proposed range.
     fn bytes(&self, range: RangeSpec) -> &'a [u8] {
-        let image = self.advice.steps.image();
-        let start = usize::from(image.start());
-        let bytes = image.bytes();
-        let end = usize::from(range.last)
-            .saturating_add(1)
-            .saturating_sub(start);
-        let end = end.min(bytes.len());
-        let from = usize::from(range.first).saturating_sub(start).min(end);
-        &bytes[from..end]
+        let len = usize::from(range.last.saturating_sub(range.first)).saturating_add(1);
+        bytes_at(self.advice.steps.image(), usize::from(range.first), len)
+    }
+
+    /// Adds the whole: a picture and counts, what is given where it counts for nothing, the ranges, the labels, the lines `#: ..`, and what is only
+    /// likely, what keeps bytes from being code, and where there is room.
+    fn put_all(&mut self) -> Result<(), AllocError> {
+        self.put_picture()?;
+        self.put_misplaced()?;
+        self.put_ranges()?;
+        self.put_labels()?;
+        self.put_pairs()?;
+        self.put_splits()?;
+        self.put_after()?;
+        self.put_likely()?;
+        self.put_pointers()?;
+        self.put_words()?;
+        self.put_bases()?;
+        self.put_calls()?;
+        self.put_stops()?;
+        self.put_room()
     }
 }
 
-/// Returns the text: a picture and counts, what is given where it counts for nothing, the ranges, the labels, the lines `#: ..`, and what is only
-/// likely, what keeps bytes from being code, and where there is room. `given` has the entries of the command line and of the information file. Fails
-/// only if an allocation failed.
+/// Returns the text of what is found, with these entries given, and these ranges proposed. Fails only if an allocation failed.
 pub fn text_of(
     advice: &Advice<'_>,
     given: &[u16],
@@ -90,19 +96,6 @@ pub fn text_of(
         given,
         ranges,
     };
-    text.put_picture()?;
-    text.put_misplaced()?;
-    text.put_ranges()?;
-    text.put_labels()?;
-    text.put_pairs()?;
-    text.put_splits()?;
-    text.put_after()?;
-    text.put_likely()?;
-    text.put_pointers()?;
-    text.put_words()?;
-    text.put_bases()?;
-    text.put_calls()?;
-    text.put_stops()?;
-    text.put_room()?;
+    text.put_all()?;
     Ok(text.out)
 }

@@ -16,6 +16,15 @@ pub fn word(image: &Image, at: usize) -> Option<u16> {
     Some(u16::from_le_bytes([low, high]))
 }
 
+/// Returns the bytes of the image from an address of it on, so many at most.
+pub fn bytes_at(image: &Image, at: usize, most: usize) -> &[u8] {
+    let bytes = image.bytes();
+    let from = at
+        .saturating_sub(usize::from(image.start()))
+        .min(bytes.len());
+    &bytes[from..from.saturating_add(most).min(bytes.len())]
+}
+
 /// Returns the first address of the image, and the first one after it.
 pub fn ends(image: &Image) -> (usize, usize) {
     let start = usize::from(image.start());

@@ -1,6 +1,7 @@
 //! The addresses of an image that nothing speaks for, and the words among them that are addresses.
 
 use crate::rules::bytes::{addresses, word};
+use crate::rules::entries::has_vectors;
 use map65::{ADDRESSES, Image, Marks, is_inside};
 use std::alloc::{AllocError, Global};
 
@@ -88,6 +89,21 @@ impl<'i> Ground<'i> {
             word(self.image, at)
         } else {
             None
+        }
+    }
+
+    /// Marks the bytes of the vectors of the CPU at $FFFA to $FFFF that led to code: nothing speaks for them, and a reached instruction begins at the
+    /// word.
+    pub fn put_vectors(&mut self, reached: &Marks) {
+        for vector in [0xFFFAusize, 0xFFFC, 0xFFFE] {
+            if has_vectors(self.image)
+                && let Some(to) = word(self.image, vector)
+                && self.is_free(vector)
+                && self.is_free(vector + 1)
+                && reached.get(to)
+            {
+                self.put_words(0, vector, vector + 2);
+            }
         }
     }
 }

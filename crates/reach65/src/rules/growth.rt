@@ -5,11 +5,11 @@ use crate::rules::bytes::address;
 use crate::rules::declared::{addresses_of, declared_of};
 use crate::rules::entries::pointers_of;
 use crate::rules::halves::{may_begin, pairs_at};
-use crate::rules::obstacles::{Stops, worst_of};
+use crate::rules::obstacles::{Obstacle, worst_of};
 use crate::rules::readers::Table;
 use crate::rules::search::{Least, Search};
 use crate::rules::words::DataWords;
-use map65::ADDRESSES;
+use map65::{ADDRESSES, Marks};
 use std::alloc::AllocError;
 use std::mem;
 
@@ -194,7 +194,10 @@ impl Search<'_> {
 #[derive(Drop)]
 pub struct Followed {
     pub entries: Vec<u16>,
-    pub stops: Stops,
+    /// The three worst obstacles.
+    pub obstacles: Vec<Obstacle>,
+    /// The calls that were read in trials that failed.
+    pub calls: Marks,
 }
 
 /// Returns the entries, and then those that join: the sound beginnings among what the tables of the information file refer to, those
@@ -227,6 +230,7 @@ pub fn follow(steps: &Steps<'_>, entries: &[u16]) -> Result<Followed, AllocError
     let Search { entries, calls, .. } = search;
     Ok(Followed {
         entries,
-        stops: Stops { obstacles, calls },
+        obstacles,
+        calls,
     })
 }

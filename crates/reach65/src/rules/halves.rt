@@ -3,7 +3,10 @@
 use crate::rules::sound::holder_of;
 use crate::rules::survey::Survey;
 use crate::rules::{Placed, Step, Steps};
-use isa65::{Mnemonic, Mode, Op};
+use isa65::Mnemonic::{
+    Adc, Clc, Dey, Iny, Jsr, Lda, Ldx, Ldy, Pha, Pla, Sta, Stx, Sty, Tax, Tay, Txa, Tya,
+};
+use isa65::{Mode, Op};
 use map65::Marks;
 use std::alloc::AllocError;
 
@@ -58,11 +61,11 @@ impl Pair {
     /// The pair of two loads of different registers. Its rank is that of the registers.
     fn of_loads(low: Placed<'_>, high: Placed<'_>) -> Option<Pair> {
         let rank = match (low.step.op.mnemonic, high.step.op.mnemonic) {
-            (Mnemonic::Lda, Mnemonic::Ldx) => 1,
-            (Mnemonic::Ldx, Mnemonic::Ldy) => 2,
-            (Mnemonic::Lda, _) => 3,
-            (Mnemonic::Ldx, _) => 4,
-            (_, Mnemonic::Lda) => 5,
+            (Lda, Ldx) => 1,
+            (Ldx, Ldy) => 2,
+            (Lda, _) => 3,
+            (Ldx, _) => 4,
+            (_, Lda) => 5,
             _ => 6,
         };
         Pair::of(rank, low, high)
@@ -86,24 +89,24 @@ impl Pair {
 
 /// Whether the instruction loads an immediate into a register.
 fn is_load(op: Op) -> bool {
-    op.mode == Mode::Imm && matches!(op.mnemonic, Mnemonic::Lda | Mnemonic::Ldx | Mnemonic::Ldy)
+    op.mode == Mode::Imm && matches!(op.mnemonic, Lda | Ldx | Ldy)
 }
 
 /// Returns whether a pair may begin with the instruction.
 pub fn may_begin(op: Op) -> bool {
-    is_load(op) || op.mnemonic == Mnemonic::Clc
+    is_load(op) || op.mnemonic == Clc
 }
 
 /// Whether it adds an immediate.
 fn is_sum(op: Op) -> bool {
-    op.mode == Mode::Imm && op.mnemonic == Mnemonic::Adc
+    op.mode == Mode::Imm && op.mnemonic == Adc
 }
 
 /// Returns the address to which the instruction stores a register, if it does.
 pub fn stored_to(step: &Step) -> Option<u16> {
     match (step.op.mnemonic, step.op.mode) {
-        (Mnemonic::Sta | Mnemonic::Stx | Mnemonic::Sty, Mode::Abs) => step.operand,
-        (Mnemonic::Sta | Mnemonic::Stx | Mnemonic::Sty, Mode::Zp) => step.byte.map(u16::from),
+        (Sta | Stx | Sty, Mode::Abs) => step.operand,
+        (Sta | Stx | Sty, Mode::Zp) => step.byte.map(u16::from),
         _ => None,
     }
 }
@@ -131,10 +134,8 @@ impl<'a> Code<'a> {
             return None;
         }
         match (one.step.op.mnemonic, keeps) {
-            (Mnemonic::Lda, Mnemonic::Pha) => Pair::of(PUSHED, two, one),
-            (Mnemonic::Lda, Mnemonic::Sta)
-            | (Mnemonic::Ldx, Mnemonic::Stx)
-            | (Mnemonic::Ldy, Mnemonic::Sty) => {
+            (Lda, Pha) => Pair::of(PUSHED, two, one),
+            (Lda, Sta) | (Ldx, Stx) | (Ldy, Sty) => {
                 let to = stored_to(then.step)?;
                 Pair::of_neighbours(0, (one, to), (two, stored_to(last.step)?))
             }
@@ -146,17 +147,17 @@ impl<'a> Code<'a> {
     /// instructions between them.
     fn stored_twice(&self, one: Placed<'a>, store: Placed<'a>) -> Option<Pair> {
         let pointer = stored_through(store.step)?;
-        if one.step.op.mnemonic != Mnemonic::Lda {
+        if one.step.op.mnemonic != Lda {
             return None;
         }
         let mut then = self.behind(store)?;
         let mut to = PLACE;
         for _ in 0..BETWEEN {
             match then.step.op.mnemonic {
-                Mnemonic::Iny => to = to.saturating_add(1),
-                Mnemonic::Dey => to = to.saturating_sub(1),
-                Mnemonic::Jsr => return None,
-                Mnemonic::Lda if then.step.op.mode == Mode::Imm => {
+                Iny => to = to.saturating_add(1),
+                Dey => to = to.saturating_sub(1),
+                Jsr => return None,
+                Lda if then.step.op.mode == Mode::Imm => {
                     if stored_through(self.behind(then)?.step)? != pointer {
                         return None;
                     }
@@ -172,7 +173,7 @@ impl<'a> Code<'a> {
     /// The pair that is added to a number: `clc`, `adc #`, and `adc #` again, with one instruction between them that takes the low half away,
     /// and one that brings the high half of the number.
     fn added_twice(&self, first: Placed<'a>) -> Option<Pair> {
-        if first.step.op.mnemonic != Mnemonic::Clc {
+        if first.step.op.mnemonic != Clc {
             return None;
         }
         let low = self.behind(first)?;
@@ -203,7 +204,7 @@ impl<'a> Code<'a> {
             return [None; 3];
         }
         let through = match self.behind(two) {
-            Some(store) if two.step.op.mnemonic == Mnemonic::Ldy => self.stored_twice(one, store),
+            Some(store) if two.step.op.mnemonic == Ldy => self.stored_twice(one, store),
             _ => None,
         };
         [Pair::of_loads(one, two), Pair::of_loads(two, one), through]
@@ -218,23 +219,13 @@ pub fn pairs_at(steps: &Steps<'_>, marks: &Marks, first: Placed<'_>) -> [Option<
 
 /// Whether the instruction moves a byte, and leaves the carry.
 fn keeps_carry(op: Op) -> bool {
-    matches!(
-        op.mnemonic,
-        Mnemonic::Sta
-            | Mnemonic::Tax
-            | Mnemonic::Tay
-            | Mnemonic::Pha
-            | Mnemonic::Lda
-            | Mnemonic::Txa
-            | Mnemonic::Tya
-            | Mnemonic::Pla
-    )
+    matches!(op.mnemonic, Sta | Tax | Tay | Pha | Lda | Txa | Tya | Pla)
 }
 
 /// The pointer in the zero page through which the instruction stores A.
 fn stored_through(step: &Step) -> Option<u8> {
     match (step.op.mnemonic, step.op.mode) {
-        (Mnemonic::Sta, Mode::Indy) => step.byte,
+        (Sta, Mode::Indy) => step.byte,
         _ => None,
     }
 }
@@ -269,23 +260,24 @@ pub struct Halves {
     pub likely: Vec<Pair>,
 }
 
-/// The pairs of immediates in reached code that may be an address from the start of the image to before `limit`, and whether each is only likely. The
-/// sure ones come first, and of these and of the others those of lower ranks.
-fn pairs_of(
+/// Returns each pair of immediates in reached code that is an address, by the places of their low bytes: no reached instruction has that
+/// address, or a routine begins there; it lies in the image, or behind it before `limit`; each byte is in one pair, of two the likelier; and none is at
+/// a place that `said` has. A pair that is not sure, or not in `items`, which are listed, is only likely. Fails only if an allocation failed.
+pub fn halves_of(
     survey: &Survey<'_>,
     items: &Marks,
+    said: Marks,
     limit: usize,
-) -> Result<Vec<(bool, Pair)>, AllocError> {
-    let steps = survey.steps;
-    let start = steps.image().start();
-    let mut pairs = Vec::new(steps.alloc());
+) -> Result<Halves, AllocError> {
+    let (steps, alloc) = (survey.steps, survey.steps.alloc());
+    let mut pairs = Vec::new(alloc);
     for &at in &survey.firsts {
         let Some(first) = steps.marked(survey.reached, at) else {
             continue;
         };
         for pair in pairs_at(steps, survey.reached, first) {
             if let Some(pair) = pair
-                && start <= pair.address
+                && steps.image().start() <= pair.address
                 && pair.meant() < limit
                 && (pair.less == 0 && survey.is_likely(pair.address)
                     || survey.is_routine(pair.meant()))
@@ -295,37 +287,18 @@ fn pairs_of(
         }
     }
     pairs.sort_by_key(|(is_likely, pair)| (*is_likely, pair.rank))?;
-    Ok(pairs)
-}
-
-/// Returns each pair of immediates in reached code that is an address, by the places of their low bytes: no reached instruction has that
-/// address, or a routine begins there; it lies before `limit`; each byte is in one pair, of two the likelier; and none is at a place that `said`
-/// has. A pair that is not sure, or not in `items`, which are listed, is only likely. Fails only if an allocation failed.
-pub fn halves_of(
-    survey: &Survey<'_>,
-    items: &Marks,
-    said: Marks,
-    limit: usize,
-) -> Result<Halves, AllocError> {
-    let alloc = survey.steps.alloc();
     let mut used = said;
-    let mut found = Halves {
-        sure: Vec::new(alloc),
-        likely: Vec::new(alloc),
-    };
-    for &(is_likely, pair) in &pairs_of(survey, items, limit)? {
+    let (mut sure, mut likely) = (Vec::new(alloc), Vec::new(alloc));
+    for &(is_likely, pair) in &pairs {
         if used.get(pair.low) || used.get(pair.high) {
             continue;
         }
         used.set(pair.low);
         used.set(pair.high);
-        if is_likely {
-            found.likely.push(pair)?;
-        } else {
-            found.sure.push(pair)?;
-        }
+        let found = if is_likely { &mut likely } else { &mut sure };
+        found.push(pair)?;
     }
-    found.sure.sort_by_key(|pair| pair.low)?;
-    found.likely.sort_by_key(|pair| pair.low)?;
-    Ok(found)
+    sure.sort_by_key(|pair| pair.low)?;
+    likely.sort_by_key(|pair| pair.low)?;
+    Ok(Halves { sure, likely })
 }

@@ -16,11 +16,7 @@ const JUMP: usize = 3;
 /// The address of the image to which the bytes at the address jump, if they are a `jmp`.
 fn target(steps: &Steps<'_>, at: usize) -> Option<u16> {
     let step = steps.at(address(at)?)?;
-    if step.op.mnemonic == Mnemonic::Jmp && step.op.mode == Mode::Abs {
-        step.goal
-    } else {
-        None
-    }
+    (step.op.mnemonic == Mnemonic::Jmp && step.op.mode == Mode::Abs).then_some(step.goal?)
 }
 
 /// How many jumps stand at the address and behind it.

@@ -4,8 +4,7 @@ use crate::rules::Steps;
 use crate::rules::search::Search;
 use crate::rules::sound::begins;
 use isa65::Mnemonic;
-use map65::Marks;
-use std::alloc::{AllocError, Global};
+use std::alloc::AllocError;
 use std::cmp::Reverse;
 
 /// How many bytes have to be read as code before.
@@ -19,25 +18,6 @@ const MOST: usize = 3;
 pub struct Obstacle {
     pub address: u16,
     pub bytes: usize,
-}
-
-/// What kept bytes from being code in trials that failed.
-#[derive(Drop)]
-pub struct Stops {
-    /// The three worst obstacles.
-    pub obstacles: Vec<Obstacle>,
-    /// The calls that were read.
-    pub calls: Marks,
-}
-
-impl Stops {
-    /// Returns none. Fails only if an allocation failed.
-    pub fn none(alloc: Global) -> Result<Stops, AllocError> {
-        Ok(Stops {
-            obstacles: Vec::new(alloc),
-            calls: Marks::none(alloc)?,
-        })
-    }
 }
 
 /// Returns where code cannot go on, of an instruction at the address that is not fine: there, behind it, or where it leads.

@@ -97,10 +97,8 @@ impl<'a> Pieces<'a> {
 
     /// What begins at the address.
     fn begins_at(&self, at: usize) -> Begins {
-        match self.begins.get(at.saturating_sub(self.start)) {
-            Some(begins) => *begins,
-            None => Begins::Nothing,
-        }
+        let begins = self.begins.get(at.saturating_sub(self.start));
+        begins.copied().unwrap_or(Begins::Nothing)
     }
 
     /// The first address after this one that fails the test, or the end of the image.

@@ -1,8 +1,8 @@
 //! Rows of words that are addresses of texts.
 
-use crate::rules::bytes::{byte, ends};
+use crate::rules::bytes::{byte, bytes_at, ends};
 use crate::rules::ground::Ground;
-use crate::rules::texts::{ALPHABETS, text_len};
+use crate::rules::texts::ALPHABETS;
 use map65::Marks;
 use std::alloc::{AllocError, Global};
 
@@ -25,7 +25,7 @@ fn begins_text(ground: &Ground<'_>, at: usize) -> bool {
     for alphabet in ALPHABETS {
         if alphabet.is_char(here)
             && !before.is_some_and(|before| alphabet.is_char(before))
-            && 0 < text_len(image, alphabet, at, LOOKED)
+            && 0 < alphabet.text_len(bytes_at(image, at, LOOKED))
         {
             return true;
         }

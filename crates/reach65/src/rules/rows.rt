@@ -10,11 +10,9 @@ use std::alloc::AllocError;
 /// The word at the address, if it is the address of a routine, less so much.
 fn leading(ground: &Ground<'_>, survey: &Survey<'_>, less: u16, at: usize) -> Option<u16> {
     let word = ground.word(at)?;
-    if survey.is_routine(usize::from(word) + usize::from(less)) {
-        Some(word)
-    } else {
-        None
-    }
+    survey
+        .is_routine(usize::from(word) + usize::from(less))
+        .then_some(word)
 }
 
 /// How many words a row has that begins at the address: each is the address of a routine, less so much, there are three at least, and the first

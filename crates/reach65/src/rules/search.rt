@@ -1,9 +1,10 @@
 //! The search for code, with trials: an entry joins if all that is reached from it reads as code, else all is as before.
 
+use crate::rules::bytes::bytes_at;
 use crate::rules::obstacles::{Obstacle, obstacle_of};
 use crate::rules::readers::Readers;
 use crate::rules::sound::{is_apart, is_fine};
-use crate::rules::texts::{ALPHABETS, text_len};
+use crate::rules::texts::ALPHABETS;
 use crate::rules::{Placed, Steps};
 use isa65::Mnemonic;
 use map65::{ADDRESSES, Image, Marks, is_inside};
@@ -51,8 +52,6 @@ pub struct Search<'a> {
     /// The addresses of the zero page that the image stores to.
     stored: Marks,
     wasted: usize,
-    /// Where the last trial could not go on.
-    stopped: Option<u16>,
     /// Where trials could not go on, and how many bytes they had read.
     pub obstacles: Vec<Obstacle>,
     /// The calls that they had read.
@@ -91,7 +90,6 @@ impl<'a> Search<'a> {
             meets: false,
             stored: stored_marks(alloc, steps.image())?,
             wasted: 0,
-            stopped: None,
             obstacles: Vec::new(alloc),
             calls: Marks::none(alloc)?,
         };
@@ -128,11 +126,11 @@ impl<'a> Search<'a> {
         Ok(())
     }
 
-    /// Marks all that is reached. If each instruction is to be fine, it returns whether it is, and stops at the first that is not.
-    fn run(&mut self, fine: bool) -> Result<bool, AllocError> {
+    /// Marks all that is reached. If each instruction is to be fine, it stops at the first that is not, and returns where code cannot go on.
+    fn run(&mut self, fine: bool) -> Result<Option<u16>, AllocError> {
         for _ in 0..ADDRESSES + 1 {
             let Some(address) = self.todo.pop() else {
-                return Ok(true);
+                break;
             };
             let steps = self.steps;
             match steps.at(address) {
@@ -140,14 +138,11 @@ impl<'a> Search<'a> {
                     self.put(step.next)?;
                     self.put(step.goal)?;
                 }
-                _ if fine => {
-                    self.stopped = Some(obstacle_of(steps, address));
-                    return Ok(false);
-                }
+                _ if fine => return Ok(Some(obstacle_of(steps, address))),
                 _ => {}
             }
         }
-        Ok(true)
+        Ok(None)
     }
 
     /// Whether what was added shares no byte with other code, and is enough.
@@ -191,9 +186,9 @@ impl<'a> Search<'a> {
             }
         }
         let run = at.saturating_sub(usize::from(address));
-        ALPHABETS.iter().any(|&alphabet| {
-            let most = run.saturating_add(MARGIN);
-            let len = text_len(image, alphabet, usize::from(address), most);
+        let bytes = bytes_at(image, usize::from(address), run.saturating_add(MARGIN));
+        ALPHABETS.iter().any(|alphabet| {
+            let len = alphabet.text_len(bytes);
             0 < len && run <= len.saturating_mul(2)
         })
     }
@@ -208,15 +203,15 @@ impl<'a> Search<'a> {
         }
         self.added.clear();
         self.meets = false;
-        self.stopped = None;
         self.put_entry(address)?;
-        let joins = self.run(true)? && self.is_sound(least) && !self.is_text(address);
+        let stop = self.run(true)?;
+        let joins = stop.is_none() && self.is_sound(least) && !self.is_text(address);
         if keeps && joins {
             self.keep()?;
             return Ok(true);
         }
-        if keeps {
-            self.put_obstacle()?;
+        if keeps && let Some(stop) = stop {
+            self.put_obstacle(stop)?;
         }
         self.undo();
         Ok(joins)
@@ -234,11 +229,8 @@ impl<'a> Search<'a> {
         is_vain
     }
 
-    /// Keeps where the trial could not go on, if it could not, and the calls that it had read.
-    fn put_obstacle(&mut self) -> Result<(), AllocError> {
-        let Some(address) = self.stopped else {
-            return Ok(());
-        };
+    /// Keeps where the trial could not go on, and the calls that it had read.
+    fn put_obstacle(&mut self, address: u16) -> Result<(), AllocError> {
         let mut bytes = 0usize;
         for &at in self.added.as_slice() {
             if let Some(step) = self.steps.at(at) {

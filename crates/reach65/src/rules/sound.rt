@@ -62,17 +62,14 @@ pub fn is_fine(steps: &Steps<'_>, stored: &Marks, step: &Step) -> bool {
         && leads_well(steps, stored, step)
 }
 
-/// Whether the marked instruction this many bytes before the address has the address.
-fn reaches(steps: &Steps<'_>, marks: &Marks, address: u16, distance: u16) -> bool {
-    address.checked_sub(distance).is_some_and(|at| marks.get(at)
-        && usize::from(distance) < steps.len_at(at))
-}
-
 /// Returns where the marked instruction begins that the address lies inside of. An instruction has at most three bytes.
 pub fn holder_of(steps: &Steps<'_>, marks: &Marks, address: u16) -> Option<u16> {
     for distance in [1u16, 2] {
-        if reaches(steps, marks, address, distance) {
-            return address.checked_sub(distance);
+        if let Some(at) = address.checked_sub(distance)
+            && marks.get(at)
+            && usize::from(distance) < steps.len_at(at)
+        {
+            return Some(at);
         }
     }
     None
@@ -88,22 +85,29 @@ fn hides(steps: &Steps<'_>, outer: u16, inner: u16) -> bool {
     })
 }
 
-/// Returns whether the instruction of the address shares no byte with another one that is marked, but for one in the operand of a `bit`.
-pub fn is_apart(steps: &Steps<'_>, marks: &Marks, address: u16) -> bool {
-    let len = steps.len_at(address);
-    let at = usize::from(address);
-    if 2 < len && marks.get_at(at + 2) || reaches(steps, marks, address, 2) {
-        return false;
-    }
-    if let Some(inner) = address.checked_add(1)
-        && 1 < len
+/// Whether the instruction of the first address has the second one, behind it, where another one begins: both are marked, and the second one is
+/// not hidden in a `bit`.
+fn clashes(steps: &Steps<'_>, marks: &Marks, outer: u16, inner: u16) -> bool {
+    let distance = inner.saturating_sub(outer);
+    marks.get(outer)
         && marks.get(inner)
-        && !hides(steps, address, inner)
-    {
-        return false;
+        && usize::from(distance) < steps.len_at(outer)
+        && !(distance == 1 && hides(steps, outer, inner))
+}
+
+/// Returns whether the instruction of the address, which is marked, shares no byte with another one, but for one in the operand of a `bit`.
+pub fn is_apart(steps: &Steps<'_>, marks: &Marks, address: u16) -> bool {
+    for distance in [1u16, 2] {
+        if let Some(inner) = address.checked_add(distance)
+            && clashes(steps, marks, address, inner)
+        {
+            return false;
+        }
+        if let Some(outer) = address.checked_sub(distance)
+            && clashes(steps, marks, outer, address)
+        {
+            return false;
+        }
     }
-    match address.checked_sub(1) {
-        Some(outer) => !reaches(steps, marks, address, 1) || hides(steps, outer, address),
-        None => true,
-    }
+    true
 }

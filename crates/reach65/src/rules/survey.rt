@@ -4,7 +4,7 @@ use crate::rules::bytes::addresses;
 use crate::rules::halves::may_begin;
 use crate::rules::readers::Readers;
 use crate::rules::{Placed, Steps};
-use isa65::Mnemonic;
+use isa65::Mnemonic::{self, Asl, Dec, Inc, Jsr, Lsr, Rol, Ror, Sta, Stx, Sty, Stz, Trb, Tsb};
 use map65::{Marks, is_jump};
 use std::alloc::AllocError;
 
@@ -42,18 +42,7 @@ pub struct Survey<'a> {
 pub fn writes(mnemonic: Mnemonic) -> bool {
     matches!(
         mnemonic,
-        Mnemonic::Sta
-            | Mnemonic::Stx
-            | Mnemonic::Sty
-            | Mnemonic::Stz
-            | Mnemonic::Inc
-            | Mnemonic::Dec
-            | Mnemonic::Asl
-            | Mnemonic::Lsr
-            | Mnemonic::Rol
-            | Mnemonic::Ror
-            | Mnemonic::Trb
-            | Mnemonic::Tsb
+        Sta | Stx | Sty | Stz | Inc | Dec | Asl | Lsr | Rol | Ror | Trb | Tsb
     )
 }
 
@@ -106,7 +95,7 @@ impl<'a> Survey<'a> {
         set_some(&mut self.texts, step.text);
         if let Some(goal) = step.goal {
             self.goals.set(goal);
-            if step.op.mnemonic == Mnemonic::Jsr {
+            if step.op.mnemonic == Jsr {
                 self.called.set(goal);
             }
             if !is_jump(step.op.mnemonic) {
@@ -122,7 +111,7 @@ impl<'a> Survey<'a> {
                 self.written.set(operand);
             }
         }
-        if step.op.mnemonic == Mnemonic::Jsr {
+        if step.op.mnemonic == Jsr {
             self.calls.push(at)?;
         }
         Ok(())

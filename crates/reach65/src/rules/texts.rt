@@ -1,8 +1,5 @@
 //! Which bytes are a text, in three alphabets.
 
-use crate::rules::bytes::{byte, ends};
-use map65::Image;
-
 /// What bytes stand for as characters.
 #[derive(Clone, Copy, Debug, PartialEq, Eq)]
 pub enum Alphabet {
@@ -36,12 +33,25 @@ impl Alphabet {
         }
     }
 
-    /// Returns whether the bytes are a text of this alphabet.
+    /// Returns how many characters the bytes begin with, if they are a text, else 0.
+    pub fn text_len(self, bytes: &[u8]) -> usize {
+        let mut chars = Chars::none();
+        for &byte in bytes {
+            if !self.is_char(byte) {
+                break;
+            }
+            chars = chars.with(self, byte);
+        }
+        if chars.are_text(self) {
+            chars.count as usize
+        } else {
+            0
+        }
+    }
+
+    /// Returns whether the bytes are a text.
     pub fn is_text(self, bytes: &[u8]) -> bool {
-        let chars = bytes
-            .iter()
-            .fold(Chars::none(), |chars, byte| chars.with(self, *byte));
-        bytes.iter().all(|byte| self.is_char(*byte)) && chars.are_text(self)
+        !bytes.is_empty() && self.text_len(bytes) == bytes.len()
     }
 
     /// Returns what a character is in ASCII.
@@ -87,22 +97,5 @@ impl Chars {
     pub fn are_text(self, alphabet: Alphabet) -> bool {
         let least = if alphabet == Alphabet::High { 8 } else { 5 };
         least <= self.count && self.count <= self.letters.saturating_mul(2)
-    }
-}
-
-/// Returns how many characters of the alphabet stand at the address and after it, of so many bytes at most, if they are a text, else 0.
-pub fn text_len(image: &Image, alphabet: Alphabet, from: usize, most: usize) -> usize {
-    let mut chars = Chars::none();
-    let (_, end) = ends(image);
-    for at in from..end.min(from.saturating_add(most)) {
-        match byte(image, at) {
-            Some(byte) if alphabet.is_char(byte) => chars = chars.with(alphabet, byte),
-            _ => break,
-        }
-    }
-    if chars.are_text(alphabet) {
-        chars.count as usize
-    } else {
-        0
     }
 }

@@ -32,6 +32,9 @@ pub fn variables_of(survey: &Survey<'_>) -> Result<Vec<u16>, AllocError> {
     let map = survey.steps.map();
     let mut found = Vec::new(survey.steps.alloc());
     let (_, end) = ends(map.image());
+    if end <= 0x100 {
+        return Ok(found);
+    }
     let mut last = end;
     let mut writes = false;
     for at in end..first_named(map.info(), end).min(REGISTERS) {
@@ -47,7 +50,7 @@ pub fn variables_of(survey: &Survey<'_>) -> Result<Vec<u16>, AllocError> {
             last = at;
         }
     }
-    if end <= 0x100 || !writes {
+    if !writes {
         found.clear();
     }
     Ok(found)

@@ -35,10 +35,7 @@ fn is_worth(image: &Image, hopeful: &Marks, at: usize) -> bool {
 
 /// Whether code may go on at a later address, if there is one: an earlier one is not known yet.
 fn is_hopeful_after(marks: &Marks, address: u16, later: Option<u16>) -> bool {
-    match later {
-        Some(later) => later <= address || marks.get(later),
-        None => true,
-    }
+    later.map_or(true, |later| later <= address || marks.get(later))
 }
 
 /// Whether code may begin with the instruction of the address.
@@ -118,11 +115,7 @@ impl<'i> DataWords<'i> {
     fn target(&self, search: &Search<'_>, less: u16, at: usize) -> Option<u16> {
         let to = word(self.image, at)?.checked_add(less)?;
         let is_open = self.is_open(search, at) && self.is_open(search, at.saturating_add(1));
-        if is_open && self.hopeful.get(to) {
-            Some(to)
-        } else {
-            None
-        }
+        (is_open && self.hopeful.get(to)).then_some(to)
     }
 
     /// Whether a row begins at the address: three different words lead to code.

@@ -1,7 +1,9 @@
-//! Comments for calls after which nothing decodes: text that the called routine reads may follow them.
+//! Comments for what keeps bytes from being code, and for calls after which nothing decodes: text that the called routine reads may follow them.
 
 use crate::advice::Advice;
 use crate::text::Text;
+use info65::RangeType;
+use isa65::Mnemonic;
 use reach65::rules::bytes::addresses;
 use reach65::rules::sound::reads_on;
 use std::alloc::AllocError;
@@ -14,11 +16,8 @@ const STEPS: usize = 8;
 fn call_at(advice: &Advice<'_>, at: u16, is_reached: bool) -> Option<(u16, bool)> {
     let step = advice.steps.at(at)?;
     let routine = step.to?;
-    if is_reached || step.goal.is_none() || advice.survey.reached.get(routine) {
-        Some((routine, !reads_on(advice.steps, step.next, STEPS)))
-    } else {
-        None
-    }
+    let counts = is_reached || step.goal.is_none() || advice.survey.reached.get(routine);
+    counts.then_some((routine, !reads_on(advice.steps, step.next, STEPS)))
 }
 
 /// The calls that are reached, and those that were read in trials that failed; by routine.
@@ -30,7 +29,7 @@ fn calls_of(advice: &Advice<'_>) -> Result<Vec<(u16, bool)>, AllocError> {
         }
     }
     for at in addresses(advice.steps.image()) {
-        if advice.stops.calls.get(at)
+        if advice.followed.calls.get(at)
             && !advice.survey.reached.get(at)
             && let Some(call) = call_at(advice, at, false)
         {
@@ -39,6 +38,16 @@ fn calls_of(advice: &Advice<'_>) -> Result<Vec<(u16, bool)>, AllocError> {
     }
     calls.sort_by_key(|call| call.0)?;
     Ok(calls)
+}
+
+/// What stands at the address, where code cannot go on.
+fn name_of(advice: &Advice<'_>, address: u16) -> &'static str {
+    match advice.steps.at(address) {
+        Some(step) if step.op.mnemonic == Mnemonic::Brk => "brk",
+        Some(_) => "instruction",
+        None if advice.steps.map().role(address) == Some(RangeType::Code) => "undefined opcode",
+        None => "range",
+    }
 }
 
 impl Text<'_> {
@@ -61,6 +70,18 @@ impl Text<'_> {
             self.put_decimal(b" of ", same.len())?;
             self.put_address(b" calls of $", routine)?;
             self.put(b" does not decode: INLINE?\n")?;
+        }
+        Ok(())
+    }
+
+    /// Adds a comment for each of the obstacles that keep the most bytes from being code.
+    pub fn put_stops(&mut self) -> Result<(), AllocError> {
+        for obstacle in &self.advice.followed.obstacles {
+            self.put(b"# the ")?;
+            self.put(name_of(self.advice, obstacle.address).as_bytes())?;
+            self.put_address(b" at $", obstacle.address)?;
+            self.put_decimal(b" keeps ", obstacle.bytes)?;
+            self.put(b" bytes from being code\n")?;
         }
         Ok(())
     }

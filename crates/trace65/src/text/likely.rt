@@ -1,4 +1,4 @@
-//! Comments for words in data that are likely addresses.
+//! Comments for words in data that are likely addresses, and for operands that are likely counted from a table behind them.
 
 use crate::advice::Advice;
 use crate::text::Text;
@@ -48,6 +48,18 @@ impl Text<'_> {
                 self.put_name(word)?;
                 self.put(b": AddrTable?\n")?;
             }
+        }
+        Ok(())
+    }
+
+    /// Adds a comment for each operand that is likely counted from a table behind it.
+    pub fn put_bases(&mut self) -> Result<(), AllocError> {
+        for base in &self.advice.bases {
+            self.put_address(b"# the operand $", base.operand)?;
+            self.put_address(b" at $", base.reader)?;
+            self.put_address(b" lies in code: BASE { ADDR $", base.reader)?;
+            self.put_address(b"; FROM $", base.table)?;
+            self.put(b"; }?\n")?;
         }
         Ok(())
     }

@@ -1,10 +1,21 @@
-//! The lines `#: ..`: for addresses that code loads in halves, and for what lies after the image.
+//! The lines of labels, and the lines `#: ..`: for addresses that code loads in halves, and for what lies after the image.
 
 use crate::text::Text;
+use files65::put_address;
 use info65::TagKind;
 use std::alloc::AllocError;
 
 impl Text<'_> {
+    /// Adds the lines of the labels, with their default names.
+    pub fn put_labels(&mut self) -> Result<(), AllocError> {
+        for &label in &self.advice.labels {
+            self.put_address(b"LABEL { ADDR $", label)?;
+            self.put_address(b"; NAME \"L", label)?;
+            self.put(b"\"; };\n")?;
+        }
+        Ok(())
+    }
+
     /// Adds a line for each pair.
     pub fn put_pairs(&mut self) -> Result<(), AllocError> {
         for pair in &self.advice.pairs {
@@ -57,7 +68,7 @@ impl Text<'_> {
         if usize::from(last) < end || tags.iter().any(|tag| tag.kind == TagKind::After) {
             return Ok(());
         }
-        self.put_address(b"#: AFTER { START $", end as u16)?;
+        put_address(&mut self.out, b"#: AFTER { START $", end)?;
         self.put_address(b"; END $", last)?;
         self.put(b"; };\n")
     }

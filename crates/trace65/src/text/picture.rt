@@ -1,6 +1,7 @@
 //! A picture of an image: a character for 64 bytes, and the counts of its bytes; and what helps where little is known.
 
 use crate::text::Text;
+use files65::put_address;
 use std::alloc::AllocError;
 
 /// How many bytes a character stands for.
@@ -36,7 +37,7 @@ impl Text<'_> {
         let (start, end) = self.ends();
         let (mut reached, mut both) = (0usize, 0usize);
         for row in (start..end).step_by(ROW) {
-            self.put_address(b"# $", row as u16)?;
+            put_address(&mut self.out, b"# $", row)?;
             self.put(b" ")?;
             for cell in (row..end.min(row.saturating_add(ROW))).step_by(CELL) {
                 let next = end.min(cell.saturating_add(CELL));

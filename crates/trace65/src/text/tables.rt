@@ -15,12 +15,7 @@ const MOST: usize = 16;
 /// The table of a range, whose words are so much less than the addresses.
 fn table_of(range: RangeSpec, less: u16) -> Split {
     Split {
-        table: Table {
-            low: range.first,
-            high: range.first.saturating_add(1),
-            less,
-            is_code: true,
-        },
+        table: Table::of_code(range.first, range.first.saturating_add(1), less),
         count: usize::from(range.last.saturating_sub(range.first)).saturating_add(1) / 2,
     }
 }
@@ -47,15 +42,15 @@ impl Text<'_> {
     /// Adds the comments for a table, for so many addresses at most; for one in halves, which `--plain` does not follow, only for those that do not
     /// read as code.
     fn put_table(&mut self, split: Split, left: &mut usize) -> Result<(), AllocError> {
-        let steps = self.advice.steps;
-        let map = steps.map();
+        let advice = self.advice;
+        let (steps, map) = (advice.steps, advice.steps.map());
         for index in 0..split.count {
             let Some(to) = split.table.entry(map.image(), index) else {
                 continue;
             };
             if !is_inside(map.image(), usize::from(to))
                 || map.role(to) != Some(RangeType::Code)
-                || self.advice.survey.reached.get(to)
+                || advice.survey.reached.get(to)
                 || *left == 0
             {
                 continue;
