@@ -53,13 +53,7 @@ blank_first more (b ∷ bs) = elim (eqb_tells b 32) [
 pub quoted_from_blank : (more tag : List ℕ) (len : ℕ) → len ≡ prefix_len (is_other 32) tag → quoted_after (32 ∷ more) (take (length tag - len) (drop len tag)) ≡ quoted_after (32 ∷ more) tag
 quoted_from_blank more tag len is = rw (take_rest, is) (blank_first more tag)
 
--- bytes that begin otherwise
-pub first_differs : (bytes more : List ℕ) → 0 < length bytes → 0 < length more → get_or bytes 0 0 ≢ get_or more 0 0 → false ≡ starts_with nat_eq bytes more
-first_differs [] more some any differs = absurd (omega arith)
-first_differs (b ∷ bs) [] some any differs = absurd (omega arith)
-first_differs (b ∷ bs) (m ∷ ms) some any differs = rw (ne_eqb m b (λ same. differs (sym same))) refl
-
-pub ruleset quoted_steps = (quoted_none, quoted_here, quoted_other, quoted_later)
+pub ruleset quoted_steps = (quoted_none, quoted_here, quoted_other, quoted_later, quoted_from_blank)
 
 -- ---- what is taken down of the pieces
 

@@ -1,7 +1,7 @@
 //! Reads a page back: whether its text is that of the listing, and each link within it leads to one element.
 
-ghost use Rattle.std.specs.Prelude.{◌≡◌, ◌++◌, ◌∷◌, List, None, IfOk, IfSome, IsTrue, OnOk, codes, nat_eq, true};
-ghost use Rattle.std.specs.List.{list_all, starts_with};
+ghost use Rattle.std.specs.Prelude.{◌≡◌, ◌++◌, ◌∷◌, List, None, IfOk, IfSome, IsTrue, OnOk, codes, true};
+ghost use Rattle.std.specs.List.{list_all};
 ghost use Rattle.std.specs.Option.{option_copied};
 ghost use Rattle.html65.specs.Links.{Adds, AreLinksWhole, are_numbered, found_in, is_found, number_in, quoted_after, texts, with_digit};
 ghost use Rattle.html65.specs.PageText.{after_tag, kept, text_from, text_of};
@@ -70,34 +70,26 @@ fn passed<'t>(place: Region, left: &'t [u8], piece: Piece<'_>) -> Option<(Region
     }
 }
 
-/// Whether bytes begin with others. Mostly the first byte tells.
-#[tactic(auto, using(crate::proofs::LinkLemmas::first_differs))]
-fn begin_with(bytes: &[u8], more: &[u8]) -> bool
-    ensures { result ≡ starts_with nat_eq bytes.now more.now }
-{
-    if !bytes.is_empty() && !more.is_empty() && bytes[0] != more[0] {
-        return false;
-    }
-    bytes.starts_with(more)
-}
-
-/// What stands in a tag between a blank with these bytes and the next `"`.
+/// What stands in a tag between a blank with these bytes and the next `"`. The blanks are looked at one after the other.
+#[inline(always)]
 #[tactic(auto, using(crate::proofs::LinkLemmas::quoted_steps))]
 fn quoted_after<'a>(more: &[u8], tag: &'a [u8]) -> Option<&'a [u8]>
     ensures { option_copied result ≡ quoted_after (32 ∷ more.now) tag.now }
 {
     let mut rest = tag;
     'rests: while !rest.is_empty() {
-        if rest[0] == b' ' && begin_with(&rest[1..], more) {
+        let next = &rest[1..];
+        if rest[0] == b' ' && next.starts_with(more) {
             let after = &rest[1 + more.len()..];
             return Some(&after[..len_before(b'"', after)]);
         }
-        rest = &rest[1..];
+        rest = &next[len_before(b' ', next)..];
     }
     None
 }
 
 /// Takes down what stands so in a tag, if it has it.
+#[inline(always)]
 fn take<'p>(found: &mut Vec<&'p [u8]>, more: &[u8], tag: &'p [u8]) -> Result<(), AllocError>
     ensures { OnOk result (Adds found.old.items found.new.items
         (quoted_after (32 ∷ more.now) tag.now)) }

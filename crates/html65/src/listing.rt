@@ -11,24 +11,24 @@ use text65::hex_digit;
 /// How many bytes of a line are shown.
 const BYTES: usize = 4;
 
-/// Appends the address and the first bytes of a line, or blanks for a line without bytes.
+/// Appends what is left of the tag of a line, and its address and its first bytes, or blanks for a line without bytes.
 fn put_left(out: &mut Vec<u8>, at: usize, bytes: &[u8]) -> Result<()> {
-    let mut left = *b"<i>                    </i>";
+    let mut left = *b"\"><i>                    </i>";
     if !bytes.is_empty() {
-        left[3] = hex_digit((at / 4096 % 16) as u8);
-        left[4] = hex_digit((at / 256 % 16) as u8);
-        left[5] = hex_digit((at / 16 % 16) as u8);
-        left[6] = hex_digit((at % 16) as u8);
+        left[5] = hex_digit((at / 4096 % 16) as u8);
+        left[6] = hex_digit((at / 256 % 16) as u8);
+        left[7] = hex_digit((at / 16 % 16) as u8);
+        left[8] = hex_digit((at % 16) as u8);
     }
     for place in 0..BYTES {
         if let Some(byte) = bytes.get(place) {
-            left[8 + 3 * place] = hex_digit(*byte / 16);
-            left[9 + 3 * place] = hex_digit(*byte % 16);
+            left[10 + 3 * place] = hex_digit(*byte / 16);
+            left[11 + 3 * place] = hex_digit(*byte % 16);
         }
     }
     if BYTES < bytes.len() {
-        left[19] = b'.';
-        left[20] = b'.';
+        left[21] = b'.';
+        left[22] = b'.';
     }
     out.extend_from_slice(&left)
 }
@@ -69,11 +69,11 @@ pub fn put_listing(alloc: Global, out: &mut Vec<u8>, survey: &Survey<'_, '_>) ->
     let mut marks = survey.marks.as_slice();
     let mut names = survey.names.iter().peekable();
     let mut runs = survey.runs.iter().peekable();
-    put!(out; "<pre id=\"listing\">");
+    let mut begin = "<pre id=\"listing\"><span id=\"l";
     for end in survey.ends {
-        put!(out; if line.number == 0 { "<span id=\"l" } else { "\n<span id=\"l" });
         line = line.next(end);
-        put!(out; line.number, "\">");
+        put!(out; (begin, line.number));
+        begin = "</span>\n<span id=\"l";
         put_left(out, line.at, survey.between(line.at, line.end))?;
         marks = put_text(out, survey, line, marks)?;
         if let Some(named) = names.next_if(|named| named.line == line.number) {
@@ -87,13 +87,12 @@ pub fn put_listing(alloc: Global, out: &mut Vec<u8>, survey: &Survey<'_, '_>) ->
         if let Some(run) = runs.next_if(|run| run.line == line.number) {
             let bytes = survey.between(run.at, run.end);
             if run.kind == Kind::Bytes && LEAST <= bytes.len() {
-                put!(out; "<i> ", FOLD, bytes.len(), " bytes as pixels<b>");
+                put!(out; "<i> ", (FOLD, bytes.len()), " bytes as pixels<b>");
                 put_pictures(alloc, out, bytes)?;
                 put!(out; FOLD_END, "</i>");
             }
         }
-        put!(out; "</span>");
     }
-    put!(out; if survey.text.last() == Some(&b'\n') { "\n</pre>\n" } else { "</pre>\n" });
+    put!(out; "</span>", if survey.text.last() == Some(&b'\n') { "\n</pre>\n" } else { "</pre>\n" });
     Ok(())
 }

@@ -21,7 +21,7 @@ fn put_shape(out: &mut Vec<u8>, wide: usize, at: usize, end: usize) -> Result<()
     ];
     for (x, y, width, height) in parts {
         if 0 < width && 0 < height {
-            put!(out; "M", x, " ", y, "h", width, "v", height, "h-", width, "z");
+            put!(out; ("M", x), (" ", y), ("h", width), ("v", height), ("h-", width), "z");
         }
     }
     Ok(())
@@ -41,12 +41,12 @@ pub fn put_map(out: &mut Vec<u8>, survey: &Survey<'_, '_>) -> Result<()> {
     put!(out; "\" preserveAspectRatio=\"none\" role=\"img\" aria-label=\"map\">\n");
     for run in &survey.runs {
         let (at, end) = (run.at, run.end);
-        put!(out; "<a href=\"#l", run.line, "\"><title>$", Address(at), " to $", Address(end.saturating_sub(1)));
+        put!(out; ("<a href=\"#l", run.line), ("\"><title>$", Address(at)), (" to $", Address(end.saturating_sub(1))));
         put!(out; " ", run.kind.text());
         if let Some(named) = survey.label_at(run.at) {
             put!(out; " ", named.definition.name);
         }
-        put!(out; ", ", end.saturating_sub(at), " bytes</title><path class=\"", run.kind.text(), "\" d=\"");
+        put!(out; (", ", end.saturating_sub(at)), " bytes</title><path class=\"", run.kind.text(), "\" d=\"");
         put_shape(
             out,
             wide,

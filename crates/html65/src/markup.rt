@@ -44,7 +44,7 @@ impl Put for &[u8] {
                 [text @ .., b'&'] => (text, "&amp;"),
                 [text @ .., b'<'] => (text, "&lt;"),
                 [text @ .., b'>'] => (text, "&gt;"),
-                text => (text, ""),
+                text => return out.extend_from_slice(text),
             };
             out.extend_from_slice(text)?;
             put!(out; entity);
@@ -56,7 +56,14 @@ impl Put for &[u8] {
 /// A number in decimal.
 impl Put for usize {
     fn put(self, out: &mut Vec<u8>) -> Result<()> {
-        put_decimal(out, b"", self)
+        ("", self).put(out)
+    }
+}
+
+/// Markup, and a number after it.
+impl Put for (&str, usize) {
+    fn put(self, out: &mut Vec<u8>) -> Result<()> {
+        put_decimal(out, self.0.as_bytes(), self.1)
     }
 }
 
@@ -66,7 +73,14 @@ pub struct Address(pub usize);
 
 impl Put for Address {
     fn put(self, out: &mut Vec<u8>) -> Result<()> {
-        put_address(out, b"", self.0)
+        ("", self).put(out)
+    }
+}
+
+/// Markup, and an address after it.
+impl Put for (&str, Address) {
+    fn put(self, out: &mut Vec<u8>) -> Result<()> {
+        put_address(out, self.0.as_bytes(), self.1.0)
     }
 }
 
@@ -76,7 +90,7 @@ pub struct Link<P>(pub usize, pub P);
 
 impl<P: Put + Drop> Put for Link<P> {
     fn put(self, out: &mut Vec<u8>) -> Result<()> {
-        put!(out; "<a href=\"#l", self.0, "\">", self.1, "</a>");
+        put!(out; ("<a href=\"#l", self.0), "\">", self.1, "</a>");
         Ok(())
     }
 }
