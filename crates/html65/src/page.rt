@@ -34,9 +34,9 @@ fn assembled<'t, 'b>(
     }
 }
 
-/// A page with this survey, as it is hoped for.
+/// A page with this survey, as it is hoped for. Few are more than eight times as long as their listing.
 fn written(alloc: Global, name: &str, survey: &Survey<'_, '_>) -> Result<Vec<u8>, AllocError> {
-    let mut out = Vec::new(alloc);
+    let mut out = Vec::with_capacity(alloc, survey.text.len().saturating_mul(8))?;
     put_head(&mut out, name.as_bytes(), survey)?;
     put_map(&mut out, survey)?;
     put_names(&mut out, survey)?;
