@@ -260,6 +260,11 @@ def test_map(da65, page_of, listing, words, kinds):
                                                            head)} == dict(total)
 
 
+def test_map_is_a_group(page_of):
+    """A reader of the screen may pass over what is in an image, so the map with its links is none."""
+    assert re.findall(r'<svg [^>]*role="(\w+)"', page_of(REPAIR).decode()) == ["group"]
+
+
 def test_pictures(whole):
     """Sixteen bytes as pixels: the cells of 8 by 8, and the rows, as a reader of BMP sees them."""
     images = whole(REPAIR).images

@@ -38,7 +38,7 @@ pub fn put_map(out: &mut Vec<u8>, survey: &Survey<'_, '_>) -> Result<()> {
     let count = (end.saturating_sub(above)).div_ceil(wide).max(1);
     let height = count.saturating_mul((600 / count).clamp(2, 10));
     put!(out; "<svg width=\"", WIDTH, "\" height=\"", height, "\" viewBox=\"0 0 ", wide, " ", count);
-    put!(out; "\" preserveAspectRatio=\"none\" role=\"img\" aria-label=\"map\">\n");
+    put!(out; "\" preserveAspectRatio=\"none\" role=\"group\" aria-label=\"map\">\n");
     for run in &survey.runs {
         let (at, end) = (run.at, run.end);
         put!(out; ("<a href=\"#l", run.line), ("\"><title>$", Address(at)), (" to $", Address(end.saturating_sub(1))));
