@@ -234,16 +234,18 @@ def test_left(da65, whole):
 
 
 def runs_of(page):
-    """The runs of the map: line, addresses, kind of the title, class, and the addresses that its shape covers."""
+    """The runs of the map: line, addresses, kind of the title, class, and the addresses that its lines cover."""
     text, base = page.decode("latin-1"), None
-    wide = int(re.search(r'viewBox="0 0 (\d+) ', text)[1])
-    path = r'<a href="#l(\d+)"><title>\$(\w{4}) to \$(\w{4}) (\w+)[^<]*</title><path class="(\w+)" d="([^"]*)"/></a>'
-    for line, first, last, named, kind, shape in re.findall(path, text):
-        first, last = int(first, 16), int(last, 16)
+    wide = int(re.search(r'viewBox="0 -.5 (\d+) ', text)[1])
+    title = r'<title>(\w+) \$(\w{4})(?: to \$(\w{4}), (\d+) bytes)?(?:: \w+)?</title>'
+    path = rf'<a href="#l(\d+)">{title}<path class="(\w+)" d="([^"]*)"/></a>'
+    for line, named, first, last, count, kind, shape in re.findall(path, text):
+        first, last = int(first, 16), int(last or first, 16)
+        assert int(count or 1) == last - first + 1
         base = first // wide * wide if base is None else base
         yield int(line), first, last, named, kind, [
-            base + (int(y) + row) * wide + int(x) + column for x, y, w, h in re.findall(
-                r"M(\d+) (\d+)h(\d+)v(\d+)h-\d+z", shape) for row in range(int(h)) for column in range(int(w))]
+            base + int(y) * wide + int(x) + column
+            for x, y, width in re.findall(r"M(\d+) (\d+)h(\d+)", shape) for column in range(int(width))]
 
 
 def test_map(da65, page_of, listing, words, kinds):

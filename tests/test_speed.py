@@ -210,11 +210,11 @@ def test_name65(as65, name65, shows, text, limit, name, words, step):
 
 
 def test_html65(as65, html65, shows, text):
-    """The page is at most twelve times as long as the listing of random bytes."""
+    """The page is at most seven times as long as the listing of random bytes."""
     listing = text("random")
     ours = instructions(html65.path, f"-S 0 -o a.html {write('a.s', listing)}")
-    shows(338, ours, instructions(as65.path, "-S 0 -o ours.bin a.s"))
-    assert len(read("a.html")) <= 12 * len(listing)
+    shows(321, ours, instructions(as65.path, "-S 0 -o ours.bin a.s"))
+    assert len(read("a.html")) <= 7 * len(listing)
 
 
 def test_move65(move65, record_property, request, limit, routines):

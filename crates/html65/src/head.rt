@@ -26,15 +26,15 @@ const STYLES: &str = "</title>\n<style>\n\
     table{border-collapse:collapse}td{padding:0 8px 0 0;vertical-align:top}summary{font-weight:600;padding:4px 0;cursor:pointer}\n\
     a{color:var(--link);text-decoration:none}a:hover,a:focus{text-decoration:underline}em{color:var(--from)}\n\
     pre{flex:1;min-width:0;overflow-x:auto;font:13px/1.35 ui-monospace,monospace;margin:0;padding:10px 16px}\n\
-    pre i{font-style:normal;color:var(--pale);-webkit-user-select:none;user-select:none}pre i a{color:var(--from)}\n\
+    pre i{font-style:normal;tab-size:20;color:var(--pale);-webkit-user-select:none;user-select:none}pre i a{color:var(--from)}\n\
     code{display:block;color:var(--pale);-webkit-user-select:all;user-select:all}\n\
-    .n{font-weight:600}.t{color:var(--text)}.c{color:var(--pale)}:target{background:var(--mark)}\n\
+    pre b{font-weight:600}.t{color:var(--text)}.c{color:var(--pale)}:target{background:var(--mark)}\n\
     label{cursor:pointer}label input{margin:0 3px 0 0;vertical-align:middle}\n\
     label b{display:none;font-weight:inherit}label :checked~b{display:inline}\n\
     img{image-rendering:pixelated;border:1px solid var(--line);margin:2px;vertical-align:top}\n\
-    .code{fill:var(--code);border-color:var(--code)}.text{fill:var(--text);border-color:var(--text)}\
-    .bytes{fill:var(--bytes);border-color:var(--bytes)}.words{fill:var(--words);border-color:var(--words)}\
-    .addresses{fill:var(--addresses);border-color:var(--addresses)}.filler{fill:var(--filler);border-color:var(--filler)}\n\
+    .code{stroke:var(--code);border-color:var(--code)}.text{stroke:var(--text);border-color:var(--text)}\
+    .bytes{stroke:var(--bytes);border-color:var(--bytes)}.words{stroke:var(--words);border-color:var(--words)}\
+    .addresses{stroke:var(--addresses);border-color:var(--addresses)}.filler{stroke:var(--filler);border-color:var(--filler)}\n\
     @media (max-width:700px){main{display:block}nav{position:static;max-height:none}}\n\
     @media print{main{display:block}nav{position:static;max-height:none;border:0}pre{overflow:visible;white-space:pre-wrap}}\n\
     </style>\n</head>\n<body>\n<header><h1>";

@@ -11,9 +11,9 @@ use text65::hex_digit;
 /// How many bytes of a line are shown.
 const BYTES: usize = 4;
 
-/// Appends what is left of the tag of a line, and its address and its first bytes, or blanks for a line without bytes.
+/// Appends what is left of the tag of a line, and its address and its first bytes, if it has bytes. The tab goes on where the text begins.
 fn put_left(out: &mut Vec<u8>, at: usize, bytes: &[u8]) -> Result<()> {
-    let mut left = *b"\"><i>                    </i>";
+    let mut left = *b"\"><i>0000 00 00 00 00";
     if !bytes.is_empty() {
         left[5] = hex_digit((at / 4096 % 16) as u8);
         left[6] = hex_digit((at / 256 % 16) as u8);
@@ -26,11 +26,11 @@ fn put_left(out: &mut Vec<u8>, at: usize, bytes: &[u8]) -> Result<()> {
             left[11 + 3 * place] = hex_digit(*byte % 16);
         }
     }
-    if BYTES < bytes.len() {
-        left[21] = b'.';
-        left[22] = b'.';
-    }
-    out.extend_from_slice(&left)
+    let shown = bytes.len().min(BYTES);
+    let len = if shown == 0 { 5 } else { 9 + 3 * shown };
+    out.extend_from_slice(&left[..len])?;
+    put!(out; if BYTES < bytes.len() { "..\t</i>" } else { "\t</i>" });
+    Ok(())
 }
 
 /// Appends the text of a line as it stands, with the first of these marks. Returns those that stand on later lines.
@@ -49,7 +49,7 @@ fn put_text<'m>(
         let text = part_of(line.text, span.from, span.to);
         put!(out; part_of(line.text, from, span.from));
         match *shown {
-            Shown::Definition => put!(out; "<span class=\"n\">", text, "</span>"),
+            Shown::Definition => put!(out; "<b>", text, "</b>"),
             Shown::Text => put!(out; "<span class=\"t\">", text, "</span>"),
             Shown::Remark => put!(out; "<span class=\"c\">", text, "</span>"),
             Shown::Name(place) => {
