@@ -238,8 +238,8 @@ def runs_of(page):
     text, base = page.decode("latin-1"), None
     wide = int(re.search(r'viewBox="0 -.5 (\d+) ', text)[1])
     title = r'<title>(\w+) \$(\w{4})(?: to \$(\w{4}), (\d+) bytes)?(?:: \w+)?</title>'
-    path = rf'<a href="#l(\d+)">{title}<path class="(\w+)" d="([^"]*)"/></a>'
-    for line, named, first, last, count, kind, shape in re.findall(path, text):
+    path = rf'<a href="#l(\d+)" class="(\w+)">{title}<path d="([^"]*)"/></a>'
+    for line, kind, named, first, last, count, shape in re.findall(path, text):
         first, last = int(first, 16), int(last or first, 16)
         assert int(count or 1) == last - first + 1
         base = first // wide * wide if base is None else base
@@ -294,7 +294,7 @@ def test_tidy(da65, page_of):
     for page in page_of(REPAIR), page_of(da65(words, 0, None).out, words):
         got = subprocess.run(["tidy", "-errors", "-quiet", "-utf8"], input=page, capture_output=True)
         said = [line for line in got.stderr.decode().splitlines()
-                if not line.endswith('Warning: <a> proprietary attribute "href"')]
+                if not re.search('Warning: <a> proprietary attribute "(href|class)"$', line)]
         assert got.returncode < 2 and said == []
 
 

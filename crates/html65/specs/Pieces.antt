@@ -13,6 +13,10 @@ pub data Piece : Type 0 where
 abbrev pub is_other : ℕ → ℕ → Bool
 is_other byte b = not (b == byte)
 
+-- any byte but these two
+abbrev pub is_neither : ℕ → ℕ → ℕ → Bool
+is_neither one other b = not (b == one || b == other)
+
 -- any byte but `<` and `&`
 abbrev pub is_text : ℕ → Bool
 is_text b = not (b == 60 || b == 38)

@@ -33,7 +33,7 @@ pub fn put_map(out: &mut Vec<u8>, survey: &Survey<'_, '_>) -> Result<()> {
     let mut names = survey.by_value.as_slice();
     for run in &survey.runs {
         let (at, end, kind) = (run.at, run.end, run.kind.text());
-        put!(out; ("<a href=\"#l", run.line), "\"><title>", kind, (" $", Address(at)));
+        put!(out; ("<a href=\"#l", run.line), "\" class=\"", kind, "\"><title>", kind, (" $", Address(at)));
         let count = end.saturating_sub(at);
         if 1 < count {
             put!(out; (" to $", Address(end.saturating_sub(1))), (", ", count), " bytes");
@@ -48,7 +48,7 @@ pub fn put_map(out: &mut Vec<u8>, survey: &Survey<'_, '_>) -> Result<()> {
         if let Some(label) = same.find(|one| !one.definition.constant) {
             put!(out; ": ", label.definition.name);
         }
-        put!(out; "</title><path class=\"", kind, "\" d=\"");
+        put!(out; "</title><path d=\"");
         put_rows(
             out,
             wide,

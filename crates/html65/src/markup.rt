@@ -102,7 +102,7 @@ fn put_some(out: &mut Vec<u8>, references: &[Reference], mut before: Option<Way>
             put!(out; if before.is_some() { "; " } else { "" }, reference.way.text());
         }
         before = Some(reference.way);
-        put!(out; " ", Link(reference.line, Address(reference.at)));
+        put!(out; (" <a href=\"#l", reference.line), ("\">", Address(reference.at)), "</a>");
     }
     Ok(())
 }

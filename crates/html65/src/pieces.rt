@@ -1,9 +1,11 @@
 //! The pieces of a page: its tags, and the text between them.
 
-ghost use Rattle.std.specs.Prelude.{◌≡◌, ◌<◌, ◌+◌, ◌≤◌, [], codes, drop, length, take, true, IsTrue, MatchOption};
+ghost use Rattle.std.specs.Prelude.{◌≡◌, ◌<◌, ◌+◌, ◌≤◌, [], codes, drop, length, min, take, true, IsTrue, MatchOption};
 ghost use Rattle.std.specs.List.{prefix_len};
-ghost use Rattle.html65.specs.Pieces.{Text, entity_at, is_other, is_text, pieces};
+ghost use Rattle.html65.specs.Pieces.{Text, entity_at, is_neither, is_other, pieces};
 ghost use Rattle.html65.specs.Views.{BeginsWith};
+
+use std::simd::prelude::{SimdPartialEq, u8x32};
 
 /// A piece of a page.
 #[derive(Clone, Copy)]
@@ -14,23 +16,43 @@ pub enum Piece<'a> {
     Text(&'a [u8]),
 }
 
+/// How many bytes of a block come before the first one that is this byte; 64 if none is.
+#[inline(always)]
+fn block_len(byte: u8, block: u8x32) -> usize
+    ensures { min 32 result ≡ prefix_len (is_other byte) block }
+{
+    block
+        .simd_eq(u8x32::splat(byte))
+        .to_bitmask()
+        .trailing_zeros() as usize
+}
+
+/// How many bytes come before the first one that is one of these two. The first bytes are looked at together.
+#[inline(always)]
+#[tactic(auto, using(crate::proofs::PieceLemmas::in_block))]
+fn len_before_either(one: u8, other: u8, bytes: &[u8]) -> usize
+    ensures value { result ≡ prefix_len (is_neither one other) bytes.now }
+    ensures fits { result ≤ length bytes.now }
+{
+    if 32 <= bytes.len() {
+        let block = u8x32::from_slice(bytes);
+        let len = block_len(one, block).min(block_len(other, block));
+        if len < 32 {
+            return len;
+        }
+    }
+    let is_other = |byte: &&u8| !(**byte == one || **byte == other);
+    bytes.iter().take_while(is_other).count()
+}
+
 /// How many bytes come before the first one that is this byte.
+#[inline(always)]
+#[tactic(auto, using(crate::proofs::PieceLemmas::one_of_two))]
 pub fn len_before(byte: u8, bytes: &[u8]) -> usize
     ensures value { result ≡ prefix_len (is_other byte) bytes.now }
     ensures fits { result ≤ length bytes.now }
 {
-    bytes.iter().take_while(|one| **one != byte).count()
-}
-
-/// How many bytes come before the first `<` or `&`.
-fn text_len(bytes: &[u8]) -> usize
-    ensures value { result ≡ prefix_len is_text bytes.now }
-    ensures fits { result ≤ length bytes.now }
-{
-    bytes
-        .iter()
-        .take_while(|byte| !(**byte == b'<' || **byte == b'&'))
-        .count()
+    len_before_either(byte, byte, bytes)
 }
 
 /// The byte that an entity stands for, and the length of the entity; without an entity the byte `&` alone.
@@ -80,6 +102,6 @@ pub fn first_piece(page: &[u8]) -> Option<(Piece<'_>, &[u8])>
         let (text, len) = entity_at(page);
         return Some((Piece::Text(text), after(page, len)));
     }
-    let len = text_len(page);
+    let len = len_before_either(b'<', b'&', page);
     Some((Piece::Text(&page[..len]), &page[len..]))
 }

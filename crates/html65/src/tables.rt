@@ -17,7 +17,7 @@ fn put_counts(out: &mut Vec<u8>, references: &[Reference]) -> Result<()> {
     let groups = references.chunk_by(|one, other| one.way == other.way);
     for (place, group) in groups.enumerate() {
         if let Some(first) = group.first() {
-            put!(out; if 0 < place { ", " } else { "" }, group.len(), " ", first.way.text());
+            put!(out; (if 0 < place { ", " } else { "" }, group.len()), " ", first.way.text());
         }
     }
     Ok(())
@@ -28,11 +28,11 @@ pub fn put_names(out: &mut Vec<u8>, survey: &Survey<'_, '_>) -> Result<()> {
     put!(out; "<details open><summary>Names (", survey.names.len(), TABLE);
     for named in &survey.by_value {
         let value = named.definition.value as usize;
-        put!(out; "<tr><td>", Link(named.line, named.definition.name), "<td>");
+        put!(out; "<tr><td>", Link(named.line, named.definition.name));
         if value < 65_536 {
-            put!(out; "$", Address(value));
+            put!(out; ("<td>$", Address(value)));
         } else {
-            put!(out; value);
+            put!(out; ("<td>", value));
         }
         put!(out; "<td>");
         put_counts(out, survey.to_name(named.place))?;
@@ -51,7 +51,7 @@ struct Group(usize);
 
 impl Put for Group {
     fn put(self, out: &mut Vec<u8>) -> Result<()> {
-        put!(out; "LABEL { ADDR $", Address(self.0), "; NAME \"\"; };");
+        put!(out; ("LABEL { ADDR $", Address(self.0)), "; NAME \"\"; };");
         Ok(())
     }
 }
@@ -67,7 +67,7 @@ pub fn put_addresses(alloc: Global, out: &mut Vec<u8>, survey: &Survey<'_, '_>) 
     put!(out; "<details open><summary>Addresses without a name (", count, TABLE);
     for references in all.chunk_by(|one, other| one.to == other.to) {
         let address = references.first().map_or(0, |one| one.to);
-        put!(out; "<tr><td>$", Address(address), "<td>");
+        put!(out; ("<tr><td>$", Address(address)), "<td>");
         put_references(out, references)?;
         put!(out; " <code>", Group(address), "</code>\n");
         put!(&mut groups; "<br>", Group(address));
