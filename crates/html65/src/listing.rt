@@ -69,11 +69,15 @@ pub fn put_listing(alloc: Global, out: &mut Vec<u8>, survey: &Survey<'_, '_>) ->
     let mut marks = survey.marks.as_slice();
     let mut names = survey.names.iter().peekable();
     let mut runs = survey.runs.iter().peekable();
-    let mut begin = "<pre id=\"listing\"><span id=\"l";
     for end in survey.ends {
+        let is_first = line.number == 0;
+        let begin = if is_first {
+            "<pre id=\"listing\"><span id=\"l"
+        } else {
+            "</span>\n<span id=\"l"
+        };
         line = line.next(end);
         put!(out; (begin, line.number));
-        begin = "</span>\n<span id=\"l";
         put_left(out, line.at, survey.between(line.at, line.end))?;
         marks = put_text(out, survey, line, marks)?;
         if let Some(named) = names.next_if(|named| named.line == line.number) {
