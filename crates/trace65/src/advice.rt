@@ -86,7 +86,7 @@ pub fn followed(steps: &Steps<'_>, given: &[u16], plain: bool) -> Result<Followe
         return Ok(Followed {
             entries,
             obstacles: Vec::new(steps.alloc()),
-            calls: Marks::none(steps.alloc())?,
+            calls: Vec::new(steps.alloc()),
         });
     }
     follow(steps, &entries)

@@ -9,7 +9,7 @@ use crate::rules::obstacles::{Obstacle, worst_of};
 use crate::rules::readers::Table;
 use crate::rules::search::{Least, Search};
 use crate::rules::words::DataWords;
-use map65::{ADDRESSES, Marks};
+use map65::ADDRESSES;
 use std::alloc::AllocError;
 use std::mem;
 
@@ -196,8 +196,8 @@ pub struct Followed {
     pub entries: Vec<u16>,
     /// The three worst obstacles.
     pub obstacles: Vec<Obstacle>,
-    /// The calls that were read in trials that failed.
-    pub calls: Marks,
+    /// The calls that were read in trials that failed, once for each.
+    pub calls: Vec<u16>,
 }
 
 /// Returns the entries, and then those that join: the sound beginnings among what the tables of the information file refer to, those

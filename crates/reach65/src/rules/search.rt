@@ -55,7 +55,7 @@ pub struct Search<'a> {
     /// Where trials could not go on, and how many bytes they had read.
     pub obstacles: Vec<Obstacle>,
     /// The calls that they had read.
-    pub calls: Marks,
+    pub calls: Vec<u16>,
 }
 
 /// Marks the addresses that instructions store to, if the bytes of the image are instructions.
@@ -91,7 +91,7 @@ impl<'a> Search<'a> {
             stored: stored_marks(alloc, steps.image())?,
             wasted: 0,
             obstacles: Vec::new(alloc),
-            calls: Marks::none(alloc)?,
+            calls: Vec::new(alloc),
         };
         for &entry in entries {
             search.put_entry(entry)?;
@@ -236,7 +236,7 @@ impl<'a> Search<'a> {
             if let Some(step) = self.steps.at(at) {
                 bytes = bytes.saturating_add(step.len());
                 if step.op.mnemonic == Mnemonic::Jsr {
-                    self.calls.set(at);
+                    self.calls.push(at)?;
                 }
             }
         }

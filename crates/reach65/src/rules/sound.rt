@@ -64,15 +64,10 @@ pub fn is_fine(steps: &Steps<'_>, stored: &Marks, step: &Step) -> bool {
 
 /// Returns where the marked instruction begins that the address lies inside of. An instruction has at most three bytes.
 pub fn holder_of(steps: &Steps<'_>, marks: &Marks, address: u16) -> Option<u16> {
-    for distance in [1u16, 2] {
-        if let Some(at) = address.checked_sub(distance)
-            && marks.get(at)
-            && usize::from(distance) < steps.len_at(at)
-        {
-            return Some(at);
-        }
-    }
-    None
+    [1u16, 2].iter().find_map(|&distance| {
+        let at = address.checked_sub(distance)?;
+        (marks.get(at) && usize::from(distance) < steps.len_at(at)).then_some(at)
+    })
 }
 
 /// Whether the operand of a `bit` at the first address is an instruction at the second one, which ends where the `bit` ends: `.byte $2C` skips
@@ -97,17 +92,10 @@ fn clashes(steps: &Steps<'_>, marks: &Marks, outer: u16, inner: u16) -> bool {
 
 /// Returns whether the instruction of the address, which is marked, shares no byte with another one, but for one in the operand of a `bit`.
 pub fn is_apart(steps: &Steps<'_>, marks: &Marks, address: u16) -> bool {
-    for distance in [1u16, 2] {
-        if let Some(inner) = address.checked_add(distance)
-            && clashes(steps, marks, address, inner)
-        {
-            return false;
-        }
-        if let Some(outer) = address.checked_sub(distance)
-            && clashes(steps, marks, outer, address)
-        {
-            return false;
-        }
-    }
-    true
+    [1u16, 2].iter().all(|&distance| {
+        let inner = address.checked_add(distance);
+        let outer = address.checked_sub(distance);
+        !inner.is_some_and(|inner| clashes(steps, marks, address, inner))
+            && !outer.is_some_and(|outer| clashes(steps, marks, outer, address))
+    })
 }

@@ -82,9 +82,11 @@ impl<'i> DataWords<'i> {
         }
         let mut hopeful = Marks::none(alloc)?;
         for at in addresses(image).rev() {
-            let step = steps.at(at);
             if reached.get(at)
-                || !search.code.get(at) && step.is_some_and(|step| is_hopeful(&hopeful, at, step))
+                || !search.code.get(at)
+                    && steps
+                        .at(at)
+                        .is_some_and(|step| is_hopeful(&hopeful, at, step))
             {
                 hopeful.set(at);
             }

@@ -4,39 +4,32 @@ use crate::advice::Advice;
 use crate::text::Text;
 use info65::RangeType;
 use isa65::Mnemonic;
-use reach65::rules::bytes::addresses;
 use reach65::rules::sound::reads_on;
 use std::alloc::AllocError;
 
 /// How many instructions after a call are looked at.
 const STEPS: usize = 8;
 
-/// The routine of the call at the address, and whether nothing decodes after the call. A call that is not reached counts if its routine is, or
-/// lies outside the image.
-fn call_at(advice: &Advice<'_>, at: u16, is_reached: bool) -> Option<(u16, bool)> {
+/// The routine of the call at the address, the address, and whether nothing decodes after the call. A call that is not reached counts if its routine
+/// is, or lies outside the image.
+fn call_at(advice: &Advice<'_>, at: u16) -> Option<(u16, u16, bool)> {
     let step = advice.steps.at(at)?;
     let routine = step.to?;
-    let counts = is_reached || step.goal.is_none() || advice.survey.reached.get(routine);
-    counts.then_some((routine, !reads_on(advice.steps, step.next, STEPS)))
+    let reached = advice.survey.reached;
+    let counts = reached.get(at) || step.goal.is_none() || reached.get(routine);
+    counts.then_some((routine, at, !reads_on(advice.steps, step.next, STEPS)))
 }
 
 /// The calls that are reached, and those that were read in trials that failed; by routine.
-fn calls_of(advice: &Advice<'_>) -> Result<Vec<(u16, bool)>, AllocError> {
+fn calls_of(advice: &Advice<'_>) -> Result<Vec<(u16, u16, bool)>, AllocError> {
     let mut calls = Vec::new(advice.steps.alloc());
-    for &at in &advice.survey.calls {
-        if let Some(call) = call_at(advice, at, true) {
+    for &at in advice.survey.calls.iter().chain(&advice.followed.calls) {
+        if let Some(call) = call_at(advice, at) {
             calls.push(call)?;
         }
     }
-    for at in addresses(advice.steps.image()) {
-        if advice.followed.calls.get(at)
-            && !advice.survey.reached.get(at)
-            && let Some(call) = call_at(advice, at, false)
-        {
-            calls.push(call)?;
-        }
-    }
-    calls.sort_by_key(|call| call.0)?;
+    calls.sort()?;
+    calls.dedup();
     Ok(calls)
 }
 
@@ -56,10 +49,10 @@ impl Text<'_> {
         let advice = self.advice;
         let calls = calls_of(advice)?;
         for same in calls.as_slice().chunk_by(|one, other| one.0 == other.0) {
-            let Some(&(routine, _)) = same.first() else {
+            let Some(&(routine, ..)) = same.first() else {
                 continue;
             };
-            let failing = same.iter().filter(|call| call.1).count();
+            let failing = same.iter().filter(|call| call.2).count();
             if failing == 0
                 || failing.saturating_mul(2) < same.len()
                 || advice.steps.inline_at(routine).is_some()
