@@ -19,12 +19,25 @@ mod unshown;
 
 use failure::Failure;
 use files65::{Output, Placeholders, end, information_of, read_information, tags_of, write_text};
+use info65::Info;
 use information::{image, information};
 use map65::Map;
 use report::{InfoFile, report_of};
 use request::{Tracing, request_of};
 use std::process::ExitCode;
 use usage65::{Request, words_of};
+
+/// The text that is written of an image, which has this information with that of the include files.
+fn text_of(
+    rt: &HostRuntime,
+    tracing: &Tracing,
+    info: &Info,
+    file: &InfoFile<'_>,
+) -> Result<Vec<u8>, Failure> {
+    let image = image(rt, info)?;
+    let map = Map::build(rt.alloc(), info, &image)?;
+    Ok(report_of(rt.alloc(), &map, file, tracing)?.text)
+}
 
 /// The text that is written.
 fn traced_text(rt: &HostRuntime, tracing: &Tracing) -> Result<Vec<u8>, Failure> {
@@ -42,9 +55,7 @@ fn traced_text(rt: &HostRuntime, tracing: &Tracing) -> Result<Vec<u8>, Failure> 
         info: alone.as_ref().unwrap_or(&info),
         tags: &tags,
     };
-    let image = image(rt, &info)?;
-    let map = Map::build(rt.alloc(), &info, &image)?;
-    Ok(report_of(rt.alloc(), &map, &file, tracing)?.text)
+    text_of(rt, tracing, &info, &file)
 }
 
 /// Writes what is found in the image. The output is created once the text is there.

@@ -3,7 +3,7 @@
 use crate::text::Text;
 use info65::{RangeSpec, RangeType};
 use isa65::Mnemonic;
-use map65::{ADDRESSES, is_inside};
+use map65::ADDRESSES;
 use reach65::rules::readers::Table;
 use reach65::rules::sound::reads_on;
 use reach65::rules::tables::Split;
@@ -48,11 +48,7 @@ impl Text<'_> {
             let Some(to) = split.table.entry(map.image(), index) else {
                 continue;
             };
-            if !is_inside(map.image(), usize::from(to))
-                || map.role(to) != Some(RangeType::Code)
-                || advice.survey.reached.get(to)
-                || *left == 0
-            {
+            if !map.is_code(to) || advice.survey.reached.get(to) || *left == 0 {
                 continue;
             }
             *left -= 1;
