@@ -8,7 +8,6 @@ ROOT = pathlib.Path(__file__).resolve().parent.parent
 MADE = re.search(r"^install: (.*)", (ROOT / "Makefile").read_text(), re.M)[1].replace("bin/", "").split()
 PROGRAMS = [*MADE, "step65"]
 BROWSER = next(filter(shutil.which, ("chromium", "chromium-browser", "google-chrome")), "chromium")
-# What the tests with a marker need.
 NEEDS = {"ca65": ("ca65", "ld65", "sim65"), "valgrind": ("valgrind", "/usr/bin/time"), "browser": (BROWSER,),
          "cc": (os.environ.get("CC", "cc"),)}
 for name in "MAKEFLAGS", "MAKELEVEL":

@@ -6,8 +6,9 @@ import pytest
 from conftest import ROOT, Program, read, same, write
 
 FOLDER = ROOT / "tests/corpus"
-FIGURES = ("code {reached} of {code}, constants as code {taken} of {constants}, halves {pairs} right {false_pairs} "
-           "wrong, rows {rows} right {false_rows} wrong, follows {follows} of {places}, wrong {wrong}, runs {runs} of {moves}")
+FIGURES = (
+    "code {reached} of {code}, constants as code {taken} of {constants}, halves {pairs} right {false_pairs} wrong, "
+    "rows {rows} right {false_rows} wrong, follows {follows} of {places}, wrong {wrong}, runs {runs} of {moves}")
 RANGE = re.compile(r"^RANGE \{ START \$(\w+); END \$(\w+); TYPE (\w+);", re.MULTILINE)
 HALVES = re.compile(r"^#: HALVES \{ LOW \$(\w+); HIGH \$(\w+); \};", re.MULTILINE)
 INSTRUCTION = re.compile(r"(\w+:)?\s+[a-z]{3}[0-7]?(\s|$)")
