@@ -234,9 +234,9 @@ def test_left(da65, whole):
 
 
 def runs_of(page):
-    """The runs of the map: line, addresses, kind of the title, class, and the addresses that its lines cover."""
+    """The runs of the map, which is no image but a group: line, addresses, kind, class, and what its lines cover."""
     text, base = page.decode("latin-1"), None
-    wide = int(re.search(r'viewBox="0 -.5 (\d+) ', text)[1])
+    wide = int(re.search(r'viewBox="0 -.5 (\d+) [^>]* role="group"', text)[1])
     title = r'<title>(\w+) \$(\w{4})(?: to \$(\w{4}), (\d+) bytes)?(?:: \w+)?</title>'
     path = rf'<a href="#l(\d+)" class="(\w+)">{title}<path d="([^"]*)"/></a>'
     for line, kind, named, first, last, count, shape in re.findall(path, text):
@@ -260,11 +260,6 @@ def test_map(da65, page_of, listing, words, kinds):
     head = re.sub("<[^>]*>", " ", re.search("<header>.*?</header>", page.decode("latin-1"), re.S)[0])
     assert {name: int(count) for name, count in re.findall(r"(code|text|bytes|words|addresses|filler) (\d+)",
                                                            head)} == dict(total)
-
-
-def test_map_is_a_group(page_of):
-    """A reader of the screen may pass over what is in an image, so the map with its links is none."""
-    assert re.findall(r'<svg [^>]*role="(\w+)"', page_of(REPAIR).decode()) == ["group"]
 
 
 def test_pictures(whole):

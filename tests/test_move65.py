@@ -22,8 +22,7 @@ def test_says(move65, da65, as65, name65, groups, listing, said, status, ran):
     name65("-S 0x1000 -i with.info -o named.s with.s")
     as65("-S 0x1000 -o again.bin named.s")
     holds("again.bin", read("image.bin"))
-    # A byte that counts gets no name.
-    assert "NUMBER" not in said or b"#$08" in read("named.s")
+    assert "NUMBER" not in said or b"#$08" in read("named.s"), "a byte that counts has got a name"
 
 
 @pytest.mark.parametrize("seed", [None, *range(1, 11)], ids=lambda seed: f"random bytes {seed}" if seed

@@ -10,8 +10,7 @@ from conftest import ROOT, command, fails, lack, read, write
 
 POKES, PEEKS = 18, 6
 STATE = struct.Struct('<5BH' + POKES * 'HB' + f'{PEEKS}H')
-# After `rol abs,x` sim65 2.19 goes on at the last byte of the instruction. That is a `jmp` in each state, and so leads
-# back too.
+# After `rol abs,x` sim65 2.19 goes on at the last byte of the instruction: a `jmp` in each state, which leads back too.
 ROL_ABSX = 0x3E
 PUSHES, PULLS = {'Pha': 1, 'Phx': 1, 'Phy': 1, 'Php': 1, 'Jsr': 2, 'Brk': 3}, {'Pla', 'Plx', 'Ply', 'Plp', 'Rts', 'Rti'}
 Result = collections.namedtuple('Result', 'a x y s p pc memory')
