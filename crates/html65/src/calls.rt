@@ -14,9 +14,8 @@ type Call = (usize, bool, usize);
 fn is_routine(survey: &Survey<'_, '_>, named: &Named<'_>) -> bool {
     let uses = survey.to_name(named.place);
     let is_called = uses.iter().any(|one| one.way == Way::Call);
-    let is_entry = uses
-        .iter()
-        .all(|one| matches!(one.way, Way::Table | Way::Half));
+    let is_led_to = |one: &Reference| matches!(one.way, Way::Table | Way::Half);
+    let is_entry = uses.iter().all(is_led_to);
     !named.definition.constant && survey.is_code(named.definition.value) && (is_called || is_entry)
 }
 
@@ -29,13 +28,9 @@ fn calls_of(alloc: Global, survey: &Survey<'_, '_>, routines: &[Named<'_>]) -> R
         else {
             continue;
         };
-        let is_call = match way {
-            Way::Call => true,
-            Way::Jump if from.place == *to => false,
-            Way::Jump => named.definition.constant || is_routine(survey, named),
-            _ => false,
-        };
-        if is_call {
+        let may_jump = *way == Way::Jump && from.place != *to;
+        let is_jump = may_jump && (named.definition.constant || is_routine(survey, named));
+        if *way == Way::Call || is_jump {
             calls.push((from.place, false, *to))?;
             calls.push((*to, true, from.place))?;
         }
@@ -45,17 +40,16 @@ fn calls_of(alloc: Global, survey: &Survey<'_, '_>, routines: &[Named<'_>]) -> R
     Ok(calls)
 }
 
-/// Appends the other ones of the calls of a place, as links.
+/// Appends the other ones of the calls of a place, or of those who call it, as links.
 fn put_others(
     out: &mut Vec<u8>,
     survey: &Survey<'_, '_>,
     calls: &[Call],
-    (place, is_called): (usize, bool),
+    key: (usize, bool),
 ) -> Result<()> {
-    let key = (place, is_called);
     let from = calls.partition_point(|call| (call.0, call.1) < key);
     let to = calls.partition_point(|call| (call.0, call.1) <= key);
-    let text = if is_called { "called by" } else { "calls" };
+    let text = if key.1 { "called by" } else { "calls" };
     put!(out; "<td>", if from < to { text } else { "" });
     for (_, _, other) in calls.get(from..to).unwrap_or(&[]) {
         if let Some(named) = survey.names.get(*other) {
@@ -67,17 +61,13 @@ fn put_others(
 
 /// Appends whom each routine calls, and who calls it.
 pub fn put_calls(alloc: Global, out: &mut Vec<u8>, survey: &Survey<'_, '_>) -> Result<()> {
-    let mut routines = Vec::new(alloc);
-    for named in &survey.names {
-        if is_routine(survey, named) {
-            routines.push(*named)?;
-        }
-    }
+    let mut routines = Vec::from_slice(alloc, &survey.names)?;
+    routines.retain(|named| is_routine(survey, named));
     if routines.is_empty() {
         return Ok(());
     }
     let calls = calls_of(alloc, survey, &routines)?;
-    put!(out; "<details><summary>Calls (", routines.len(), TABLE);
+    put!(out; ("<details><summary>Calls (", routines.len()), TABLE);
     for named in &routines {
         put!(out; "<tr><td>", Link(named.line, named.definition.name));
         put_others(out, survey, &calls, (named.place, false))?;

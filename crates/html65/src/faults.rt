@@ -124,9 +124,8 @@ fn with_digit(number: usize, byte: u8) -> usize
     ensures { result ≡ with_digit number byte }
 {
     if byte.is_ascii_digit() {
-        return number
-            .wrapping_mul(10)
-            .wrapping_add(usize::from(byte - b'0'));
+        let digit = usize::from(byte - b'0');
+        return number.wrapping_mul(10).wrapping_add(digit);
     }
     number
 }

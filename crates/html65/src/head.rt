@@ -44,7 +44,7 @@ pub fn put_head(out: &mut Vec<u8>, name: &[u8], survey: &Survey<'_, '_>) -> Resu
     let start = usize::from(survey.start);
     let count = survey.bytes.len();
     let last = start.saturating_add(count).saturating_sub(1);
-    put!(out; BEGIN, name, STYLES, name, "</h1> $", Address(start), " to $", Address(last), ", ", count, " bytes");
+    put!(out; BEGIN, name, STYLES, name, ("</h1> $", Address(start)), (" to $", Address(last)), (", ", count), " bytes");
     let mut counts: [usize; 6] = [0; 6];
     for run in &survey.runs {
         let count = &mut counts[run.kind as usize];
@@ -52,7 +52,7 @@ pub fn put_head(out: &mut Vec<u8>, name: &[u8], survey: &Survey<'_, '_>) -> Resu
     }
     for (kind, count) in KINDS.iter().zip(counts) {
         if 0 < count {
-            put!(out; " <span class=\"", *kind, "\">", *kind, " ", count, "</span>");
+            put!(out; " <span class=\"", *kind, "\">", *kind, (" ", count), "</span>");
         }
     }
     put!(out; "</header>\n<main>\n<nav>\n");

@@ -41,10 +41,8 @@ fn put_text<'m>(
     marks: &'m [Mark],
 ) -> Result<&'m [Mark]> {
     let mut from = 0;
-    let count = marks
-        .iter()
-        .take_while(|mark| mark.0 == line.number)
-        .count();
+    let own = marks.iter().take_while(|mark| mark.0 == line.number);
+    let count = own.count();
     for Mark(_, shown, span) in marks.get(..count).unwrap_or(&[]) {
         let text = part_of(line.text, span.from, span.to);
         put!(out; part_of(line.text, from, span.from));
@@ -70,14 +68,8 @@ pub fn put_listing(alloc: Global, out: &mut Vec<u8>, survey: &Survey<'_, '_>) ->
     let mut names = survey.names.iter().peekable();
     let mut runs = survey.runs.iter().peekable();
     for end in survey.ends {
-        let is_first = line.number == 0;
-        let begin = if is_first {
-            "<pre id=\"listing\"><span id=\"l"
-        } else {
-            "</span>\n<span id=\"l"
-        };
         line = line.next(end);
-        put!(out; (begin, line.number));
+        put!(out; (if line.number == 1 { "<pre id=\"listing\"><span id=\"l" } else { "</span>\n<span id=\"l" }, line.number));
         put_left(out, line.at, survey.between(line.at, line.end))?;
         marks = put_text(out, survey, line, marks)?;
         if let Some(named) = names.next_if(|named| named.line == line.number) {

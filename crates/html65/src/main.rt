@@ -4,9 +4,8 @@
 //! output, which is created only now. `page` has the promise: the text of the page is the listing, and each link leads to one line.
 //! The status is 0 if the page, the help text or the version was written, otherwise 1.
 //!
-//! `survey` reads each of the `lines` once and finds what a page is made of: the names, who refers to them and to numbers, by `way`, and
-//! what `kind` the bytes are. `head`, `map`, `tables`, `calls`, `listing` and `pictures` write the page, with `markup`. `pieces` and `faults`
-//! read it back.
+//! `survey` reads each of the `lines` once: the names, who refers to them and to numbers, by `way`, and what `kind` the bytes are. `head`, `map`,
+//! `tables`, `calls`, `listing` and `pictures` write the page, with `markup`. `pieces` and `faults` read it back.
 #![tactic(auto)]
 
 mod calls;
@@ -35,28 +34,29 @@ use files65::{
 use page::page_of;
 use request::{Showing, request_of};
 use std::process::ExitCode;
-use usage65::{FileNames, Request, words_of};
+use usage65::{Request, words_of};
 
 /// The most that a listing may have: 16 MiB.
 const LIMIT: usize = 16_777_216;
 
 /// The page of these files. The output may not be the input of the information file either.
 fn page_for(rt: &HostRuntime, showing: &Showing) -> Result<Vec<u8>, Failure> {
-    let FileNames {
-        listing,
-        info,
-        output,
-    } = &showing.names;
-    let bytes = read_information(rt, info.as_deref())?;
+    let names = &showing.names;
+    let bytes = read_information(rt, names.info.as_deref())?;
     let info = information_at(rt.alloc(), showing.start, &bytes)?;
-    keep_inputs(rt, output.as_deref(), &[info.settings().input.as_deref()])?;
-    let text = read_listing(rt, listing.as_str())?;
+    let inputs = [info.settings().input.as_deref()];
+    keep_inputs(rt, names.output.as_deref(), &inputs)?;
+    let text = read_listing(rt, names.listing.as_str())?;
     if LIMIT < text.len() {
         return Err(Failure::File(FileFault::TooLarge));
     }
     let layout = layout_of(rt.alloc(), info.segments(), showing.fill)?;
     let start = start_or_end(rt.alloc(), info.settings().start, &layout, &text)?;
-    page_of(rt.alloc(), listing.as_str(), &repair(&layout, start, &text))
+    page_of(
+        rt.alloc(),
+        names.listing.as_str(),
+        &repair(&layout, start, &text),
+    )
 }
 
 /// Reads the listing, and writes its page. The output is created once that is there.

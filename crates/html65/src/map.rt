@@ -1,5 +1,6 @@
 //! The map of a page: the addresses of the image as rows of a picture.
 
+use crate::kind::KINDS;
 use crate::markup::{Address, Put, Result, put};
 use crate::survey::Survey;
 
@@ -28,33 +29,26 @@ pub fn put_map(out: &mut Vec<u8>, survey: &Survey<'_, '_>) -> Result<()> {
     let above = begin / wide * wide;
     let count = (end.saturating_sub(above)).div_ceil(wide).max(1);
     let height = count.saturating_mul((600 / count).clamp(2, 10));
-    put!(out; "<svg width=\"", WIDTH, "\" height=\"", height, "\" viewBox=\"0 -.5 ", wide, " ", count);
+    put!(out; ("<svg width=\"", WIDTH), ("\" height=\"", height), ("\" viewBox=\"0 -.5 ", wide), (" ", count));
     put!(out; "\" preserveAspectRatio=\"none\" role=\"group\" aria-label=\"map\">\n");
     let mut names = survey.by_value.as_slice();
     for run in &survey.runs {
-        let (at, end, kind) = (run.at, run.end, run.kind.text());
+        let (at, end, kind) = (run.at, run.end, KINDS[run.kind as usize]);
         put!(out; ("<a href=\"#l", run.line), "\" class=\"", kind, "\"><title>", kind, (" $", Address(at)));
         let count = end.saturating_sub(at);
         if 1 < count {
             put!(out; (" to $", Address(end.saturating_sub(1))), (", ", count), " bytes");
         }
         let value = at as u64;
-        let passed = names
-            .iter()
-            .take_while(|one| one.definition.value < value)
-            .count();
-        names = names.get(passed..).unwrap_or(&[]);
+        let passed = names.iter().take_while(|one| one.definition.value < value);
+        names = names.get(passed.count()..).unwrap_or(&[]);
         let mut same = names.iter().take_while(|one| one.definition.value == value);
         if let Some(label) = same.find(|one| !one.definition.constant) {
             put!(out; ": ", label.definition.name);
         }
         put!(out; "</title><path d=\"");
-        put_rows(
-            out,
-            wide,
-            at.saturating_sub(above),
-            end.saturating_sub(above),
-        )?;
+        let (from, to) = (at.saturating_sub(above), end.saturating_sub(above));
+        put_rows(out, wide, from, to)?;
         put!(out; "\"/></a>");
     }
     put!(out; "\n</svg>\n");

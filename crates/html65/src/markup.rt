@@ -1,7 +1,7 @@
 //! What a page is written with: markup, texts of the listing, numbers, links, and references by their ways.
 
 use crate::survey::Reference;
-use crate::way::Way;
+use crate::way::{WAYS, Way};
 use files65::{put_address, put_decimal};
 use std::alloc::AllocError;
 
@@ -31,6 +31,7 @@ pub trait Put {
 
 /// Markup, as it stands.
 impl Put for &str {
+    #[inline(always)]
     fn put(self, out: &mut Vec<u8>) -> Result<()> {
         out.extend_from_slice(self.as_bytes())
     }
@@ -53,15 +54,9 @@ impl Put for &[u8] {
     }
 }
 
-/// A number in decimal.
-impl Put for usize {
-    fn put(self, out: &mut Vec<u8>) -> Result<()> {
-        ("", self).put(out)
-    }
-}
-
-/// Markup, and a number after it.
+/// Markup, and a number in decimal after it.
 impl Put for (&str, usize) {
+    #[inline(always)]
     fn put(self, out: &mut Vec<u8>) -> Result<()> {
         put_decimal(out, self.0.as_bytes(), self.1)
     }
@@ -70,12 +65,6 @@ impl Put for (&str, usize) {
 /// An address in four hex digits.
 #[derive(Clone, Copy)]
 pub struct Address(pub usize);
-
-impl Put for Address {
-    fn put(self, out: &mut Vec<u8>) -> Result<()> {
-        ("", self).put(out)
-    }
-}
 
 /// Markup, and an address after it.
 impl Put for (&str, Address) {
@@ -99,7 +88,7 @@ impl<P: Put + Drop> Put for Link<P> {
 fn put_some(out: &mut Vec<u8>, references: &[Reference], mut before: Option<Way>) -> Result<()> {
     for reference in references {
         if before != Some(reference.way) {
-            put!(out; if before.is_some() { "; " } else { "" }, reference.way.text());
+            put!(out; if before.is_some() { "; " } else { "" }, WAYS[reference.way as usize]);
         }
         before = Some(reference.way);
         put!(out; (" <a href=\"#l", reference.line), ("\">", Address(reference.at)), "</a>");
@@ -113,7 +102,7 @@ pub fn put_references(out: &mut Vec<u8>, references: &[Reference]) -> Result<()>
     put_some(out, shown, None)?;
     let folded = references.get(SHOWN..).unwrap_or(&[]);
     if !folded.is_empty() {
-        put!(out; FOLD, folded.len(), " more<b>");
+        put!(out; (FOLD, folded.len()), " more<b>");
         put_some(out, folded, shown.last().map(|reference| reference.way))?;
         put!(out; FOLD_END);
     }

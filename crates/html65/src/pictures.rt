@@ -34,10 +34,8 @@ impl Layout {
         let bands = columns.div_ceil(across.max(1));
         let all = columns.min(across).saturating_mul(step);
         let gap = step.saturating_sub(wide);
-        (
-            all.saturating_sub(gap),
-            rows.min(bands.saturating_mul(high)),
-        )
+        let high = rows.min(bands.saturating_mul(high));
+        (all.saturating_sub(gap), high)
     }
 
     /// The row of the picture in which the byte of an index stands, and its place there.
@@ -63,11 +61,9 @@ impl Layout {
         out.resize(HEAD.saturating_add(size), 0)?;
         for (index, byte) in bytes.iter().enumerate() {
             let (row, place) = self.place_of(index);
-            let before = high
-                .saturating_sub(row)
-                .saturating_sub(1)
-                .saturating_mul(padded);
-            if let Some(pixels) = out.get_mut(HEAD.saturating_add(before).saturating_add(place)) {
+            let below = high.saturating_sub(row).saturating_sub(1);
+            let at = HEAD.saturating_add(below.saturating_mul(padded));
+            if let Some(pixels) = out.get_mut(at.saturating_add(place)) {
                 *pixels = *byte;
             }
         }
@@ -89,8 +85,8 @@ pub fn put_pictures(alloc: Global, out: &mut Vec<u8>, bytes: &[u8]) -> Result<()
     for layout in LAYOUTS {
         let (wide, high) = layout.size(bytes.len());
         let text = STANDARD.encode(alloc, &layout.bitmap(alloc, bytes)?)?;
-        put!(out; "<img src=\"data:image/bmp;base64,", text.as_str(), "\" width=\"", wide.saturating_mul(8));
-        put!(out; "\" height=\"", high, "\" alt=\"", layout.4, "\" title=\"", layout.4, "\"> ");
+        put!(out; "<img src=\"data:image/bmp;base64,", text.as_str(), ("\" width=\"", wide.saturating_mul(8)));
+        put!(out; ("\" height=\"", high), "\" alt=\"", layout.4, "\" title=\"", layout.4, "\"> ");
     }
     Ok(())
 }

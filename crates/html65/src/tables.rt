@@ -2,6 +2,7 @@
 
 use crate::markup::{Address, FOLD, FOLD_END, Link, Put, Result, put, put_references};
 use crate::survey::{Reference, Survey};
+use crate::way::WAYS;
 use std::alloc::Global;
 
 /// What stands after the title of a table and how many rows it has, and at its end.
@@ -17,7 +18,7 @@ fn put_counts(out: &mut Vec<u8>, references: &[Reference]) -> Result<()> {
     let groups = references.chunk_by(|one, other| one.way == other.way);
     for (place, group) in groups.enumerate() {
         if let Some(first) = group.first() {
-            put!(out; (if 0 < place { ", " } else { "" }, group.len()), " ", first.way.text());
+            put!(out; (if 0 < place { ", " } else { "" }, group.len()), " ", WAYS[first.way as usize]);
         }
     }
     Ok(())
@@ -25,7 +26,7 @@ fn put_counts(out: &mut Vec<u8>, references: &[Reference]) -> Result<()> {
 
 /// Appends all names, by their values.
 pub fn put_names(out: &mut Vec<u8>, survey: &Survey<'_, '_>) -> Result<()> {
-    put!(out; "<details open><summary>Names (", survey.names.len(), TABLE);
+    put!(out; ("<details open><summary>Names (", survey.names.len()), TABLE);
     for named in &survey.by_value {
         let value = named.definition.value as usize;
         put!(out; "<tr><td>", Link(named.line, named.definition.name));
@@ -45,15 +46,10 @@ pub fn put_names(out: &mut Vec<u8>, survey: &Survey<'_, '_>) -> Result<()> {
     Ok(())
 }
 
-/// A group that names an address.
-#[derive(Clone, Copy)]
-struct Group(usize);
-
-impl Put for Group {
-    fn put(self, out: &mut Vec<u8>) -> Result<()> {
-        put!(out; ("LABEL { ADDR $", Address(self.0)), "; NAME \"\"; };");
-        Ok(())
-    }
+/// Appends a group that names an address.
+fn put_group(out: &mut Vec<u8>, address: usize) -> Result<()> {
+    put!(out; ("LABEL { ADDR $", Address(address)), "; NAME \"\"; };");
+    Ok(())
 }
 
 /// Appends the addresses that operands have as numbers, with who refers to them and the groups that name them.
@@ -64,15 +60,18 @@ pub fn put_addresses(alloc: Global, out: &mut Vec<u8>, survey: &Survey<'_, '_>) 
         return Ok(());
     }
     let mut groups = Vec::new(alloc);
-    put!(out; "<details open><summary>Addresses without a name (", count, TABLE);
+    put!(out; ("<details open><summary>Addresses without a name (", count), TABLE);
     for references in all.chunk_by(|one, other| one.to == other.to) {
         let address = references.first().map_or(0, |one| one.to);
         put!(out; ("<tr><td>$", Address(address)), "<td>");
         put_references(out, references)?;
-        put!(out; " <code>", Group(address), "</code>\n");
-        put!(&mut groups; "<br>", Group(address));
+        put!(out; " <code>");
+        put_group(out, address)?;
+        put!(out; "</code>\n");
+        put!(&mut groups; "<br>");
+        put_group(&mut groups, address)?;
     }
-    put!(out; "<tr><td colspan=\"2\">", FOLD, count, " groups to copy<b>");
+    put!(out; "<tr><td colspan=\"2\">", (FOLD, count), " groups to copy<b>");
     out.extend_from_slice(&groups)?;
     put!(out; FOLD_END, TABLE_END);
     Ok(())

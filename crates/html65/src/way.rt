@@ -24,7 +24,7 @@ pub enum Way {
 }
 
 /// What a page calls each way, in their order.
-const TEXTS: [&str; 10] = [
+pub const WAYS: [&str; 10] = [
     "call", "jump", "branch", "read", "write", "change", "pointer", "table", "half", "value",
 ];
 
@@ -41,11 +41,6 @@ pub fn operation_of(text: &[u8]) -> Word {
 }
 
 impl Way {
-    /// What a page calls it.
-    pub fn text(self) -> &'static str {
-        TEXTS[self as usize]
-    }
-
     /// How a mnemonic or a directive refers to what its first operand has, if no sign stands before that.
     pub fn of(word: Word) -> Way {
         match &word {
