@@ -49,7 +49,7 @@ def test_rounds(move65, da65, as65, trace65, name65, seed):
 def test_long_run(move65):
     """A run of more than a second says on a terminal where it is, and takes that away. Elsewhere it says nothing."""
     write("loop.s", "L1000: inx\n jmp L1000\n")
-    words = ["-S", "0x1000", "--entry", ",".join(60 * ["0x1000"]), "loop.s"]
+    words = ["-S", "0x1000", "--entry", ",".join(120 * ["0x1000"]), "loop.s"]
     ours, theirs = pty.openpty()
     move65(words, 0, said := "# 2 of 2 instructions have run in both\n", stderr=theirs)
     os.close(theirs)
