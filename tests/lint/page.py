@@ -1,29 +1,39 @@
-"""docs/DEFINITIONS.md is made from the comments at the head of the files of definitions, crate by crate, in the order in which Lib.antt
-names them. A comment of one paragraph is a row of a table; a longer one has a section of its own. The folders `Code`, which tie code to
-rules, are left out."""
+"""docs/DEFINITIONS.md is made from the comments at the head of the files of definitions that the main promises need: SHOWN lists them, crate by
+crate, in the order in which one builds on another."""
 
 import re
 import textwrap
 
 from columns import PAGE
-from source import CRATES, ROOT, differs
+from source import ROOT, Refused, differs
 
 TARGET = ROOT / "docs" / "DEFINITIONS.md"
 HEAD = """# Definitions
 
-What the contracts cite, in plain words. Each part is the comment at the head of a file of definitions, from which
-`make definitions` writes this page. The file has the rules themselves, each with a line in words.
-[PROOFS.md](PROOFS.md) says what is proved of them, and [ARCHITECTURE.md](ARCHITECTURE.md) explains the words that all
-crates use. The folders `Code` of `specs/`, which say what parts of the code have done, are left out.
-
-The headline needs only a few of them: the image that is asked for (`map65`, Image), the listing of an image (`da65`,
-Listing, with Groups and Statements), its text (`stmt65`, Line), and what a text means (`stmt65`, Reading, Coding and
-Meaning).
+What the main promises mean, those of the README's table, in plain words. For the headline read these: `map65` Image to
+Names, `stmt65` Columns to Meaning, and `da65` Groups to RunLaw. Each part is the comment at the head of a file in
+`specs/` of its crate, from which `make definitions` writes this page. The file has the rules themselves, each with a
+line in words. The other files, which `specs/Lib.antt` of a crate lists, begin with such a comment too.
+[PROOFS.md](PROOFS.md) says what is proved of the definitions, and [ARCHITECTURE.md](ARCHITECTURE.md) explains the words
+that all crates use.
 """
+SHOWN = {
+    "isa65": "Opcodes Mode",
+    "text65": "Names",
+    "info65": "Layouts Names Segments Includes Reader",
+    "map65": "Image Roles Pieces Items Targets Names",
+    "stmt65": "Columns Line Statements Operands ReadingLaws Spelling Reading Symbols Coding Meaning Layout",
+    "da65": "Groups Statements Listing Outcome RunLaw",
+    "reach65": "Inlines Flow Reached Taken",
+    "name65": "Marks Changes",
+    "html65": "Pieces PageText",
+}
 
 
 def head_of(path):
     """The comment at the head of a file, as paragraphs."""
+    if not path.exists():
+        raise Refused(f"{path.relative_to(ROOT)} is no file of definitions")
     lines = re.match(r"(?:--[^\n]*\n)*", path.read_text())[0].splitlines()
     return "\n".join(line[2:].removeprefix(" ") for line in lines).split("\n\n")
 
@@ -44,24 +54,15 @@ def filled(paragraph):
     return text
 
 
-def titled(name, paragraphs):
-    return f"\n### {name}\n\n" + "\n\n".join(map(filled, paragraphs)) + "\n"
-
-
-def part(crate):
-    """The part of a crate: a table of what is said in one paragraph, then what is said in more."""
-    folder = ROOT / "crates" / crate / "specs"
-    names = [it for it in re.findall(r"^pub mod (\w+)", (folder / "Lib.antt").read_text(), re.MULTILINE) if it != "Code"] if folder.is_dir() else []
-    heads = [(name, head_of(folder / f"{name}.antt")) for name in names]
-    rows = "".join(f"| {name} | {' '.join(said[0].split())} |\n" for name, said in heads if len(said) == 1)
-    return (
-        f"\n## {crate}\n"
-        + (f"\n| file of `{crate}/specs` | what it says |\n|---|---|\n{rows}" if rows else "")
-        + "".join(titled(name, said) for name, said in heads if len(said) > 1)
-        if heads
-        else ""
-    )
+def part(crate, names):
+    """The part of a crate: for each file its name, and what its comment says. What sums it up begins its first paragraph."""
+    text = f"\n## {crate}\n"
+    for name in names.split():
+        paragraphs = head_of(ROOT / "crates" / crate / "specs" / f"{name}.antt")
+        said = ["\n".join([f"**{name}.** {paragraphs[0]}", *paragraphs[1:2]]), *paragraphs[2:]]
+        text += "\n" + "\n\n".join(map(filled, said)) + "\n"
+    return text
 
 
 def check(write):
-    yield from differs(TARGET, HEAD + "".join(part(crate) for crate in CRATES), write, "specs")
+    yield from differs(TARGET, HEAD + "".join(part(*shown) for shown in SHOWN.items()), write, "specs")
