@@ -10,12 +10,11 @@ from source import ROOT, Refused, differs
 TARGET = ROOT / "docs" / "DEFINITIONS.md"
 HEAD = """# Definitions
 
-What the main promises mean, those of the README's table, in plain words. For the headline read these: `map65` Image to
-Names, `stmt65` Columns to Meaning, and `da65` Groups to RunLaw. Each part is the comment at the head of a file in
-`specs/` of its crate, from which `make definitions` writes this page. The file has the rules themselves, each with a
-line in words. The other files, which `specs/Lib.antt` of a crate lists, begin with such a comment too.
-[PROOFS.md](PROOFS.md) says what is proved of the definitions, and [ARCHITECTURE.md](ARCHITECTURE.md) explains the words
-that all crates use.
+What the headline and the other main promises mean, in plain words. For the headline read these: `map65` Image to Names,
+`stmt65` Columns to Meaning, and `da65` Groups to RunLaw. Each part is the comment at the head of a file in `specs/` of
+its crate, from which `make definitions` writes this page. The file has the rules themselves, each with a line in words.
+The other files, which `specs/Lib.antt` of a crate lists, begin with such a comment too. [PROOFS.md](PROOFS.md) says
+what is proved of the definitions, and [ARCHITECTURE.md](ARCHITECTURE.md) explains the words that all crates use.
 """
 SHOWN = {
     "isa65": "Opcodes Mode",
