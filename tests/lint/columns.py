@@ -14,7 +14,7 @@ WIDER = {
     "text65": 1,
     "stmt65": 19,
     "info65": 22,
-    "map65": 4,
+    "map65": 3,
     "usage65": 1,
     "da65": 12,
     "files65": 2,

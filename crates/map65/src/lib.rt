@@ -14,6 +14,7 @@ mod devices;
 mod image;
 mod laws;
 mod map;
+mod mapped_image;
 mod marking;
 mod marks;
 mod name;

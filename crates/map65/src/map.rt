@@ -7,12 +7,12 @@ ghost use Rattle.map65.specs.Words.{AreCellsOf, IsBuilt, IsPlaced, IsSoundMap, b
 
 use crate::cells::{are_one_run, blank_cells, is_code, is_named, len_in, role_in};
 use crate::image::{ADDRESSES, Image};
+use crate::mapped_image::MappedImage;
 use crate::marking::{mark_items, mark_roles};
 use crate::name::{NameBuf, NameKind, Place, put_default, put_text};
 use crate::naming::{entry_start_of, mark_covered, mark_own, mark_targets};
 use crate::roles::is_skip;
 use info65::{Given, Info, RangeType};
-use isa65::DecodeTable;
 use std::alloc::{AllocError, Allocator, Global};
 use std::marker::Model;
 
@@ -237,10 +237,10 @@ fn mark_all<A: Allocator>(cells: &mut [u16], info: &Info<A>, image: &Image<A>)
 {
     mark_roles(cells, info, image);
     mark_own(cells, info);
-    let opcodes = DecodeTable::new(info.settings().cpu);
-    mark_items(cells, info, image, &opcodes);
+    let mapped = MappedImage::new(info, image);
+    mark_items(cells, &mapped);
     mark_covered(cells, info);
-    mark_targets(cells, info, image, &opcodes);
+    mark_targets(cells, &mapped);
 }
 
 /// The place of a base, by the role of its address and the length of the item that begins there.

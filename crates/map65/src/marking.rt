@@ -8,6 +8,7 @@ ghost use Rattle.map65.specs.Words.{AreMarkedBelow, AreNamed, ArePainted, Change
 use crate::borders::mark_borders;
 use crate::cells::{are_one_run, cell_of, is_named, is_wide_cell, role_in, with_len};
 use crate::image::Image;
+use crate::mapped_image::MappedImage;
 use crate::roles::is_skip;
 use info65::{Info, RangeSpec, RangeType};
 use isa65::{DecodeTable, OpcodeSet};
@@ -105,29 +106,21 @@ fn code_size(opcodes: &DecodeTable, byte: u8) -> u8
     }
 }
 
-/// Returns the length of an item of this role that begins at the address, if its piece has room for it. The opcodes are those
-/// of the information's CPU.
+/// Returns the length of an item of this role that begins at the address, if its piece has room for it.
 #[tactic(auto, unfolding(crate::specs::Items::full_len_at))]
-fn full_len_at<A: Allocator>(
-    info: &Info<A>,
-    image: &Image<A>,
-    opcodes: &DecodeTable,
-    role: RangeType,
-    address: u16,
-) -> u8
-    requires cpu { opcodes.now ≡ info.now.settings.cpu }
-    requires low { image.now.start ≤ address }
-    requires high { address < end_of image.now }
-    requires role { role ≡ role_of info.now address }
-    ensures value { result ≡ full_len_at (mapped info.now image.now) address }
+fn full_len_at<A: Allocator>(mapped: &MappedImage<'_, A>, role: RangeType, address: u16) -> u8
+    requires low { mapped.now.image.start ≤ address }
+    requires high { address < end_of mapped.now.image }
+    requires role { role ≡ role_of mapped.now.info address }
+    ensures value { result ≡ full_len_at mapped.now address }
     ensures positive { 1 ≤ result }
     ensures small { result ≤ 4 }
 {
     match role {
         RangeType::Code => {
-            let bytes = image.bytes();
-            let byte = bytes[usize::from(address - image.start())];
-            code_size(opcodes, byte)
+            let image = mapped.image();
+            let byte = image.bytes()[usize::from(address - image.start())];
+            code_size(mapped.opcodes(), byte)
         }
         _ => role.layout().unit,
     }
@@ -136,24 +129,21 @@ fn full_len_at<A: Allocator>(
 /// Returns the length of the item that begins at the address: 1 if its piece ends before it would.
 fn size_at<A: Allocator>(
     cells: &[u16],
-    info: &Info<A>,
-    image: &Image<A>,
-    opcodes: &DecodeTable,
+    mapped: &MappedImage<'_, A>,
     role: RangeType,
     address: u16,
 ) -> u8
-    requires cpu { opcodes.now ≡ info.now.settings.cpu }
-    requires placed { IsPlaced image.now }
-    requires low { image.now.start ≤ address }
-    requires high { address < end_of image.now }
-    requires role { role ≡ role_of info.now address }
-    requires marked { AreMarkedBelow (mapped info.now image.now) address cells.now }
-    requires own { AreNamed (is_own info.now.names) cells.now }
-    ensures value { result ≡ size_at (mapped info.now image.now) address }
+    requires placed { IsPlaced mapped.now.image }
+    requires low { mapped.now.image.start ≤ address }
+    requires high { address < end_of mapped.now.image }
+    requires role { role ≡ role_of mapped.now.info address }
+    requires marked { AreMarkedBelow mapped.now address cells.now }
+    requires own { AreNamed (is_own mapped.now.info.names) cells.now }
+    ensures value { result ≡ size_at mapped.now address }
     ensures positive { 1 ≤ result }
     ensures small { result ≤ 4 }
 {
-    let full_len = full_len_at(info, image, opcodes, role, address);
+    let full_len = full_len_at(mapped, role, address);
     let first = usize::from(address);
     for i in 0..full_len - 1 {
         if !is_joined_in(cells, first + usize::from(i) + 1) {
@@ -165,29 +155,22 @@ fn size_at<A: Allocator>(
 
 /// Writes the length of the item that begins at the address, and returns it. A skipped byte is no item, and
 /// has length 1.
-fn mark_item<A: Allocator>(
-    cells: &mut [u16],
-    info: &Info<A>,
-    image: &Image<A>,
-    opcodes: &DecodeTable,
-    address: u16,
-) -> u8
-    requires cpu { opcodes.now ≡ info.now.settings.cpu }
-    requires placed { IsPlaced image.now }
-    requires low { image.now.start ≤ address }
-    requires high { address < end_of image.now }
-    requires begins { item_start (mapped info.now image.now) address ≡ address }
-    requires marked { AreMarkedBelow (mapped info.now image.now) address cells.old }
-    requires own { AreNamed (is_own info.now.names) cells.old }
+fn mark_item<A: Allocator>(cells: &mut [u16], mapped: &MappedImage<'_, A>, address: u16) -> u8
+    requires placed { IsPlaced mapped.now.image }
+    requires low { mapped.now.image.start ≤ address }
+    requires high { address < end_of mapped.now.image }
+    requires begins { item_start mapped.now address ≡ address }
+    requires marked { AreMarkedBelow mapped.now address cells.old }
+    requires own { AreNamed (is_own mapped.now.info.names) cells.old }
     ensures positive { 1 ≤ result }
     ensures small { result ≤ 4 }
-    ensures begins { item_start (mapped info.now image.now) (address + result) ≡ address + result }
-    ensures marked { AreMarkedBelow (mapped info.now image.now) (address + result) cells.new }
-    ensures own { AreNamed (is_own info.now.names) cells.new }
+    ensures begins { item_start mapped.now (address + result) ≡ address + result }
+    ensures marked { AreMarkedBelow mapped.now (address + result) cells.new }
+    ensures own { AreNamed (is_own mapped.now.info.names) cells.new }
 {
     let at = usize::from(address);
     let role = role_in(cells[at]).unwrap();
-    let len = size_at(cells, info, image, opcodes, role, address);
+    let len = size_at(cells, mapped, role, address);
     if !is_skip(role) {
         cells[at] = with_len(cells[at], len);
     }
@@ -195,23 +178,18 @@ fn mark_item<A: Allocator>(
 }
 
 /// Writes the length of each item into the cell where it begins.
-pub fn mark_items<A: Allocator>(
-    cells: &mut [u16],
-    info: &Info<A>,
-    image: &Image<A>,
-    opcodes: &DecodeTable,
-)
-    requires cpu { opcodes.now ≡ info.now.settings.cpu }
-    requires marked { AreMarkedBelow (mapped info.now image.now) 0 cells.old }
-    requires own { AreNamed (is_own info.now.names) cells.old }
-    ensures laid { IsLaid (mapped info.now image.now) cells.new }
-    ensures own { AreNamed (is_own info.now.names) cells.new }
-    ensures placed { IsPlaced image.now }
+pub fn mark_items<A: Allocator>(cells: &mut [u16], mapped: &MappedImage<'_, A>)
+    requires marked { AreMarkedBelow mapped.now 0 cells.old }
+    requires own { AreNamed (is_own mapped.now.info.names) cells.old }
+    ensures laid { IsLaid mapped.now cells.new }
+    ensures own { AreNamed (is_own mapped.now.info.names) cells.new }
+    ensures placed { IsPlaced mapped.now.image }
 {
+    let image = mapped.image();
     let mut at = usize::from(image.start());
     let end = at + image.bytes().len();
     'items: while at < end {
-        let len = mark_item(cells, info, image, opcodes, at as u16);
+        let len = mark_item(cells, mapped, at as u16);
         at += usize::from(len);
     }
 }

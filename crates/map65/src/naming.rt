@@ -2,13 +2,12 @@
 
 ghost use Rattle.std.specs.Prelude.{◌≡◌, ◌==◌, ◌+◌, ◌<◌, ◌≤◌, length, max};
 ghost use Rattle.info65.specs.Words.{AreNames, given_seen, name_at};
-ghost use Rattle.map65.specs.Words.{AreCells, AreNamed, Changes, IsLaid, IsPlaced, KeepsLay, MapView, end_of, entry_start, is_covered, is_own, is_within, mapped, nowhere, refers, with_name};
+ghost use Rattle.map65.specs.Words.{AreCells, AreNamed, Changes, IsLaid, IsPlaced, KeepsLay, MapView, end_of, entry_start, is_covered, is_own, is_within, nowhere, refers, with_name};
 
 use crate::cells::{is_wide_cell, len_in, role_in, with_name};
-use crate::image::Image;
+use crate::mapped_image::MappedImage;
 use crate::target::target_at;
 use info65::{Given, Info};
-use isa65::DecodeTable;
 use std::alloc::Allocator;
 
 /// Sets the bit for a name in the address's cell.
@@ -100,18 +99,11 @@ pub fn entry_start_of(cells: &[u16], address: u16) -> u16
 
 /// Marks the target of the item that begins at the address, and the first byte of the table's item that the target
 /// lies inside.
-fn mark_target<A: Allocator>(
-    cells: &mut [u16],
-    info: &Info<A>,
-    image: &Image<A>,
-    opcodes: &DecodeTable,
-    address: u16,
-)
-    requires cpu { opcodes.now ≡ info.now.settings.cpu }
-    requires low { image.now.start ≤ address }
-    requires high { address < end_of image.now }
-    requires laid { IsLaid (mapped info.now image.now) cells.old }
-    ensures { Changes with_name (λ a. refers (mapped info.now image.now) a address) cells.old cells.new }
+fn mark_target<A: Allocator>(cells: &mut [u16], mapped: &MappedImage<'_, A>, address: u16)
+    requires low { mapped.now.image.start ≤ address }
+    requires high { address < end_of mapped.now.image }
+    requires laid { IsLaid mapped.now cells.old }
+    ensures { Changes with_name (λ a. refers mapped.now a address) cells.old cells.new }
 {
     let cell = cells[usize::from(address)];
     let len = len_in(cell);
@@ -120,7 +112,7 @@ fn mark_target<A: Allocator>(
         return;
     }
     let role = role_in(cell).unwrap();
-    if let Some(target) = target_at(info, image, opcodes, role, len, address) {
+    if let Some(target) = target_at(mapped, role, len, address) {
         let first = entry_start_of(cells, target);
         mark(cells, target);
         mark(cells, first);
@@ -128,19 +120,14 @@ fn mark_target<A: Allocator>(
 }
 
 /// Marks the targets of all items, besides the addresses that given names cover.
-pub fn mark_targets<A: Allocator>(
-    cells: &mut [u16],
-    info: &Info<A>,
-    image: &Image<A>,
-    opcodes: &DecodeTable,
-)
-    requires cpu { opcodes.now ≡ info.now.settings.cpu }
-    requires laid { IsLaid (mapped info.now image.now) cells.old }
-    requires named { AreNamed (is_covered info.now.names) cells.old }
-    ensures { AreCells (mapped info.now image.now) cells.new }
+pub fn mark_targets<A: Allocator>(cells: &mut [u16], mapped: &MappedImage<'_, A>)
+    requires laid { IsLaid mapped.now cells.old }
+    requires named { AreNamed (is_covered mapped.now.info.names) cells.old }
+    ensures { AreCells mapped.now cells.new }
 {
+    let image = mapped.image();
     let start = usize::from(image.start());
     for k in 0..image.bytes().len() {
-        mark_target(cells, info, image, opcodes, (start + k) as u16);
+        mark_target(cells, mapped, (start + k) as u16);
     }
 }

@@ -1,12 +1,13 @@
 //! Targets of items: the addresses that they refer to.
 
 ghost use Rattle.std.specs.Prelude.{◌≡◌, ◌+◌, ◌<◌, ◌≤◌, IsTrue, length};
-ghost use Rattle.isa65.specs.Words.{len_of, row_len, table_of};
-ghost use Rattle.map65.specs.Words.{branch_target, bytes_from, end_of, entry_of, is_inside, is_jump, item_len, mapped, only_inside, opcode_target, operand_target, return_target, role_of, row_target, target_at, target_for, target_of, operand_word, word_target};
+ghost use Rattle.isa65.specs.Words.{len_of, row_len};
+ghost use Rattle.map65.specs.Words.{branch_target, bytes_from, end_of, entry_of, is_inside, is_jump, item_len, only_inside, opcode_target, opcodes, operand_target, return_target, role_of, target_at, target_for, target_of, operand_word, word_target};
 
 use crate::image::Image;
-use info65::{Entry, Info, RangeType};
-use isa65::{DecodeTable, Mnemonic, Op, OpcodeSet, OperandKind, Pattern, Row};
+use crate::mapped_image::MappedImage;
+use info65::{Entry, RangeType};
+use isa65::{Mnemonic, Op, OpcodeSet, OperandKind, Pattern, Row};
 use std::alloc::Allocator;
 
 /// Returns the word after the opcode, low byte first.
@@ -119,27 +120,6 @@ pub fn branch_target(row: Row, next: u32, bytes: &[u8]) -> Option<u16>
     }
 }
 
-/// The target of an instruction with these operands, whose bytes these are.
-#[inline(always)]
-fn row_target<A: Allocator>(
-    image: &Image<A>,
-    mnemonic: Mnemonic,
-    row: Row,
-    next: u32,
-    bytes: &[u8],
-) -> Option<u16>
-    requires all { row_len row ≤ length bytes.now }
-    requires room { next ≤ 65536 }
-    ensures { result ≡ row_target image.now mnemonic row next bytes.now }
-{
-    match row {
-        Row::One(pattern, OperandKind::Word) => {
-            word_target(image, mnemonic, pattern, operand_word(bytes))
-        }
-        _ => branch_target(row, next, bytes),
-    }
-}
-
 /// The target of an instruction that lies whole in the image, and has these bytes first.
 #[tactic(auto, unfolding(crate::specs::Targets::operand_target))]
 fn operand_target<A: Allocator>(image: &Image<A>, op: Op, address: u16, bytes: &[u8]) -> Option<u16>
@@ -148,21 +128,26 @@ fn operand_target<A: Allocator>(image: &Image<A>, op: Op, address: u16, bytes: &
     ensures { result ≡ operand_target image.now op.mnemonic op.mode address bytes.now }
 {
     let next = u32::from(address) + u32::from(op.mode.len());
-    row_target(image, op.mnemonic, op.mode.row(), next, bytes)
+    match op.mode.row() {
+        Row::One(pattern, OperandKind::Word) => {
+            word_target(image, op.mnemonic, pattern, operand_word(bytes))
+        }
+        row => branch_target(row, next, bytes),
+    }
 }
 
 /// The target of an item of code: none if the opcode is undefined or cut.
-fn code_target<A: Allocator>(image: &Image<A>, opcodes: &DecodeTable, item: Item<'_>) -> Option<u16>
+fn code_target<A: Allocator>(mapped: &MappedImage<'_, A>, item: Item<'_>) -> Option<u16>
     requires some { 0 < length item.bytes.now }
     requires all { item.len ≤ length item.bytes.now }
     requires room { item.address + item.len ≤ 65536 }
-    ensures { result ≡ opcode_target (table_of opcodes.now) image.now
+    ensures { result ≡ opcode_target (opcodes mapped.now) mapped.now.image
         item.entry.len item.entry.address item.entry.bytes.now }
 {
-    match opcodes.decode(item.bytes[0]) {
+    match mapped.opcodes().decode(item.bytes[0]) {
         Some(op) => {
             if item.len == op.mode.len() {
-                return operand_target(image, op, item.address, item.bytes);
+                return operand_target(mapped.image(), op, item.address, item.bytes);
             }
             None
         }
@@ -188,21 +173,15 @@ pub fn return_target(word: u16) -> Option<u16>
 
 /// The target of the item.
 #[tactic(auto, unfolding(crate::specs::Targets::target_for))]
-fn target_for<A: Allocator>(
-    info: &Info<A>,
-    image: &Image<A>,
-    opcodes: &DecodeTable,
-    item: Item<'_>,
-) -> Option<u16>
-    requires cpu { opcodes.now ≡ info.now.settings.cpu }
+fn target_for<A: Allocator>(mapped: &MappedImage<'_, A>, item: Item<'_>) -> Option<u16>
     requires some { 0 < length item.bytes.now }
     requires all { item.len ≤ length item.bytes.now }
     requires room { item.address + item.len ≤ 65536 }
-    ensures { result ≡ target_for (mapped info.now image.now)
+    ensures { result ≡ target_for mapped.now
         item.entry.role item.entry.len item.entry.address item.entry.bytes.now }
 {
     match item.role.layout().entry {
-        Entry::Instruction => code_target(image, opcodes, item),
+        Entry::Instruction => code_target(mapped, item),
         Entry::Address => {
             if item.len == 2 {
                 return Some(entry_of(item.bytes));
@@ -222,21 +201,19 @@ fn target_for<A: Allocator>(
 /// Returns the target of the item of this role and length that begins at the address.
 #[tactic(auto, unfolding(crate::specs::Targets::target_at))]
 pub fn target_at<A: Allocator>(
-    info: &Info<A>,
-    image: &Image<A>,
-    opcodes: &DecodeTable,
+    mapped: &MappedImage<'_, A>,
     role: RangeType,
     len: u8,
     address: u16,
 ) -> Option<u16>
-    requires cpu { opcodes.now ≡ info.now.settings.cpu }
-    requires low { image.now.start ≤ address }
-    requires high { address < end_of image.now }
-    requires room { address + len ≤ end_of image.now }
-    requires role { role ≡ role_of info.now address }
-    requires len { len ≡ item_len (mapped info.now image.now) address }
-    ensures { result ≡ target_at (mapped info.now image.now) address }
+    requires low { mapped.now.image.start ≤ address }
+    requires high { address < end_of mapped.now.image }
+    requires room { address + len ≤ end_of mapped.now.image }
+    requires role { role ≡ role_of mapped.now.info address }
+    requires len { len ≡ item_len mapped.now address }
+    ensures { result ≡ target_at mapped.now address }
 {
+    let image = mapped.image();
     let (_, bytes) = image.bytes().split_at(usize::from(address - image.start()));
     let item = Item {
         role,
@@ -244,5 +221,5 @@ pub fn target_at<A: Allocator>(
         address,
         bytes,
     };
-    target_for(info, image, opcodes, item)
+    target_for(mapped, item)
 }
