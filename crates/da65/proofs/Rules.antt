@@ -9,7 +9,7 @@ use Rattle.da65.proofs.NextLine.CommentLemmas.{given_told, some_printable}
 use Rattle.da65.proofs.NextLine.HeadingLemmas.{group-headings, heading-comment, heading-first, heading-forward, heading-none, headings-bare, headings-end, headings-run, headings-unmarked, headings-unnamed, segment-no, segment-yes}
 use Rattle.da65.proofs.NextLine.ListedGroupLemmas.{bare, has-bytes, is-inside, is-long, is-short, no-instruction, no-operands, of-role, statement-is}
 use Rattle.da65.proofs.NextLine.MarkLemmas.{unmarked, unnamed-comment}
-use Rattle.da65.proofs.NextLine.NextLemmas.{above-lines, beside-lines, constant-bare, constant-base, constant-comment, constant-moved, first-text, from-label, header-blank, lines-title, next-moved, next-plain, shown-start, takes-label, unlabelled-lines}
+use Rattle.da65.proofs.NextLine.NextLemmas.{above-lines, beside-lines, constant-bare, constant-base, constant-comment, first-text, from-label, header-blank, lines-title, next-moved, next-plain, shown-start, takes-label, unlabelled-lines}
 use Rattle.da65.proofs.Statements.EntryLemmas.{group_of_table}
 use Rattle.da65.proofs.Statements.PrintLaws.{statement_prints}
 use Rattle.std.proofs.lemmas.Bool.{true≢false}
@@ -20,8 +20,6 @@ pub ruleset comment_at_rules = (given_told, some_printable, unmarked, unnamed-co
 pub ruleset put_assignment_rules = (true≢false, constant-base)
 
 pub ruleset put_constant_rules = (constant-bare, constant-comment, next-moved, next-plain)
-
-pub ruleset put_next_constant_rules = (constant-moved, next-moved)
 
 pub ruleset are_bytes_rules = (All-from_get_or, common_steps)
 

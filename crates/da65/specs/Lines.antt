@@ -12,7 +12,7 @@ use Rattle.da65.specs.Segments.{segment_statement}
 use Rattle.da65.specs.Statements.{statement_at}
 use Rattle.da65.specs.Style.{style_of}
 use Rattle.da65.specs.declared.listing.place.ListingPlace.TheVariants.{Assignment, Group, Statement}
-use Rattle.stmt65.specs.Words.{MayBeLabelled, StatementView}
+use Rattle.stmt65.specs.Words.{MayBeLabelled}
 use Rattle.stmt65.specs.Views as view
 
 -- the lines of the groups from the k-th byte on
@@ -121,10 +121,6 @@ abbrev pub IsLineOf : MapView → List ListingLine → List ℕ → Bool → Typ
 IsLineOf m lines text true = IsFirstOf (style_of m.info.settings) lines text []
 IsLineOf m lines text false = lines ≡ []
 
--- this one is the forward line of an address in the group that begins at `first`
-abbrev pub IsForwardLine : MapView → ℕ → ℕ → List ℕ → Bool → Type 0
-IsForwardLine m first v text some = IsLineOf m (forward_lines (names_of m) first v) text some
-
 -- the line that enters a segment
 abbrev pub segment_line : Option (List ℕ) → ListingLine
 segment_line s = plain (segment_statement s)
@@ -150,21 +146,17 @@ LeadsTo m from to = MatchOption to (groups_left m from ≡ []) (λ at. groups_le
 abbrev pub IsHeaderLine : Style → ℕ → List ℕ → Type 0
 IsHeaderLine t n text = IsFirstOf t (drop n (header_lines t.cpu)) text (drop (n + 1) (header_lines t.cpu))
 
--- the text is that of the first line of the constants from an address on, `any` if one stands above
-abbrev pub IsConstantNext : MapView → ℕ → Bool → List ℕ → ListingPlace → Type 0
-IsConstantNext m v any text next = IsNext m (constants_left m v any) text next
+-- the text is that of the first line of the constants from an address on, whether or not one stands above
+abbrev pub IsConstantNext : MapView → ℕ → List ℕ → ListingPlace → Type 0
+IsConstantNext m v text next = (any : Bool) → IsNext m (constants_left m v any) text next
 
 -- the same, where there may be none
-abbrev pub MayBeConstantNext : MapView → ℕ → Bool → List ℕ → Option ListingPlace → Type 0
-MayBeConstantNext m v any text next = MatchOption next (constants_from m v ≡ []) (IsConstantNext m v any text)
+abbrev pub MayBeConstantNext : MapView → ℕ → List ℕ → Option ListingPlace → Type 0
+MayBeConstantNext m v text next = MatchOption next (constants_from m v ≡ []) (IsConstantNext m v text)
 
 -- the text is that of the constant line of an address
 abbrev pub IsAssignmentNext : MapView → ℕ → List ℕ → ListingPlace → Type 0
 IsAssignmentNext m v text next = IsNext m (assignment_line (names_of m) v ∷ constants_left m (v + 1) true) text next
-
--- this is the statement of that group
-abbrev pub IsStatementOf : MapView → ℕ → StatementView → Type 0
-IsStatementOf m k s = s ≡ statement_at m (m.image.start + k)
 
 -- the text is that of its label, or of its first line without headings
 abbrev pub IsLabelNext : MapView → ℕ → List ℕ → ListingPlace → Type 0

@@ -5,7 +5,7 @@ pub use Rattle.da65.specs.Choices.{app, this_program}
 pub use Rattle.da65.specs.Code.Bases.{constant_offset, is_own_name, target_at}
 unfoldable pub use Rattle.da65.specs.Code.KeySet.{has_bit}
 pub use Rattle.da65.specs.Code.Layout.{IsLayout}
-pub use Rattle.da65.specs.Code.ListedGroups.{AreOperandsIn, HasNoneBefore, IsGroupIn, IsGroupLine, IsGroupNext, IsHeading, IsInstructionIn, IsNextFrom, IsSegmentLine, IsUnnamed, labelled_group, operands_at}
+pub use Rattle.da65.specs.Code.ListedGroups.{AreOperandsIn, HasNoneBefore, IsForwardLine, IsGroupIn, IsGroupLine, IsGroupNext, IsHeading, IsInstructionIn, IsNextFrom, IsSegmentLine, IsStatementOf, IsUnnamed, labelled_group, operand_in, operands_at}
 pub use Rattle.da65.specs.Code.NamedCells.{is_unnamed, unnamed_len}
 pub use Rattle.da65.specs.Code.Preparing.{AddsNames, IsNameAt, NamesAll, Prepares, PreparesBy, PreparesWith, Stops, StopsFor, listed_by}
 pub use Rattle.da65.specs.Code.Refusals.{RefusesOrGivesUp, Tells}
@@ -19,7 +19,7 @@ unfoldable pub use Rattle.da65.specs.Groups.{begins, goes_on, group_addresses, g
 pub use Rattle.da65.specs.Instructions.{whole_in}
 unfoldable pub use Rattle.da65.specs.Instructions.{instruction_in}
 pub use Rattle.da65.specs.KnownNames.{Knows, KnowsAll, KnowsConstants, definition_of, definitions_of}
-pub use Rattle.da65.specs.Lines.{AreUnnamed, IsAssignmentNext, IsConstant, IsConstantNext, IsFirstOf, IsForwardLine, IsGroupStart, IsHeaderLine, IsLabelNext, IsNext, IsPlace, IsStatementOf, IsUnmarked, LeadsTo, MayBeConstantNext, MayBeNext, MayBeNextAt, PassesAll, PassesOver, PassesTo, heading_count, headings_from, left_from, lines_from, segment_line, with_blank_after}
+pub use Rattle.da65.specs.Lines.{AreUnnamed, IsAssignmentNext, IsConstant, IsConstantNext, IsFirstOf, IsGroupStart, IsHeaderLine, IsLabelNext, IsNext, IsPlace, IsUnmarked, LeadsTo, MayBeConstantNext, MayBeNext, MayBeNextAt, PassesAll, PassesOver, PassesTo, heading_count, headings_from, left_from, lines_from, segment_line, with_blank_after}
 unfoldable pub use Rattle.da65.specs.Lines.{after_group, constants_left, group_left, groups_left, heading_lines}
 pub use Rattle.da65.specs.Listing.{ListingLine, assignment_line, comment_line, comment_lines, comments, constant_lines, constants, forward_line, forward_lines, forwards, group_line, has_constant_line, has_empty_line, has_separator, header_lines, label_at, labelled, plain, separator_lines, with_empty_line}
 unfoldable pub use Rattle.da65.specs.Listing.{ending_lines, group_lines, line_text, lines_of, listing, listing_below, opening_lines, segment_lines, separator, statement_lines, text_of}

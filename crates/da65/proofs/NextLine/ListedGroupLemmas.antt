@@ -1,12 +1,12 @@
 -- The groups that the code lists, and their statements.
-use Rattle.std.proofs.Common.{◌≡◌, ◌∙◌, ◌⊎◌, inl, inr, ℕ, ◌<◌, ◌≤◌, List, length, Some, None, true, refl, ap, sym, subst, arith}
+use Rattle.std.proofs.Common.{◌≡◌, ◌∙◌, ◌⊎◌, inl, inr, ℕ, ◌+◌, ◌<◌, ◌≤◌, List, length, Some, None, true, refl, ap, sym, subst, arith}
 use Rattle.std.specs.Prelude.{is_some}
 use Rattle.std.proofs.lemmas.List.{length-take}
-use Rattle.isa65.specs.Words.{len_of}
-use Rattle.da65.specs.Words.{IsGroupIn, IsGroupOf, IsInstructionIn, IsStatementOf, AddressNames, Op, RangeType, Row, instruction_in, is_forced, names_of, operands_of, row_operands, statement_for, statement_in}
+use Rattle.isa65.specs.Words.{len_of, row_of}
+use Rattle.da65.specs.Words.{IsGroupIn, IsGroupOf, IsInstructionIn, IsStatementOf, AddressNames, Op, RangeType, Row, instruction_in, is_forced, names_of, operands_at, operands_of, row_operands, statement_for, statement_in}
 use Rattle.isa65.specs.declared.row.Row.TheVariants as row
 use Rattle.info65.specs.declared.information.range.RangeType.TheVariants.{Code}
-use Rattle.map65.specs.Words.{MapView, code_size, is_inside, opcodes, role_of}
+use Rattle.map65.specs.Words.{code_size, is_inside, opcodes, role_of}
 use Rattle.map65.proofs.Public.{inside-if}
 use Rattle.stmt65.specs.Views as view
 use Rattle.stmt65.specs.Words.{OperandsView, StatementView}
@@ -16,24 +16,23 @@ use Rattle.da65.proofs.Groups.ShapeLemmas.{group-shape}
 use Rattle.isa65.proofs.ModeLaws.{len-small}
 use Rattle.da65.proofs.Statements.EachStatement.{of_group}
 use Rattle.da65.proofs.Statements.Reassembly.{as-instruction, undefined, unreached}
-use Rattle.da65.proofs.Statements.StandsLaws.{begins_with}
 
-pub has-bytes : (m : MapView) (g : ListedGroup) → IsGroupIn m g → 0 < length g.bytes.now
-has-bytes m g is = omega (arith, is.len_is, group-some m g.index is.start.place is.start.inside is.start.shown)
+pub has-bytes : {A : Type 0} (g : ListedGroup A) → IsGroupIn g → 0 < length g.bytes.now
+has-bytes g is = omega (arith, is.len_is, group-some g.listed.now g.index is.start.place is.start.inside is.start.shown)
 
 -- its first byte lies in the image
-pub is-inside : (m : MapView) (g : ListedGroup) → IsGroupIn m g → is_inside m.image g.address ≡ true
-is-inside m g is = inside-if m g.address (omega (arith, is.address_is)) (omega (arith, is.address_is, is.start.inside))
+pub is-inside : {A : Type 0} (g : ListedGroup A) → IsGroupIn g → is_inside g.listed.now.image g.address ≡ true
+is-inside g is = inside-if g.listed.now g.address (omega (arith, is.address_is)) (omega (arith, is.address_is, is.start.inside))
 
 -- they are those of its role
-pub of-role : (m : MapView) (g : ListedGroup) → IsGroupIn m g → IsGroupOf (opcodes m) (role_of m.info g.address) g.bytes.now
-of-role m g is = rw (is.address_is, is.bytes_are) (group-shape m g.index is.start.place is.start.inside is.start.shown)
+pub of-role : {A : Type 0} (g : ListedGroup A) → IsGroupIn g → IsGroupOf (opcodes g.listed.now) (role_of g.listed.now.info g.address) g.bytes.now
+of-role g is = rw (is.address_is, is.bytes_are) (group-shape g.listed.now g.index is.start.place is.start.inside is.start.shown)
 
 -- they are few, whatever statement they have
-pub is-short : (m : MapView) (g : ListedGroup) → IsGroupIn m g → length g.bytes.now ≤ 16
-is-short m g is =
+pub is-short : {A : Type 0} (g : ListedGroup A) → IsGroupIn g → length g.bytes.now ≤ 16
+is-short g is =
     let bytes : List ℕ = g.bytes.now in
-    of_group (names_of m) (opcodes m) 0 bytes (λ s bs. length bs ≤ 16)
+    of_group (names_of g.listed.now) (opcodes g.listed.now) 0 bytes (λ s bs. length bs ≤ 16)
     (record { front = λ n low high long. omega (arith, length-take n bytes, high); instruction = λ op os e f. omega (arith, length-take (len_of op.mode) bytes, len-small op.mode) })
     (record {
       plain = λ few. omega (arith, few);
@@ -43,46 +42,54 @@ is-short m g is =
       nowhere = λ two e. omega (arith, two);
       return = λ b two other e. omega (arith, two);
     })
-    (role_of m.info g.address) (of-role m g is)
+    (role_of g.listed.now.info g.address) (of-role g is)
 
 -- its statement, by its own address and bytes
-pub statement-is : (m : MapView) (g : ListedGroup) (s : StatementView) → IsGroupIn m g
-    → s ≡ statement_for (names_of m) (opcodes m) (role_of m.info g.address) g.address g.bytes.now → IsStatementOf m g.index s
-statement-is m g s is told = told ∙ rw (is.address_is, is.bytes_are) refl
+pub statement-is : {A : Type 0} (g : ListedGroup A) (s : StatementView) → IsGroupIn g
+    → s ≡ statement_for (names_of g.listed.now) (opcodes g.listed.now) (role_of g.listed.now.info g.address) g.address g.bytes.now → IsStatementOf g s
+statement-is g s is told = told ∙ rw (is.address_is, is.bytes_are) refl
 
 -- ---- code
 
 -- an item of code is an instruction, or one byte
-code-item : (m : MapView) (g : ListedGroup) → IsGroupIn m g → role_of m.info g.address ≡ Code → code_size (instruction_in (opcodes m) g.bytes.now) ≡ length g.bytes.now
-code-item m g is code = subst (λ (r : RangeType). IsGroupOf (opcodes m) r g.bytes.now) code (of-role m g is)
+code-item : {A : Type 0} (g : ListedGroup A) → IsGroupIn g → role_of g.listed.now.info g.address ≡ Code → code_size (instruction_in (opcodes g.listed.now) g.bytes.now) ≡ length g.bytes.now
+code-item g is code = subst (λ (r : RangeType). IsGroupOf (opcodes g.listed.now) r g.bytes.now) code (of-role g is)
 
-code-is : (m : MapView) (g : ListedGroup) (s : StatementView) → IsGroupIn m g → role_of m.info g.address ≡ Code
-    → s ≡ statement_in (names_of m) (opcodes m) g.address g.bytes.now → IsStatementOf m g.index s
+code-is : {A : Type 0} (g : ListedGroup A) (s : StatementView) → IsGroupIn g → role_of g.listed.now.info g.address ≡ Code
+    → s ≡ statement_in (names_of g.listed.now) (opcodes g.listed.now) g.address g.bytes.now → IsStatementOf g s
 unfolding statement_for
-code-is m g s is code told =
-    statement-is m g s is (told ∙ ap (λ (r : RangeType). statement_for (names_of m) (opcodes m) r g.address g.bytes.now) (sym code))
+code-is g s is code told =
+    statement-is g s is (told ∙ ap (λ (r : RangeType). statement_for (names_of g.listed.now) (opcodes g.listed.now) r g.address g.bytes.now) (sym code))
 
 -- one that is no instruction is written as its bytes
-pub no-instruction : (m : MapView) (g : ListedGroup) → IsGroupIn m g → role_of m.info g.address ≡ Code → instruction_in (opcodes m) g.bytes.now ≡ None
-    → IsStatementOf m g.index (view.bytes g.bytes.now)
-no-instruction m g is code none =
-    code-is m g _ is code (sym (undefined (names_of m) (opcodes m) g.address g.bytes.now none (code-item m g is code)))
+pub no-instruction : {A : Type 0} (g : ListedGroup A) → IsGroupIn g → role_of g.listed.now.info g.address ≡ Code → instruction_in (opcodes g.listed.now) g.bytes.now ≡ None
+    → IsStatementOf g (view.bytes g.bytes.now)
+no-instruction g is code none =
+    code-is g _ is code (sym (undefined (names_of g.listed.now) (opcodes g.listed.now) g.address g.bytes.now none (code-item g is code)))
 
--- and so is one whose operands can't be written
-pub no-operands : (m : MapView) (g : ListedGroup) (op : Op) → IsInstructionIn m g op → None ≡ operands_of (names_of m) op.mode g.address g.bytes.now
-    → IsStatementOf m g.index (view.bytes g.bytes.now)
-no-operands m g op is none =
-    code-is m g _ is.group is.code
-    (sym (unreached (names_of m) (opcodes m) g.address g.bytes.now op is.begins (ap is_some none) (code-item m g is.group is.code)))
+-- it is the whole item
+is-whole : {A : Type 0} (g : ListedGroup A) (op : Op) → IsInstructionIn g op → len_of op.mode ≡ length g.bytes.now
+is-whole g op is = sym (ap code_size is.begins) ∙ code-item g is.group is.code
+
+pub is-long : {A : Type 0} (g : ListedGroup A) (op : Op) → IsInstructionIn g op → len_of op.mode ≤ length g.bytes.now
+is-long g op is = omega (arith, is-whole g op is)
+
+-- so these are its operands
+as-operands : {A : Type 0} (g : ListedGroup A) (op : Op) → IsInstructionIn g op → operands_at g op ≡ operands_of (names_of g.listed.now) op.mode g.address g.bytes.now
+unfolding operands_of
+as-operands g op is = ap (λ (n : ℕ). row_operands (names_of g.listed.now) (row_of op.mode) (g.address + n) g.bytes.now) (sym (is-whole g op is))
+
+-- if its operands can't be written, its bytes are
+pub no-operands : {A : Type 0} (g : ListedGroup A) (op : Op) → IsInstructionIn g op → None ≡ operands_at g op → IsStatementOf g (view.bytes g.bytes.now)
+no-operands g op is none =
+    code-is g _ is.group is.code
+    (sym (unreached (names_of g.listed.now) (opcodes g.listed.now) g.address g.bytes.now op is.begins (ap is_some (none ∙ as-operands g op is)) (code-item g is.group is.code)))
 
 -- any other is written as its instruction
-pub with-operands : (m : MapView) (g : ListedGroup) (op : Op) (os : OperandsView) → IsInstructionIn m g op
-    → Some os ≡ operands_of (names_of m) op.mode g.address g.bytes.now → IsStatementOf m g.index (view.instr op (is_forced (opcodes m) op g.bytes.now) os)
-with-operands m g op os is has = code-is m g _ is.group is.code (as-instruction (names_of m) (opcodes m) g.address g.bytes.now op os is.begins has)
-
--- it has all of its bytes
-pub is-long : (m : MapView) (g : ListedGroup) (op : Op) → IsInstructionIn m g op → len_of op.mode ≤ length g.bytes.now
-is-long m g op is = (begins_with (opcodes m) g.bytes.now op is.begins).long
+pub with-operands : {A : Type 0} (g : ListedGroup A) (op : Op) (os : OperandsView) → IsInstructionIn g op
+    → Some os ≡ operands_at g op → IsStatementOf g (view.instr op (is_forced (opcodes g.listed.now) op g.bytes.now) os)
+with-operands g op os is has =
+    code-is g _ is.group is.code (as-instruction (names_of g.listed.now) (opcodes g.listed.now) g.address g.bytes.now op os is.begins (has ∙ as-operands g op is))
 
 -- ---- operands
 

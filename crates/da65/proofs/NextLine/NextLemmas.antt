@@ -2,7 +2,7 @@
 use Rattle.std.proofs.Common.{◌≡◌, ◌≢◌, ◌∙◌, ℕ, zero, suc, ◌+◌, ◌-◌, ◌<◌, ◌≤◌, ◌∷◌, ◌++◌, Bool, true, false, List, Option, Some, None, drop, length, refl, ap, sym, subst, arith, append_assoc, []}
 use Rattle.std.specs.List.{flat_map}
 use Rattle.std.proofs.lemmas.Bool.{and_parts, cond-true}
-use Rattle.da65.specs.Words.{Constant, Cpu, Ending, Header, IsConstant, IsFirstOf, IsGroupPlace, IsGroupStart, IsLabelNext, IsNext, IsPlace, ListingLine, ListingPlace, MayBeNext, Style, after_group, assignment_line, base_name, comment_at, comment_line, comment_lines, constant_lines, constants, constants_left, ending_lines, group_bytes, group_len, group_line, group_lines, groups_left, has_constant_line, has_empty_line, header_lines, is_base, left_from, line_text, lines_from, listing, listing_below, names_of, plain, statement_at, statement_lines, style_of, with_blank_after}
+use Rattle.da65.specs.Words.{Constant, Cpu, Ending, Header, IsConstant, IsConstantNext, IsFirstOf, IsGroupPlace, IsGroupStart, IsLabelNext, IsNext, IsPlace, ListingLine, ListingPlace, MayBeNext, Style, after_group, assignment_line, base_name, comment_at, comment_line, comment_lines, constant_lines, constants, constants_left, ending_lines, group_bytes, group_len, group_line, group_lines, groups_left, has_constant_line, has_empty_line, header_lines, is_base, left_from, line_text, lines_from, listing, listing_below, names_of, plain, statement_at, statement_lines, style_of, with_blank_after}
 use Rattle.info65.specs.Words.{SettingsView}
 use Rattle.map65.specs.Words.{MapView, addresses, is_skip, item_len, opcodes, role_of}
 use Rattle.map65.proofs.Public.{begun}
@@ -96,9 +96,10 @@ pub constant-bare : (m : MapView) (v : ℕ) (any : Bool) → IsConstant m v → 
 unfolding constants_left
 constant-bare m v any is none = constants-first m v any _ _ (constants-here m v is ∙ ap (λ (o : Option (List ℕ)). comment_line o ++ assignment_line (names_of m) v ∷ constants m (65536 - (v + 1)) (v + 1)) none)
 
-pub constant-moved : (m : MapView) (v u : ℕ) (any : Bool) → constants m (65536 - v) v ≡ constants m (65536 - u) u → constants_left m v any ≡ constants_left m u any
+pub constant_onward : (m : MapView) (v u : ℕ) (text : List ℕ) (next : ListingPlace) → constants m (65536 - v) v ≡ constants m (65536 - u) u → IsConstantNext m u text next
+    → IsConstantNext m v text next
 unfolding constants_left
-constant-moved m v u any same = ap (λ (ls : List ListingLine). with_blank_after any ls ++ groups_left m 0) same
+constant_onward m v u text next same is = λ any. next-moved m _ _ text next (ap (λ (ls : List ListingLine). with_blank_after any ls ++ groups_left m 0) same) (is any)
 
 pub constant-end : (m : MapView) (v : ℕ) (any : Bool) → constants m (65536 - v) v ≡ [] → constants_left m v any ≡ with_blank_after any [] ++ groups_left m 0
 unfolding constants_left

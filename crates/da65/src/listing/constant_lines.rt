@@ -199,13 +199,12 @@ fn put_constant<A: Allocator>(
     out: &mut Line,
     listed: &ListedImage<'_, A>,
     address: usize,
-    after_another: bool,
     name: &[u8],
 ) -> ListingPlace
     requires is { IsConstant listed.now address }
     requires text { name.now ≡ base_name (names_of listed.now) address }
     requires long { IsNameLong name.now }
-    ensures { IsConstantNext listed.now address after_another out.new.items result }
+    ensures { IsConstantNext listed.now address out.new.items result }
 {
     if let Some(text) = comment_at(listed, address as u16) {
         put_plain(out, listed.style(), &Statement::Remark(text));
@@ -215,19 +214,17 @@ fn put_constant<A: Allocator>(
 }
 
 /// Replaces the buffer by the next line of constants from this address on, and returns the next place.
-#[tactic(auto, using(crate::proofs::Rules::put_next_constant_rules, std::proofs::lemmas::Grind::common_steps))]
 pub fn put_next_constant<A: Allocator>(
     out: &mut Line,
     listed: &ListedImage<'_, A>,
     from: usize,
-    after_another: bool,
 ) -> Option<ListingPlace>
     requires { from ≤ 65536 }
-    ensures { MayBeConstantNext listed.now from after_another out.new.items result }
+    ensures { MayBeConstantNext listed.now from out.new.items result }
 {
     let mut name = NameBuf::new();
     let address = constant_from(listed, from, &mut name)?;
-    Some(put_constant(out, listed, address, after_another, name.as_slice()))
+    Some(put_constant(out, listed, address, name.as_slice()))
 }
 
 /// Replaces the buffer by the constant line of this address, and returns the next place.

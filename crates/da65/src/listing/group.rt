@@ -1,32 +1,40 @@
 //! The group that a line lists.
 
-ghost use Rattle.std.specs.Prelude.{◌≡◌};
+ghost use Rattle.std.specs.Prelude.{◌≡◌, ◌+◌, ◌≤◌, length};
 ghost use Rattle.da65.specs.Words.{labelled_group};
 
+use crate::listing::listed_image::ListedImage;
+use std::alloc::Allocator;
+
 /// The group that a line lists: bytes of one role that follow each other.
-#[derive(Clone, Copy)]
-pub struct ListedGroup<'a> {
+#[derive(Drop)]
+pub struct ListedGroup<'g, 'a, A: Allocator> {
+    /// What it is a group of.
+    pub listed: &'g ListedImage<'a, A>,
     /// The index of its first byte in the image.
     pub index: usize,
     /// The address of its first byte.
     pub address: u16,
     /// Its bytes, 1 to 16.
-    pub bytes: &'a [u8],
+    pub bytes: &'g [u8],
     /// The label on the line of its statement, if there is one.
-    pub label: Option<&'a [u8]>,
+    pub label: Option<&'g [u8]>,
 }
 
-impl<'a> ListedGroup<'a> {
+impl<'a, A: Allocator> ListedGroup<'_, 'a, A> {
     /// This group, with this label.
-    pub fn with_label(self, label: &'a [u8]) -> ListedGroup<'a>
-        ensures { result ≡ labelled_group self.entry label.entry }
+    pub fn with_label<'l>(&'l self, label: &'l [u8]) -> ListedGroup<'l, 'a, A>
+        ensures { result ≡ labelled_group self.now label.entry }
     {
         let label = Some(label);
-        ListedGroup {
-            index: self.index,
-            address: self.address,
-            bytes: self.bytes,
-            label,
-        }
+        ListedGroup { label, ..*self }
+    }
+
+    /// The address after its last byte.
+    pub fn end(&self) -> u32
+        requires { self.now.address + length self.now.bytes.now ≤ 65536 }
+        ensures { result ≡ self.now.address + length self.now.bytes.now }
+    {
+        u32::from(self.address) + self.bytes.len() as u32
     }
 }

@@ -33,11 +33,15 @@ fn are_bytes(bytes: &[u8])
 /// The group that begins with the byte of this index, so far without a label.
 #[inline(always)]
 #[tactic(auto, using(crate::proofs::Rules::group_at_rules, std::proofs::lemmas::Grind::common_steps))]
-pub fn group_at<'a, A: Allocator>(listed: &ListedImage<'a, A>, index: usize) -> ListedGroup<'a>
+pub fn group_at<'g, 'a, A: Allocator>(
+    listed: &'g ListedImage<'a, A>,
+    index: usize,
+) -> ListedGroup<'g, 'a, A>
     requires { IsGroupStart listed.now index }
+    ensures listed { result.listed.now ≡ listed.now }
     ensures index { result.index ≡ index }
     ensures bare { result.label ≡ None }
-    ensures group { IsGroupIn listed.now result }
+    ensures group { IsGroupIn result }
 {
     let map = listed.map();
     let address = listed.address(index);
@@ -47,6 +51,7 @@ pub fn group_at<'a, A: Allocator>(listed: &ListedImage<'a, A>, index: usize) -> 
     // This does nothing; its clause says that each is a byte.
     are_bytes(bytes);
     ListedGroup {
+        listed,
         index,
         address,
         bytes,
@@ -59,15 +64,14 @@ pub fn group_at<'a, A: Allocator>(listed: &ListedImage<'a, A>, index: usize) -> 
 #[tactic(auto, using(crate::proofs::Rules::put_group_statement_rules, std::proofs::lemmas::Grind::common_steps), unfolding(crate::specs::Listing::line_text))]
 fn put_group_statement<A: Allocator>(
     out: &mut Line,
-    listed: &ListedImage<'_, A>,
-    group: ListedGroup<'_>,
+    group: &ListedGroup<'_, '_, A>,
     statement: &Statement<'_>,
 ) -> bool
-    requires group { IsGroupIn listed.now group }
-    requires statement { IsStatementOf listed.now group.index (statement_seen statement.now) }
-    ensures { IsGroupLine listed.now group.entry out.new.items result }
+    requires group { IsGroupIn group.now }
+    requires statement { IsStatementOf group.now (statement_seen statement.now) }
+    ensures { IsGroupLine group.now out.new.items result }
 {
-    let style = listed.style();
+    let style = group.listed.style();
     let remarks = Remarks {
         level: style.level,
         hexoffs: style.hexoffs,
@@ -82,148 +86,116 @@ fn put_group_statement<A: Allocator>(
 /// Puts the statement of a line of a table, as of `put_group_statement`, in a stack frame of its own: lines of code have a small one.
 #[inline(never)]
 #[tactic(auto, using(crate::proofs::Rules::put_table_line_rules, std::proofs::lemmas::Grind::common_steps))]
-fn put_table_line<A: Allocator>(
-    out: &mut Line,
-    listed: &ListedImage<'_, A>,
-    group: ListedGroup<'_>,
-) -> bool
-    requires table { role_of listed.now.info group.address ≢ RangeType.Code }
-    requires group { IsGroupIn listed.now group }
-    ensures { IsGroupLine listed.now group.entry out.new.items result }
+fn put_table_line<A: Allocator>(out: &mut Line, group: &ListedGroup<'_, '_, A>) -> bool
+    requires table { role_of group.now.listed.now.info group.now.address ≢ RangeType.Code }
+    requires group { IsGroupIn group.now }
+    ensures { IsGroupLine group.now out.new.items result }
 {
-    let map = listed.map();
+    let map = group.listed.map();
     let role = role_inside(map, group.address);
     let mut name = NameBuf::new();
     let statement = table_statement(map, role, group.bytes, &mut name);
-    put_group_statement(out, listed, group, &statement)
+    put_group_statement(out, group, &statement)
 }
 
 /// Puts the statement of an item of code that is written as its bytes.
 #[inline(never)]
-fn put_bytes_line<A: Allocator>(
-    out: &mut Line,
-    listed: &ListedImage<'_, A>,
-    group: ListedGroup<'_>,
-) -> bool
-    requires group { IsGroupIn listed.now group }
-    requires bytes { IsStatementOf listed.now group.index (view.bytes group.bytes.now) }
-    ensures { IsGroupLine listed.now group.entry out.new.items result }
+fn put_bytes_line<A: Allocator>(out: &mut Line, group: &ListedGroup<'_, '_, A>) -> bool
+    requires group { IsGroupIn group.now }
+    requires bytes { IsStatementOf group.now (view.bytes group.now.bytes.now) }
+    ensures { IsGroupLine group.now out.new.items result }
 {
-    put_group_statement(out, listed, group, &Statement::Bytes(group.bytes))
+    put_group_statement(out, group, &Statement::Bytes(group.bytes))
 }
 
 /// Puts the statement of an item of code that is written as this instruction, with these operands.
 #[inline(always)]
 fn put_instruction<A: Allocator>(
     out: &mut Line,
-    listed: &ListedImage<'_, A>,
-    group: ListedGroup<'_>,
+    group: &ListedGroup<'_, '_, A>,
     op: Op,
     operands: Operands<'_>,
 ) -> bool
-    requires item { IsInstructionIn listed.now group op }
-    requires operands { AreOperandsIn listed.now group op (operands_seen operands) }
-    ensures { IsGroupLine listed.now group.entry out.new.items result }
+    requires item { IsInstructionIn group.now op }
+    requires operands { AreOperandsIn group.now op (operands_seen operands) }
+    ensures { IsGroupLine group.now out.new.items result }
 {
-    let size = written_size(listed.opcodes(), op, group.bytes);
+    let size = written_size(group.listed.opcodes(), op, group.bytes);
     let statement = Statement::Instr { op, size, operands };
-    put_group_statement(out, listed, group, &statement)
+    put_group_statement(out, group, &statement)
 }
 
 /// Puts the statement of an item of code that is this instruction, with operands. If the target of one lies outside the
 /// address space, its bytes are written.
 #[inline(never)]
 #[tactic(auto, using(crate::proofs::Rules::put_with_operands_rules, std::proofs::lemmas::Grind::common_steps))]
-fn put_with_operands<A: Allocator>(
-    out: &mut Line,
-    listed: &ListedImage<'_, A>,
-    group: ListedGroup<'_>,
-    op: Op,
-) -> bool
-    requires { IsInstructionIn listed.now group op }
-    ensures { IsGroupLine listed.now group.entry out.new.items result }
+fn put_with_operands<A: Allocator>(out: &mut Line, group: &ListedGroup<'_, '_, A>, op: Op) -> bool
+    requires { IsInstructionIn group.now op }
+    ensures { IsGroupLine group.now out.new.items result }
 {
     let mut names = OperandNames::new();
-    match operands_of(listed.map(), op, group.address, group.bytes, &mut names) {
-        Some(operands) => put_instruction(out, listed, group, op, operands),
-        None => put_bytes_line(out, listed, group),
+    match operands_of(group, op, &mut names) {
+        Some(operands) => put_instruction(out, group, op, operands),
+        None => put_bytes_line(out, group),
     }
 }
 
 /// Puts the statement of an item of code that is this instruction, with operands. Most have one, and need no room for two names.
 #[inline(never)]
-#[tactic(auto, using(crate::proofs::Rules::put_with_operand_rules, std::proofs::lemmas::Grind::common_steps), unfolding(crate::specs::Statements::operands_of))]
-fn put_with_operand<A: Allocator>(
-    out: &mut Line,
-    listed: &ListedImage<'_, A>,
-    group: ListedGroup<'_>,
-    op: Op,
-) -> bool
-    requires { IsInstructionIn listed.now group op }
-    ensures { IsGroupLine listed.now group.entry out.new.items result }
+#[tactic(auto, using(crate::proofs::Rules::put_with_operand_rules, std::proofs::lemmas::Grind::common_steps))]
+fn put_with_operand<A: Allocator>(out: &mut Line, group: &ListedGroup<'_, '_, A>, op: Op) -> bool
+    requires { IsInstructionIn group.now op }
+    ensures { IsGroupLine group.now out.new.items result }
 {
     let Row::One(_, kind) = op.mode.row() else {
-        return put_with_operands(out, listed, group, op);
+        return put_with_operands(out, group, op);
     };
-    let next = u32::from(group.address) + u32::from(op.mode.len());
     let mut name = NameBuf::new();
-    match operand_expr(listed.map(), kind, next, 1, group.bytes, &mut name) {
-        Some(operand) => put_instruction(out, listed, group, op, Operands::One(operand)),
-        None => put_bytes_line(out, listed, group),
+    match operand_expr(group, kind, 1, &mut name) {
+        Some(operand) => put_instruction(out, group, op, Operands::One(operand)),
+        None => put_bytes_line(out, group),
     }
 }
 
 /// Puts the statement of an item of code.
 #[inline(always)]
-#[tactic(auto, using(crate::proofs::Rules::put_code_line_rules, std::proofs::lemmas::Grind::common_steps), unfolding(crate::specs::Statements::operands_of))]
-fn put_code_line<A: Allocator>(
-    out: &mut Line,
-    listed: &ListedImage<'_, A>,
-    group: ListedGroup<'_>,
-) -> bool
-    requires code { role_of listed.now.info group.address ≡ RangeType.Code }
-    requires group { IsGroupIn listed.now group }
-    ensures { IsGroupLine listed.now group.entry out.new.items result }
+#[tactic(auto, using(crate::proofs::Rules::put_code_line_rules, std::proofs::lemmas::Grind::common_steps))]
+fn put_code_line<A: Allocator>(out: &mut Line, group: &ListedGroup<'_, '_, A>) -> bool
+    requires code { role_of group.now.listed.now.info group.now.address ≡ RangeType.Code }
+    requires group { IsGroupIn group.now }
+    ensures { IsGroupLine group.now out.new.items result }
 {
-    let Some(op) = instruction_in(listed.opcodes(), group.bytes) else {
-        return put_bytes_line(out, listed, group);
+    let Some(op) = instruction_in(group.listed.opcodes(), group.bytes) else {
+        return put_bytes_line(out, group);
     };
     // Most instructions of some programs have no operand. Their line is made here, and no room for names is blanked.
     match op.mode.row() {
-        Row::Implied | Row::Accumulator => put_instruction(out, listed, group, op, Operands::None),
-        Row::One(..) | Row::Two(..) => put_with_operand(out, listed, group, op),
+        Row::Implied | Row::Accumulator => put_instruction(out, group, op, Operands::None),
+        Row::One(..) | Row::Two(..) => put_with_operand(out, group, op),
     }
 }
 
 /// Replaces the buffer by the statement of a group, after its label, and returns whether an empty line follows.
 #[inline(always)]
 #[tactic(auto, using(crate::proofs::Rules::put_statement_line_rules, std::proofs::lemmas::Grind::common_steps))]
-fn put_statement_line<A: Allocator>(
-    out: &mut Line,
-    listed: &ListedImage<'_, A>,
-    group: ListedGroup<'_>,
-) -> bool
-    requires { IsGroupIn listed.now group }
-    ensures { IsGroupLine listed.now group.entry out.new.items result }
+fn put_statement_line<A: Allocator>(out: &mut Line, group: &ListedGroup<'_, '_, A>) -> bool
+    requires { IsGroupIn group.now }
+    ensures { IsGroupLine group.now out.new.items result }
 {
-    if listed.map().is_code(group.address) {
-        put_code_line(out, listed, group)
+    if group.listed.map().is_code(group.address) {
+        put_code_line(out, group)
     } else {
-        put_table_line(out, listed, group)
+        put_table_line(out, group)
     }
 }
 
 /// Replaces the buffer by the statement of a group, after its label, and returns the next place.
 #[inline(always)]
-pub fn put_statement<A: Allocator>(
-    out: &mut Line,
-    listed: &ListedImage<'_, A>,
-    group: ListedGroup<'_>,
-) -> ListingPlace
-    requires { IsGroupIn listed.now group }
-    ensures { IsGroupNext listed.now group.entry out.new.items result }
+pub fn put_statement<A: Allocator>(out: &mut Line, group: &ListedGroup<'_, '_, A>) -> ListingPlace
+    requires { IsGroupIn group.now }
+    ensures { IsGroupNext group.now out.new.items result }
 {
-    let ends = put_statement_line(out, listed, group);
+    let ends = put_statement_line(out, group);
     let index = group.index + group.bytes.len();
     if ends {
         ListingPlace::Ending { index }
@@ -236,23 +208,19 @@ pub fn put_statement<A: Allocator>(
 /// label it is the statement.
 #[inline(never)]
 #[tactic(auto, using(crate::proofs::Rules::put_label_rules, std::proofs::lemmas::Grind::common_steps))]
-fn put_label<A: Allocator>(
-    out: &mut Line,
-    listed: &ListedImage<'_, A>,
-    group: ListedGroup<'_>,
-) -> ListingPlace
-    requires group { IsGroupIn listed.now group }
-    requires bare { group.label ≡ None }
-    ensures { IsLabelNext listed.now group.entry.index out.new.items result }
+fn put_label<A: Allocator>(out: &mut Line, group: &ListedGroup<'_, '_, A>) -> ListingPlace
+    requires group { IsGroupIn group.now }
+    requires bare { group.now.label ≡ None }
+    ensures { IsLabelNext group.now.listed.now group.now.index out.new.items result }
 {
     let mut name = NameBuf::new();
-    if !put_base(listed.map(), group.address, &mut name) {
-        return put_statement(out, listed, group);
+    if !put_base(group.listed.map(), group.address, &mut name) {
+        return put_statement(out, group);
     }
     let label = name.as_slice();
-    let style = listed.style();
+    let style = group.listed.style();
     if style.columns.fits_label(label) {
-        return put_statement(out, listed, group.with_label(label));
+        return put_statement(out, &group.with_label(label));
     }
     put_plain(out, style, &Statement::Label(label));
     ListingPlace::Statement { index: group.index }
@@ -261,19 +229,15 @@ fn put_label<A: Allocator>(
 /// Puts the label and the statement, as of `put_label`. Most groups begin at an address without a name, and need no buffer for one.
 #[inline(always)]
 #[tactic(auto, using(crate::proofs::Rules::put_labelled_rules, std::proofs::lemmas::Grind::common_steps))]
-fn put_labelled<A: Allocator>(
-    out: &mut Line,
-    listed: &ListedImage<'_, A>,
-    group: ListedGroup<'_>,
-) -> ListingPlace
-    requires group { IsGroupIn listed.now group }
-    requires bare { group.label ≡ None }
-    ensures { IsLabelNext listed.now group.entry.index out.new.items result }
+fn put_labelled<A: Allocator>(out: &mut Line, group: &ListedGroup<'_, '_, A>) -> ListingPlace
+    requires group { IsGroupIn group.now }
+    requires bare { group.now.label ≡ None }
+    ensures { IsLabelNext group.now.listed.now group.now.index out.new.items result }
 {
-    if listed.map().has_name(group.address) {
-        put_label(out, listed, group)
+    if group.listed.map().has_name(group.address) {
+        put_label(out, group)
     } else {
-        put_statement(out, listed, group)
+        put_statement(out, group)
     }
 }
 
@@ -282,21 +246,20 @@ fn put_labelled<A: Allocator>(
 #[tactic(auto, using(crate::proofs::Rules::put_group_line_rules, std::proofs::lemmas::Grind::common_steps))]
 pub fn put_group_line<A: Allocator>(
     out: &mut Line,
-    listed: &ListedImage<'_, A>,
-    group: ListedGroup<'_>,
+    group: &ListedGroup<'_, '_, A>,
     from: usize,
 ) -> ListingPlace
-    requires group { IsGroupIn listed.now group }
-    requires bare { group.label ≡ None }
-    ensures { IsNextFrom listed.now group.entry from out.new.items result }
+    requires group { IsGroupIn group.now }
+    requires bare { group.now.label ≡ None }
+    ensures { IsNextFrom group.now from out.new.items result }
 {
     for number in from..2 * group.bytes.len() + 1 {
-        if put_heading(out, listed, group, number) {
+        if put_heading(out, group, number) {
             return ListingPlace::Heading {
                 index: group.index,
                 number: number + 1,
             };
         }
     }
-    put_labelled(out, listed, group)
+    put_labelled(out, group)
 }

@@ -84,19 +84,15 @@ fn put_segment_line(out: &mut Line, style: &Style, segment: Option<&[u8]>)
 
 /// Replaces the buffer by the line that enters the segment of this group, if it is not that of the group before.
 #[tactic(auto, using(crate::proofs::Rules::put_segment_rules, std::proofs::lemmas::Grind::common_steps))]
-fn put_segment<A: Allocator>(
-    out: &mut Line,
-    listed: &ListedImage<'_, A>,
-    group: ListedGroup<'_>,
-) -> bool
-    requires { IsGroupIn listed.now group }
-    ensures { IsSegmentLine listed.now group.entry out.new.items result }
+fn put_segment<A: Allocator>(out: &mut Line, group: &ListedGroup<'_, '_, A>) -> bool
+    requires { IsGroupIn group.now }
+    ensures { IsSegmentLine group.now out.new.items result }
 {
-    let segment = segment_at(listed, group.address);
-    if is_same_segment(segment, segment_before(listed, group.index)) {
+    let segment = segment_at(group.listed, group.address);
+    if is_same_segment(segment, segment_before(group.listed, group.index)) {
         return false;
     }
-    put_segment_line(out, listed.style(), segment);
+    put_segment_line(out, group.listed.style(), segment);
     true
 }
 
@@ -113,26 +109,25 @@ fn put_comment<A: Allocator>(out: &mut Line, listed: &ListedImage<'_, A>, addres
     }
 }
 
-/// Replaces the buffer by the forward line of an address, if it is defined by name, in the group that begins at `first`. The buffer for
-/// the name has a stack frame of its own.
+/// Replaces the buffer by the forward line of an address of the group, if that is defined by name. The buffer for the name has a stack
+/// frame of its own.
 #[inline(never)]
 fn put_forward_named<A: Allocator>(
     out: &mut Line,
-    listed: &ListedImage<'_, A>,
-    first: u16,
+    group: &ListedGroup<'_, '_, A>,
     address: u16,
 ) -> bool
-    requires { first ≤ address }
-    ensures { IsForwardLine listed.now first address out.new.items result }
+    requires { group.now.address ≤ address }
+    ensures { IsForwardLine group.now address out.new.items result }
 {
     let mut name = NameBuf::new();
-    if !put_base(listed.map(), address, &mut name) {
+    if !put_base(group.listed.map(), address, &mut name) {
         return false;
     }
     put_plain(
         out,
-        listed.style(),
-        &Statement::Forward(name.as_slice(), address - first),
+        group.listed.style(),
+        &Statement::Forward(name.as_slice(), address - group.address),
     );
     true
 }
@@ -140,19 +135,14 @@ fn put_forward_named<A: Allocator>(
 /// Puts the forward line, as of `put_forward_named`. Most addresses have no name, and need no buffer for one.
 #[inline(always)]
 #[tactic(auto, using(crate::proofs::Names::BaseLemmas::base_unnamed))]
-fn put_forward<A: Allocator>(
-    out: &mut Line,
-    listed: &ListedImage<'_, A>,
-    first: u16,
-    address: u16,
-) -> bool
-    requires { first ≤ address }
-    ensures { IsForwardLine listed.now first address out.new.items result }
+fn put_forward<A: Allocator>(out: &mut Line, group: &ListedGroup<'_, '_, A>, address: u16) -> bool
+    requires { group.now.address ≤ address }
+    ensures { IsForwardLine group.now address out.new.items result }
 {
-    if !listed.map().has_name(address) {
+    if !group.listed.map().has_name(address) {
         return false;
     }
-    put_forward_named(out, listed, first, address)
+    put_forward_named(out, group, address)
 }
 
 /// Replaces the buffer by what has this number among the lines that may stand before the label of a group, if that is there.
@@ -160,43 +150,37 @@ fn put_forward<A: Allocator>(
 #[tactic(auto, using(crate::proofs::Rules::put_heading_rules, std::proofs::lemmas::Grind::common_steps), unfolding(crate::specs::Lines::heading_lines))]
 pub fn put_heading<A: Allocator>(
     out: &mut Line,
-    listed: &ListedImage<'_, A>,
-    group: ListedGroup<'_>,
+    group: &ListedGroup<'_, '_, A>,
     number: usize,
 ) -> bool
-    requires group { IsGroupIn listed.now group }
-    requires low { number < 2 * length group.bytes.now + 1 }
-    ensures { IsHeading listed.now group.entry number out.new.items result }
+    requires group { IsGroupIn group.now }
+    requires low { number < 2 * length group.now.bytes.now + 1 }
+    ensures { IsHeading group.now number out.new.items result }
 {
     if number == 0 {
-        return put_separator(out, listed, group.address);
+        return put_separator(out, group.listed, group.address);
     }
     if number == 1 {
-        return put_segment(out, listed, group);
+        return put_segment(out, group);
     }
     let byte = number - 2;
     let len = group.bytes.len();
     if byte < len {
-        put_comment(out, listed, group.address + byte as u16)
+        put_comment(out, group.listed, group.address + byte as u16)
     } else {
-        put_forward(
-            out,
-            listed,
-            group.address,
-            group.address + (byte - len + 1) as u16,
-        )
+        put_forward(out, group, group.address + (byte - len + 1) as u16)
     }
 }
 
 /// Whether no address of a group has a name.
 #[inline(always)]
-fn is_unnamed<A: Allocator>(listed: &ListedImage<'_, A>, group: ListedGroup<'_>) -> bool
-    requires { IsGroupIn listed.now group }
-    ensures { OnTrue result (IsUnnamed listed.now group.entry) }
+fn is_unnamed<A: Allocator>(group: &ListedGroup<'_, '_, A>) -> bool
+    requires { IsGroupIn group.now }
+    ensures { OnTrue result (IsUnnamed group.now) }
 {
     let first = usize::from(group.address);
     for address in first..first + group.bytes.len() {
-        if listed.map().has_name(address as u16) {
+        if group.listed.map().has_name(address as u16) {
             return false;
         }
     }
@@ -206,14 +190,14 @@ fn is_unnamed<A: Allocator>(listed: &ListedImage<'_, A>, group: ListedGroup<'_>)
 /// Whether a separator or a segment line may stand before a group. It stands only before the first group of a run.
 #[inline(always)]
 #[tactic(auto, using(crate::proofs::Rules::may_have_head_rules, std::proofs::lemmas::Grind::common_steps))]
-fn may_have_head<A: Allocator>(listed: &ListedImage<'_, A>, group: ListedGroup<'_>) -> bool
-    requires { IsGroupIn listed.now group }
-    ensures { OnFalse result (HasNoneBefore listed.now group.entry 2) }
+fn may_have_head<A: Allocator>(group: &ListedGroup<'_, '_, A>) -> bool
+    requires { IsGroupIn group.now }
+    ensures { OnFalse result (HasNoneBefore group.now 2) }
 {
-    if !listed.is_marked() {
+    if !group.listed.is_marked() {
         return false;
     }
-    if listed.map().is_in_run(group.address) {
+    if group.listed.map().is_in_run(group.address) {
         return false;
     }
     true
@@ -222,17 +206,17 @@ fn may_have_head<A: Allocator>(listed: &ListedImage<'_, A>, group: ListedGroup<'
 /// A number before which a group has no such lines. Most listings have none but forward lines, and most groups have no names.
 #[inline(always)]
 #[tactic(auto, using(crate::proofs::Rules::first_heading_rules, std::proofs::lemmas::Grind::common_steps))]
-pub fn first_heading<A: Allocator>(listed: &ListedImage<'_, A>, group: ListedGroup<'_>) -> usize
-    requires { IsGroupIn listed.now group }
-    ensures { HasNoneBefore listed.now group.entry result }
+pub fn first_heading<A: Allocator>(group: &ListedGroup<'_, '_, A>) -> usize
+    requires { IsGroupIn group.now }
+    ensures { HasNoneBefore group.now result }
 {
-    if may_have_head(listed, group) {
+    if may_have_head(group) {
         return 0;
     }
-    if is_unnamed(listed, group) {
+    if is_unnamed(group) {
         return 2 * group.bytes.len() + 1;
     }
-    if listed.is_marked() {
+    if group.listed.is_marked() {
         return 2;
     }
     2 + group.bytes.len()

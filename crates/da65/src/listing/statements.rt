@@ -4,9 +4,10 @@ ghost use Rattle.std.specs.Prelude.{◌≡◌, ◌≢◌, ◌+◌, ◌*◌, ◌<
 ghost use Rattle.info65.specs.Words.{AreNames};
 ghost use Rattle.isa65.specs.Words.{Table, len_of, size_of};
 ghost use Rattle.stmt65.specs.Words.{expr_seen, is_absolute, operands_seen, statement_seen};
-ghost use Rattle.da65.specs.Words.{IsGroupOf, address_entry, instruction_in, is_forced, names_of, numbers, operand_expr, operands_at, return_entry, statement_for};
+ghost use Rattle.da65.specs.Words.{IsGroupOf, address_entry, instruction_in, is_forced, names_of, numbers, operand_in, operands_at, return_entry, statement_for};
 
 use crate::listing::base_names::{address_expr, target, zero_page_expr};
+use crate::listing::group::ListedGroup;
 use info65::{Entry, RangeType};
 use isa65::{ByteOrder, Op, OpcodeSet, OperandKind, Row};
 use map65::{Map, NameBuf, entry_of, operand_word, target_of};
@@ -54,56 +55,52 @@ fn word_at(bytes: &[u8], at: usize) -> u16
     u16::from(bytes[at]) + 256 * u16::from(bytes[at + 1])
 }
 
-/// The operand of this kind whose bytes begin at an index; `next` is the address after the instruction. None if its target lies outside
+/// The operand of this kind whose bytes begin at an index of an instruction's, which are those of a group. None if its target lies outside
 /// the address space.
 #[inline(always)]
 pub fn operand_expr<'n, A: Allocator>(
-    map: &Map<'_, A>,
+    group: &ListedGroup<'_, '_, A>,
     kind: OperandKind,
-    next: u32,
     at: usize,
-    bytes: &[u8],
     name: &'n mut NameBuf,
 ) -> Option<Expr<'n>>
-    requires names { AreNames map.now.info.names }
-    requires all { at + size_of kind ≤ length bytes.now }
-    requires room { next ≤ 65536 }
-    ensures { option_map expr_seen result ≡ operand_expr (names_of map.now) kind next at bytes.now }
+    requires all { at + size_of kind ≤ length group.now.bytes.now }
+    requires room { group.now.address + length group.now.bytes.now ≤ 65536 }
+    ensures { option_map expr_seen result ≡ operand_in group.now kind at }
 {
+    let map = group.listed.map();
+    let bytes = group.bytes;
     match kind {
         OperandKind::Byte => Some(Expr::Number(u16::from(bytes[at]))),
         OperandKind::ZeroPage => Some(zero_page_expr(map, bytes[at], name)),
         OperandKind::Word => Some(address_expr(map, word_at(bytes, at), name)),
-        OperandKind::Distance => Some(address_expr(map, target_of(next, bytes[at])?, name)),
+        OperandKind::Distance => {
+            Some(address_expr(map, target_of(group.end(), bytes[at])?, name))
+        }
     }
 }
 
-/// The operands of an instruction at this address, whose bytes these begin with: none where a target lies outside the address space.
+/// The operands of an instruction, whose bytes are those of a group: none where a target lies outside the address space.
 #[inline(always)]
-#[tactic(auto, unfolding(crate::specs::Statements::operands_of))]
 pub fn operands_of<'n, A: Allocator>(
-    map: &Map<'_, A>,
+    group: &ListedGroup<'_, '_, A>,
     op: Op,
-    address: u16,
-    bytes: &[u8],
     names: &'n mut OperandNames,
 ) -> Option<Operands<'n>>
-    requires names { AreNames map.now.info.names }
-    requires all { len_of op.mode ≤ length bytes.now }
-    requires room { address + len_of op.mode ≤ 65536 }
-    ensures { option_map operands_seen result ≡ operands_at map.now op address bytes.now }
+    requires all { len_of op.mode ≤ length group.now.bytes.now }
+    requires room { group.now.address + length group.now.bytes.now ≤ 65536 }
+    ensures { option_map operands_seen result ≡ operands_at group.now op }
 {
-    let next = u32::from(address) + u32::from(op.mode.len());
     match op.mode.row() {
         Row::Implied | Row::Accumulator => Some(Operands::None),
         Row::One(_, kind) => {
-            let operand = operand_expr(map, kind, next, 1, bytes, &mut names.first)?;
+            let operand = operand_expr(group, kind, 1, &mut names.first)?;
             Some(Operands::One(operand))
         }
         Row::Two(first, second) => {
             let at = 1 + usize::from(first.size());
-            let tested = operand_expr(map, first, next, 1, bytes, &mut names.first)?;
-            let target = operand_expr(map, second, next, at, bytes, &mut names.second)?;
+            let tested = operand_expr(group, first, 1, &mut names.first)?;
+            let target = operand_expr(group, second, at, &mut names.second)?;
             Some(Operands::Two(tested, target))
         }
     }
