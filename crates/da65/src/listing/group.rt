@@ -1,13 +1,12 @@
 //! The group that a line lists.
 
-ghost use Rattle.std.specs.Prelude.{◌≡◌, ◌+◌, ◌≤◌, length};
+ghost use Rattle.std.specs.Prelude.{◌≡◌, ◌+◌, ◌≤◌, ⊤, length};
 ghost use Rattle.da65.specs.Words.{labelled_group};
 
 use crate::listing::listed_image::ListedImage;
-use std::alloc::Allocator;
+use std::alloc::{AllocError, Allocator};
 
 /// The group that a line lists: bytes of one role that follow each other.
-#[derive(Drop)]
 pub struct ListedGroup<'g, 'a, A: Allocator> {
     /// What it is a group of.
     pub listed: &'g ListedImage<'a, A>,
@@ -20,6 +19,18 @@ pub struct ListedGroup<'g, 'a, A: Allocator> {
     /// The label on the line of its statement, if there is one.
     pub label: Option<&'g [u8]>,
 }
+
+impl<A: Allocator> Clone for ListedGroup<'_, '_, A> {
+    ghost is_clone = { λ x y. y ≡ x };
+
+    ghost is_infallible = { λ _. ⊤ };
+
+    fn clone(&self) -> Result<Self, AllocError> {
+        Ok(*self)
+    }
+}
+
+impl<A: Allocator> Copy for ListedGroup<'_, '_, A> {}
 
 impl<'a, A: Allocator> ListedGroup<'_, 'a, A> {
     /// This group, with this label.

@@ -64,12 +64,12 @@ pub fn group_at<'g, 'a, A: Allocator>(
 #[tactic(auto, using(crate::proofs::Rules::put_group_statement_rules, std::proofs::lemmas::Grind::common_steps), unfolding(crate::specs::Listing::line_text))]
 fn put_group_statement<A: Allocator>(
     out: &mut Line,
-    group: &ListedGroup<'_, '_, A>,
+    group: ListedGroup<'_, '_, A>,
     statement: &Statement<'_>,
 ) -> bool
-    requires group { IsGroupIn group.now }
-    requires statement { IsStatementOf group.now (statement_seen statement.now) }
-    ensures { IsGroupLine group.now out.new.items result }
+    requires group { IsGroupIn group }
+    requires statement { IsStatementOf group (statement_seen statement.now) }
+    ensures { IsGroupLine group.entry out.new.items result }
 {
     let style = group.listed.style();
     let remarks = Remarks {
@@ -86,10 +86,10 @@ fn put_group_statement<A: Allocator>(
 /// Puts the statement of a line of a table, as of `put_group_statement`, in a stack frame of its own: lines of code have a small one.
 #[inline(never)]
 #[tactic(auto, using(crate::proofs::Rules::put_table_line_rules, std::proofs::lemmas::Grind::common_steps))]
-fn put_table_line<A: Allocator>(out: &mut Line, group: &ListedGroup<'_, '_, A>) -> bool
-    requires table { role_of group.now.listed.now.info group.now.address ≢ RangeType.Code }
-    requires group { IsGroupIn group.now }
-    ensures { IsGroupLine group.now out.new.items result }
+fn put_table_line<A: Allocator>(out: &mut Line, group: ListedGroup<'_, '_, A>) -> bool
+    requires table { role_of group.listed.now.info group.address ≢ RangeType.Code }
+    requires group { IsGroupIn group }
+    ensures { IsGroupLine group.entry out.new.items result }
 {
     let map = group.listed.map();
     let role = role_inside(map, group.address);
@@ -100,10 +100,10 @@ fn put_table_line<A: Allocator>(out: &mut Line, group: &ListedGroup<'_, '_, A>) 
 
 /// Puts the statement of an item of code that is written as its bytes.
 #[inline(never)]
-fn put_bytes_line<A: Allocator>(out: &mut Line, group: &ListedGroup<'_, '_, A>) -> bool
-    requires group { IsGroupIn group.now }
-    requires bytes { IsStatementOf group.now (view.bytes group.now.bytes.now) }
-    ensures { IsGroupLine group.now out.new.items result }
+fn put_bytes_line<A: Allocator>(out: &mut Line, group: ListedGroup<'_, '_, A>) -> bool
+    requires group { IsGroupIn group }
+    requires bytes { IsStatementOf group (view.bytes group.bytes.now) }
+    ensures { IsGroupLine group.entry out.new.items result }
 {
     put_group_statement(out, group, &Statement::Bytes(group.bytes))
 }
@@ -112,13 +112,13 @@ fn put_bytes_line<A: Allocator>(out: &mut Line, group: &ListedGroup<'_, '_, A>) 
 #[inline(always)]
 fn put_instruction<A: Allocator>(
     out: &mut Line,
-    group: &ListedGroup<'_, '_, A>,
+    group: ListedGroup<'_, '_, A>,
     op: Op,
     operands: Operands<'_>,
 ) -> bool
-    requires item { IsInstructionIn group.now op }
-    requires operands { AreOperandsIn group.now op (operands_seen operands) }
-    ensures { IsGroupLine group.now out.new.items result }
+    requires item { IsInstructionIn group op }
+    requires operands { AreOperandsIn group op (operands_seen operands) }
+    ensures { IsGroupLine group.entry out.new.items result }
 {
     let size = written_size(group.listed.opcodes(), op, group.bytes);
     let statement = Statement::Instr { op, size, operands };
@@ -129,9 +129,9 @@ fn put_instruction<A: Allocator>(
 /// address space, its bytes are written.
 #[inline(never)]
 #[tactic(auto, using(crate::proofs::Rules::put_with_operands_rules, std::proofs::lemmas::Grind::common_steps))]
-fn put_with_operands<A: Allocator>(out: &mut Line, group: &ListedGroup<'_, '_, A>, op: Op) -> bool
-    requires { IsInstructionIn group.now op }
-    ensures { IsGroupLine group.now out.new.items result }
+fn put_with_operands<A: Allocator>(out: &mut Line, group: ListedGroup<'_, '_, A>, op: Op) -> bool
+    requires { IsInstructionIn group op }
+    ensures { IsGroupLine group.entry out.new.items result }
 {
     let mut names = OperandNames::new();
     match operands_of(group, op, &mut names) {
@@ -143,9 +143,9 @@ fn put_with_operands<A: Allocator>(out: &mut Line, group: &ListedGroup<'_, '_, A
 /// Puts the statement of an item of code that is this instruction, with operands. Most have one, and need no room for two names.
 #[inline(never)]
 #[tactic(auto, using(crate::proofs::Rules::put_with_operand_rules, std::proofs::lemmas::Grind::common_steps))]
-fn put_with_operand<A: Allocator>(out: &mut Line, group: &ListedGroup<'_, '_, A>, op: Op) -> bool
-    requires { IsInstructionIn group.now op }
-    ensures { IsGroupLine group.now out.new.items result }
+fn put_with_operand<A: Allocator>(out: &mut Line, group: ListedGroup<'_, '_, A>, op: Op) -> bool
+    requires { IsInstructionIn group op }
+    ensures { IsGroupLine group.entry out.new.items result }
 {
     let Row::One(_, kind) = op.mode.row() else {
         return put_with_operands(out, group, op);
@@ -160,10 +160,10 @@ fn put_with_operand<A: Allocator>(out: &mut Line, group: &ListedGroup<'_, '_, A>
 /// Puts the statement of an item of code.
 #[inline(always)]
 #[tactic(auto, using(crate::proofs::Rules::put_code_line_rules, std::proofs::lemmas::Grind::common_steps))]
-fn put_code_line<A: Allocator>(out: &mut Line, group: &ListedGroup<'_, '_, A>) -> bool
-    requires code { role_of group.now.listed.now.info group.now.address ≡ RangeType.Code }
-    requires group { IsGroupIn group.now }
-    ensures { IsGroupLine group.now out.new.items result }
+fn put_code_line<A: Allocator>(out: &mut Line, group: ListedGroup<'_, '_, A>) -> bool
+    requires code { role_of group.listed.now.info group.address ≡ RangeType.Code }
+    requires group { IsGroupIn group }
+    ensures { IsGroupLine group.entry out.new.items result }
 {
     let Some(op) = instruction_in(group.listed.opcodes(), group.bytes) else {
         return put_bytes_line(out, group);
@@ -178,9 +178,9 @@ fn put_code_line<A: Allocator>(out: &mut Line, group: &ListedGroup<'_, '_, A>) -
 /// Replaces the buffer by the statement of a group, after its label, and returns whether an empty line follows.
 #[inline(always)]
 #[tactic(auto, using(crate::proofs::Rules::put_statement_line_rules, std::proofs::lemmas::Grind::common_steps))]
-fn put_statement_line<A: Allocator>(out: &mut Line, group: &ListedGroup<'_, '_, A>) -> bool
-    requires { IsGroupIn group.now }
-    ensures { IsGroupLine group.now out.new.items result }
+fn put_statement_line<A: Allocator>(out: &mut Line, group: ListedGroup<'_, '_, A>) -> bool
+    requires { IsGroupIn group }
+    ensures { IsGroupLine group.entry out.new.items result }
 {
     if group.listed.map().is_code(group.address) {
         put_code_line(out, group)
@@ -191,9 +191,9 @@ fn put_statement_line<A: Allocator>(out: &mut Line, group: &ListedGroup<'_, '_, 
 
 /// Replaces the buffer by the statement of a group, after its label, and returns the next place.
 #[inline(always)]
-pub fn put_statement<A: Allocator>(out: &mut Line, group: &ListedGroup<'_, '_, A>) -> ListingPlace
-    requires { IsGroupIn group.now }
-    ensures { IsGroupNext group.now out.new.items result }
+pub fn put_statement<A: Allocator>(out: &mut Line, group: ListedGroup<'_, '_, A>) -> ListingPlace
+    requires { IsGroupIn group }
+    ensures { IsGroupNext group.entry out.new.items result }
 {
     let ends = put_statement_line(out, group);
     let index = group.index + group.bytes.len();
@@ -208,10 +208,10 @@ pub fn put_statement<A: Allocator>(out: &mut Line, group: &ListedGroup<'_, '_, A
 /// label it is the statement.
 #[inline(never)]
 #[tactic(auto, using(crate::proofs::Rules::put_label_rules, std::proofs::lemmas::Grind::common_steps))]
-fn put_label<A: Allocator>(out: &mut Line, group: &ListedGroup<'_, '_, A>) -> ListingPlace
-    requires group { IsGroupIn group.now }
-    requires bare { group.now.label ≡ None }
-    ensures { IsLabelNext group.now.listed.now group.now.index out.new.items result }
+fn put_label<A: Allocator>(out: &mut Line, group: ListedGroup<'_, '_, A>) -> ListingPlace
+    requires group { IsGroupIn group }
+    requires bare { group.label ≡ None }
+    ensures { IsLabelNext group.entry.listed.now group.entry.index out.new.items result }
 {
     let mut name = NameBuf::new();
     if !put_base(group.listed.map(), group.address, &mut name) {
@@ -220,7 +220,7 @@ fn put_label<A: Allocator>(out: &mut Line, group: &ListedGroup<'_, '_, A>) -> Li
     let label = name.as_slice();
     let style = group.listed.style();
     if style.columns.fits_label(label) {
-        return put_statement(out, &group.with_label(label));
+        return put_statement(out, group.with_label(label));
     }
     put_plain(out, style, &Statement::Label(label));
     ListingPlace::Statement { index: group.index }
@@ -229,10 +229,10 @@ fn put_label<A: Allocator>(out: &mut Line, group: &ListedGroup<'_, '_, A>) -> Li
 /// Puts the label and the statement, as of `put_label`. Most groups begin at an address without a name, and need no buffer for one.
 #[inline(always)]
 #[tactic(auto, using(crate::proofs::Rules::put_labelled_rules, std::proofs::lemmas::Grind::common_steps))]
-fn put_labelled<A: Allocator>(out: &mut Line, group: &ListedGroup<'_, '_, A>) -> ListingPlace
-    requires group { IsGroupIn group.now }
-    requires bare { group.now.label ≡ None }
-    ensures { IsLabelNext group.now.listed.now group.now.index out.new.items result }
+fn put_labelled<A: Allocator>(out: &mut Line, group: ListedGroup<'_, '_, A>) -> ListingPlace
+    requires group { IsGroupIn group }
+    requires bare { group.label ≡ None }
+    ensures { IsLabelNext group.entry.listed.now group.entry.index out.new.items result }
 {
     if group.listed.map().has_name(group.address) {
         put_label(out, group)
@@ -246,12 +246,12 @@ fn put_labelled<A: Allocator>(out: &mut Line, group: &ListedGroup<'_, '_, A>) ->
 #[tactic(auto, using(crate::proofs::Rules::put_group_line_rules, std::proofs::lemmas::Grind::common_steps))]
 pub fn put_group_line<A: Allocator>(
     out: &mut Line,
-    group: &ListedGroup<'_, '_, A>,
+    group: ListedGroup<'_, '_, A>,
     from: usize,
 ) -> ListingPlace
-    requires group { IsGroupIn group.now }
-    requires bare { group.now.label ≡ None }
-    ensures { IsNextFrom group.now from out.new.items result }
+    requires group { IsGroupIn group }
+    requires bare { group.label ≡ None }
+    ensures { IsNextFrom group.entry from out.new.items result }
 {
     for number in from..2 * group.bytes.len() + 1 {
         if put_heading(out, group, number) {

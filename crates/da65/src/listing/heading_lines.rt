@@ -84,9 +84,9 @@ fn put_segment_line(out: &mut Line, style: &Style, segment: Option<&[u8]>)
 
 /// Replaces the buffer by the line that enters the segment of this group, if it is not that of the group before.
 #[tactic(auto, using(crate::proofs::Rules::put_segment_rules, std::proofs::lemmas::Grind::common_steps))]
-fn put_segment<A: Allocator>(out: &mut Line, group: &ListedGroup<'_, '_, A>) -> bool
-    requires { IsGroupIn group.now }
-    ensures { IsSegmentLine group.now out.new.items result }
+fn put_segment<A: Allocator>(out: &mut Line, group: ListedGroup<'_, '_, A>) -> bool
+    requires { IsGroupIn group }
+    ensures { IsSegmentLine group.entry out.new.items result }
 {
     let segment = segment_at(group.listed, group.address);
     if is_same_segment(segment, segment_before(group.listed, group.index)) {
@@ -114,11 +114,11 @@ fn put_comment<A: Allocator>(out: &mut Line, listed: &ListedImage<'_, A>, addres
 #[inline(never)]
 fn put_forward_named<A: Allocator>(
     out: &mut Line,
-    group: &ListedGroup<'_, '_, A>,
+    group: ListedGroup<'_, '_, A>,
     address: u16,
 ) -> bool
-    requires { group.now.address ≤ address }
-    ensures { IsForwardLine group.now address out.new.items result }
+    requires { group.address ≤ address }
+    ensures { IsForwardLine group.entry address out.new.items result }
 {
     let mut name = NameBuf::new();
     if !put_base(group.listed.map(), address, &mut name) {
@@ -135,9 +135,9 @@ fn put_forward_named<A: Allocator>(
 /// Puts the forward line, as of `put_forward_named`. Most addresses have no name, and need no buffer for one.
 #[inline(always)]
 #[tactic(auto, using(crate::proofs::Names::BaseLemmas::base_unnamed))]
-fn put_forward<A: Allocator>(out: &mut Line, group: &ListedGroup<'_, '_, A>, address: u16) -> bool
-    requires { group.now.address ≤ address }
-    ensures { IsForwardLine group.now address out.new.items result }
+fn put_forward<A: Allocator>(out: &mut Line, group: ListedGroup<'_, '_, A>, address: u16) -> bool
+    requires { group.address ≤ address }
+    ensures { IsForwardLine group.entry address out.new.items result }
 {
     if !group.listed.map().has_name(address) {
         return false;
@@ -150,12 +150,12 @@ fn put_forward<A: Allocator>(out: &mut Line, group: &ListedGroup<'_, '_, A>, add
 #[tactic(auto, using(crate::proofs::Rules::put_heading_rules, std::proofs::lemmas::Grind::common_steps), unfolding(crate::specs::Lines::heading_lines))]
 pub fn put_heading<A: Allocator>(
     out: &mut Line,
-    group: &ListedGroup<'_, '_, A>,
+    group: ListedGroup<'_, '_, A>,
     number: usize,
 ) -> bool
-    requires group { IsGroupIn group.now }
-    requires low { number < 2 * length group.now.bytes.now + 1 }
-    ensures { IsHeading group.now number out.new.items result }
+    requires group { IsGroupIn group }
+    requires low { number < 2 * length group.bytes.now + 1 }
+    ensures { IsHeading group.entry number out.new.items result }
 {
     if number == 0 {
         return put_separator(out, group.listed, group.address);
@@ -174,9 +174,9 @@ pub fn put_heading<A: Allocator>(
 
 /// Whether no address of a group has a name.
 #[inline(always)]
-fn is_unnamed<A: Allocator>(group: &ListedGroup<'_, '_, A>) -> bool
-    requires { IsGroupIn group.now }
-    ensures { OnTrue result (IsUnnamed group.now) }
+fn is_unnamed<A: Allocator>(group: ListedGroup<'_, '_, A>) -> bool
+    requires { IsGroupIn group }
+    ensures { OnTrue result (IsUnnamed group.entry) }
 {
     let first = usize::from(group.address);
     for address in first..first + group.bytes.len() {
@@ -190,9 +190,9 @@ fn is_unnamed<A: Allocator>(group: &ListedGroup<'_, '_, A>) -> bool
 /// Whether a separator or a segment line may stand before a group. It stands only before the first group of a run.
 #[inline(always)]
 #[tactic(auto, using(crate::proofs::Rules::may_have_head_rules, std::proofs::lemmas::Grind::common_steps))]
-fn may_have_head<A: Allocator>(group: &ListedGroup<'_, '_, A>) -> bool
-    requires { IsGroupIn group.now }
-    ensures { OnFalse result (HasNoneBefore group.now 2) }
+fn may_have_head<A: Allocator>(group: ListedGroup<'_, '_, A>) -> bool
+    requires { IsGroupIn group }
+    ensures { OnFalse result (HasNoneBefore group.entry 2) }
 {
     if !group.listed.is_marked() {
         return false;
@@ -206,9 +206,9 @@ fn may_have_head<A: Allocator>(group: &ListedGroup<'_, '_, A>) -> bool
 /// A number before which a group has no such lines. Most listings have none but forward lines, and most groups have no names.
 #[inline(always)]
 #[tactic(auto, using(crate::proofs::Rules::first_heading_rules, std::proofs::lemmas::Grind::common_steps))]
-pub fn first_heading<A: Allocator>(group: &ListedGroup<'_, '_, A>) -> usize
-    requires { IsGroupIn group.now }
-    ensures { HasNoneBefore group.now result }
+pub fn first_heading<A: Allocator>(group: ListedGroup<'_, '_, A>) -> usize
+    requires { IsGroupIn group }
+    ensures { HasNoneBefore group.entry result }
 {
     if may_have_head(group) {
         return 0;

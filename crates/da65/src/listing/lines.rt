@@ -83,7 +83,7 @@ fn put_first_line<A: Allocator>(
     ensures { IsNext listed.now (groups_left listed.now index) out.new.items result }
 {
     let group = group_at(listed, index);
-    put_group_line(out, &group, first_heading(&group))
+    put_group_line(out, group, first_heading(group))
 }
 
 /// Replaces the buffer by the first line of the next group from this byte on, and returns the next place.
@@ -160,9 +160,9 @@ fn put_next<A: Allocator>(
         ListingPlace::Assignment { address } => Some(put_assignment(out, listed, address)),
         ListingPlace::Group { index } => put_next_group(out, listed, index),
         ListingPlace::Heading { index, number } => {
-            Some(put_group_line(out, &group_at(listed, index), number))
+            Some(put_group_line(out, group_at(listed, index), number))
         }
-        ListingPlace::Statement { index } => { Some(put_statement(out, &group_at(listed, index))) }
+        ListingPlace::Statement { index } => { Some(put_statement(out, group_at(listed, index))) }
         ListingPlace::Ending { index } => {
             put_blank(out, listed.style());
             Some(ListingPlace::Group { index })

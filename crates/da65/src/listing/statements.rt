@@ -59,14 +59,14 @@ fn word_at(bytes: &[u8], at: usize) -> u16
 /// the address space.
 #[inline(always)]
 pub fn operand_expr<'n, A: Allocator>(
-    group: &ListedGroup<'_, '_, A>,
+    group: ListedGroup<'_, '_, A>,
     kind: OperandKind,
     at: usize,
     name: &'n mut NameBuf,
 ) -> Option<Expr<'n>>
-    requires all { at + size_of kind ≤ length group.now.bytes.now }
-    requires room { group.now.address + length group.now.bytes.now ≤ 65536 }
-    ensures { option_map expr_seen result ≡ operand_in group.now kind at }
+    requires all { at + size_of kind ≤ length group.bytes.now }
+    requires room { group.address + length group.bytes.now ≤ 65536 }
+    ensures { option_map expr_seen result ≡ operand_in group.entry kind at }
 {
     let map = group.listed.map();
     let bytes = group.bytes;
@@ -83,13 +83,13 @@ pub fn operand_expr<'n, A: Allocator>(
 /// The operands of an instruction, whose bytes are those of a group: none where a target lies outside the address space.
 #[inline(always)]
 pub fn operands_of<'n, A: Allocator>(
-    group: &ListedGroup<'_, '_, A>,
+    group: ListedGroup<'_, '_, A>,
     op: Op,
     names: &'n mut OperandNames,
 ) -> Option<Operands<'n>>
-    requires all { len_of op.mode ≤ length group.now.bytes.now }
-    requires room { group.now.address + length group.now.bytes.now ≤ 65536 }
-    ensures { option_map operands_seen result ≡ operands_at group.now op }
+    requires all { len_of op.mode ≤ length group.bytes.now }
+    requires room { group.address + length group.bytes.now ≤ 65536 }
+    ensures { option_map operands_seen result ≡ operands_at group.entry op }
 {
     match op.mode.row() {
         Row::Implied | Row::Accumulator => Some(Operands::None),

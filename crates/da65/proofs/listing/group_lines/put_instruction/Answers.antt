@@ -6,4 +6,4 @@ written_size-size-requires g c = is-long _ _ c.requires.item
 
 pub put_group_statement-requires-clause-statement : goal.put_group_statement-requires-clause-statement
 put_group_statement-requires-clause-statement g c =
-    rw (c.written_size-size.ensures, c.opcodes.ensures) (with-operands c.args.group.now c.args.op _ c.requires.item c.requires.operands)
+    rw (c.written_size-size.ensures, c.opcodes.ensures) (with-operands c.args.group c.args.op _ c.requires.item c.requires.operands)

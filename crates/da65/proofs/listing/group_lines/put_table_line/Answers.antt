@@ -6,7 +6,7 @@ use Rattle.da65.proofs.listing.group_lines.put_table_line.Goals as goal
 
 pub table_statement-statement-requires-clause-shape : goal.table_statement-statement-requires-clause-shape
 table_statement-statement-requires-clause-shape g c =
-    let of = c.args.group.now in
+    let of = c.args.group in
     let m = of.listed.now in
     rw (c.role_inside-role.ensures, c.map-map.ensures.map)
     (group_of_table (opcodes m) [] (role_of m.info of.address) of.bytes.now c.requires.table (of-role of c.requires.group))
