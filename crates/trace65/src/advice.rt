@@ -159,7 +159,7 @@ impl<'a> Advice<'a> {
         mark_pointers(steps.alloc(), &mut ground)?;
         mark_orphans(&mut ground, &survey, &pairs, &words)?;
         let bases = bases_of(&survey)?;
-        let labels = labels_of(steps, &pairs, &variables, &bases, [&splits, &declared])?;
+        let labels = labels_of(&survey, &pairs, &variables, &bases, [&splits, &declared])?;
         Ok(Advice {
             steps,
             taken: reach.taken,

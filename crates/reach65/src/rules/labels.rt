@@ -1,23 +1,33 @@
 //! The addresses that get labels with default names.
 
-use crate::rules::Steps;
 use crate::rules::bases::Base;
 use crate::rules::bytes::address;
 use crate::rules::declared::addresses_of;
 use crate::rules::halves::Pair;
+use crate::rules::survey::Survey;
 use crate::rules::tables::Split;
 use info65::TagKind;
 use std::alloc::AllocError;
 
+/// The address that gets a label for one that a group HALVES has: the one after it, if a routine begins there and no instruction at the address
+/// itself, since `rts` goes on after the address that it takes.
+fn meant(survey: &Survey<'_>, address: u16) -> u16 {
+    match address.checked_add(1) {
+        Some(next) if survey.is_routine(usize::from(next)) && !survey.reached.get(address) => next,
+        _ => address,
+    }
+}
+
 /// Returns the addresses that get labels, in order: of the pairs and the variables, of the tables from which operands are counted, in tables of
 /// halves, and those that groups HALVES and BASE give by themselves, but for those that a name of the file covers. Fails only if an allocation failed.
 pub fn labels_of(
-    steps: &Steps<'_>,
+    survey: &Survey<'_>,
     pairs: &[Pair],
     variables: &[u16],
     bases: &[Base],
     tables: [&[Split]; 2],
 ) -> Result<Vec<u16>, AllocError> {
+    let steps = survey.steps;
     let info = steps.map().info();
     let mut wanted = Vec::from_slice(steps.alloc(), variables)?;
     for base in bases {
@@ -28,9 +38,8 @@ pub fn labels_of(
     }
     for tag in steps.tags() {
         match (tag.kind, tag.address, tag.first) {
-            (TagKind::Halves, Some(address), _) | (TagKind::Base, _, Some(address)) => {
-                wanted.push(address)?;
-            }
+            (TagKind::Halves, Some(address), _) => wanted.push(meant(survey, address))?,
+            (TagKind::Base, _, Some(table)) => wanted.push(table)?,
             _ => {}
         }
     }
