@@ -9,11 +9,11 @@ use Rattle.text65.specs.Names.{has_name_form, is_blank}
 use Rattle.stmt65.specs.Words.{same}
 use Rattle.stmt65.specs.declared.source_line.Half.{Half}
 use Rattle.name65.specs.Changes.{AreListed, Becomes, IsList, IsRest, IsRevalued, IsRewritten, IsValue, LineBecomes, LinesBecome, Scope, address, as_before, comment, count_of, directive_of, halves, immediate, is_between, is_touched, is_touched_constant, may_keep, more, names_one, next_line, no_comment, none, reference_text, says, table}
-use Rattle.name65.specs.Written.{AppendsItem, AppendsOne, AreBlanks}
-use Rattle.name65.specs.declared.operands.Item.{Item}
+use Rattle.name65.specs.Written.{AppendsLine, AppendsOne, AreBlanks, scope_seen}
 use Rattle.name65.specs.declared.operands.Style.{Style}
 use Rattle.name65.specs.declared.operands.Style.TheVariants as style
-use Rattle.name65.specs.declared.reference.Reference.{Reference}
+use Rattle.name65.specs.declared.plan.NewText.{NewText}
+use Rattle.name65.specs.declared.plan.PlacedLine.{PlacedLine}
 
 -- the parts of what is cut at a place
 pub split_whole : {X : Type 0} (xs : List X) (mid : ℕ) (front back : List X) → IsSplitAt xs mid front back → xs ≡ front ++ back
@@ -92,45 +92,9 @@ rest_comment rest kept blanks after old first second new e b s k gap n = record 
 pub rest_as_before : (rest old new : List ℕ) → new ≡ old ++ rest → AppendsOne (IsRest rest) old new
 rest_as_before rest old new e = record { text = rest; is_one = as_before; whole = e }
 
--- the list of a directive
-pub table_done : (scope : Scope) (s : Style) (at end : ℕ) (line before word after old first second new : List ℕ) → line ≡ before ++ (word ++ after) → may_keep s ≡ true
-    → same word (directive_of s) ≡ true → first ≡ old ++ before → second ≡ first ++ word → AppendsOne (IsList scope s at end after) second new
-    → AppendsOne (IsRewritten scope at end line) old new
-table_done scope s at end line before word after old first second new e k w f g a = record {
-  text = before ++ (word ++ a.text);
-  is_one = rw e (table s before word k w a.is_one);
-  whole = rw (a.whole, g, f) (simp append_assoc refl);
-}
-
--- a list that becomes one of halves
-pub halves_done : (scope : Scope) (which : Half) (at end : ℕ) (line before word after blanks text old first second third new : List ℕ) → line ≡ before ++ (word ++ after)
-    → after ≡ blanks ++ text → list_all is_blank blanks ≡ true → same word (codes ".byte") ≡ true → first ≡ old ++ before
-    → second ≡ first ++ directive_of (style.Halves which) → AppendsOne AreBlanks second third → AppendsOne (IsList scope (style.Halves which) at end text) third new
-    → AppendsOne (IsRewritten scope at end line) old new
-halves_done scope which at end line before word after blanks text old first second third new e split b w f g gap a = record {
-  text = before ++ (directive_of (style.Halves which) ++ (gap.text ++ a.text));
-  is_one = rw (e, split) (halves which before word blanks gap.text w b gap.is_one a.is_one);
-  whole = rw (a.whole, gap.whole, g, f) (simp append_assoc refl);
-}
-
--- an operand after `#`
-pub immediate_done : (scope : Scope) (at end : ℕ) (line before sign after old first second new : List ℕ) → line ≡ before ++ (sign ++ after) → sign ≡ 35 ∷ [] → scope.named at ≡ false
-    → first ≡ old ++ before → second ≡ first ++ 35 ∷ [] → AppendsOne (IsList scope style.Bytes (at + 1) end after) second new → AppendsOne (IsRewritten scope at end line) old new
-immediate_done scope at end line before sign after old first second new e s n f g a = record {
-  text = before ++ 35 ∷ a.text;
-  is_one = rw (e, s) (immediate before n a.is_one);
-  whole = rw (a.whole, g, f) (simp append_assoc refl);
-}
-
--- the address of an instruction
-pub address_done : (scope : Scope) (at end : ℕ) (line before was after old first second new : List ℕ) (r : Reference) → line ≡ before ++ (was ++ after) → IsValue scope.language was
-    → has_name_form r.name.now ≡ true → scope.named at ≡ true → names_one scope.named (at + 1) end ≡ false → first ≡ old ++ before → second ≡ first ++ reference_text r
-    → AppendsOne (IsRest after) second new → AppendsOne (IsRewritten scope at end line) old new
-address_done scope at end line before was after old first second new r e v n m others f g a = record {
-  text = before ++ (reference_text r ++ a.text);
-  is_one = rw e (address before was r v n m others a.is_one);
-  whole = rw (a.whole, g, f) (simp append_assoc refl);
-}
+-- a text in front of one that was appended
+pub fronted : (P Q : List ℕ → Type 0) (old first new front : List ℕ) → first ≡ old ++ front → AppendsOne P first new → ((text : List ℕ) → P text → Q (front ++ text)) → AppendsOne Q old new
+fronted P Q old first new front e a q = record { text = front ++ a.text; is_one = q a.text a.is_one; whole = rw (a.whole, e, append_assoc) refl }
 
 -- a line with another value
 pub revalued : (line before was after first second now new : List ℕ) → line ≡ before ++ (was ++ after) → list_all no_comment was ≡ true → first ≡ before → second ≡ first ++ now
@@ -156,3 +120,14 @@ idle scope at end line e f = rw e f
 pub unnamed : (scope : Scope) (at end : ℕ) (line : List ℕ) → at < end → names_one scope.named at end ≡ false → is_touched scope at end line ≡ false
 unfolding is_touched
 unnamed scope at end line h e = let test : nat_lt at end ≡ true = grind (arith, nat_tests, h) in rw (test, e) refl
+
+-- what is no list of which operands may stay is one of halves
+pub halved : (s : Style) → may_keep s ≡ false → (which : Half) × (s ≡ style.Halves which)
+halved (style.Halves which) e = (which, refl)
+halved style.Bytes e = cc
+halved style.Words e = cc
+
+-- a line was appended as it becomes, and nothing moves behind the last line
+pub in_place : (placed : PlacedLine) (old new : NewText) (text : List ℕ) → LineBecomes (scope_seen placed.plan.now) placed.at placed.end placed.line.now text []
+    → new.lines.items ≡ old.lines.items ++ text → new.tail.items ≡ old.tail.items → AppendsLine placed old new
+in_place placed old new text is e t = record { text = text; moved = []; becomes = is; whole = e; tail_is = t ∙ sym (append-nil _) }

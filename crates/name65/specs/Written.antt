@@ -8,6 +8,7 @@ use Rattle.name65.specs.Changes.{Becomes, IsList, IsNumber, IsRewritten, LineBec
 use Rattle.name65.specs.declared.constants.Fate.{Fate}
 use Rattle.name65.specs.declared.constants.Fate.TheVariants.{Kept, LeftOut, Moved}
 use Rattle.name65.specs.declared.operands.Item.{Item}
+use Rattle.name65.specs.declared.plan.NewText.{NewText}
 use Rattle.name65.specs.declared.plan.PlacedLine.{PlacedLine}
 use Rattle.name65.specs.declared.plan.Plan.{Plan}
 use Rattle.name65.specs.declared.rewriting.Run.{Run}
@@ -23,36 +24,40 @@ pub record AppendsOne (IsOne : List ℕ → Type 0) (old new : List ℕ) : Type 
   pub whole : new ≡ old ++ text
 
 -- what stands in the place of a line that gives bytes was appended
-abbrev pub Rewrites : Plan → PlacedLine → List ℕ → List ℕ → Type 0
-Rewrites plan placed old new = AppendsOne (IsRewritten (scope_seen plan) placed.at placed.end placed.line.now) old new
+abbrev pub Rewrites : PlacedLine → List ℕ → List ℕ → Type 0
+Rewrites placed old new = AppendsOne (IsRewritten (scope_seen placed.plan.now) placed.at placed.end placed.line.now) old new
 
 -- what an operand becomes was appended
-abbrev pub Replaces : Plan → Item → List ℕ → List ℕ → Type 0
-Replaces plan item old new = AppendsOne (Becomes (scope_seen plan) item.style item.at item.was.now) old new
+abbrev pub Replaces : Item → List ℕ → List ℕ → Type 0
+Replaces item old new = AppendsOne (Becomes (scope_seen item.plan.now) item.style item.at item.was.now) old new
 
 -- what a list and what stands after it become was appended
-abbrev pub Lists : Plan → Run → List ℕ → List ℕ → Type 0
-Lists plan run old new = AppendsOne (IsList (scope_seen plan) run.style run.at run.end run.text.now) old new
+abbrev pub Lists : Run → List ℕ → List ℕ → Type 0
+Lists run old new = AppendsOne (IsList (scope_seen run.plan.now) run.style run.at run.end run.text.now) old new
+
+-- what was appended is the beginning of the line if that list is appended to it
+abbrev pub Opens : PlacedLine → Run → List ℕ → List ℕ → Type 0
+Opens placed run old new = (whole : List ℕ) → Lists run new whole → Rewrites placed old whole
 
 -- a number that a group names
-pub record IsNamedNumber (scope : Scope) (item : Item) : Type 0 where
-  pub number : IsNumber scope.language item.was.now
-  pub named : scope.named item.at ≡ true
+pub record IsNamedNumber (item : Item) : Type 0 where
+  pub number : IsNumber item.plan.now.language item.was.now
+  pub named : is_marked item.plan.now.marks.now item.at ≡ true
 
 -- an operand and what stands before it were appended
-pub record AppendsItem (scope : Scope) (item : Item) (old new : List ℕ) : Type 0 where
+pub record AppendsItem (item : Item) (old new : List ℕ) : Type 0 where
   pub now : List ℕ
   pub all_between : list_all is_between item.between.now ≡ true
-  pub becomes : Becomes scope item.style item.at item.was.now now
+  pub becomes : Becomes (scope_seen item.plan.now) item.style item.at item.was.now now
   pub whole : new ≡ (old ++ item.between.now) ++ now
 
 -- a line was appended as it becomes, and what moves behind the last line
-pub record AppendsLine (scope : Scope) (placed : PlacedLine) (old new tail later : List ℕ) : Type 0 where
+pub record AppendsLine (placed : PlacedLine) (old new : NewText) : Type 0 where
   pub text : List ℕ
   pub moved : List ℕ
-  pub becomes : LineBecomes scope placed.at placed.end placed.line.now text moved
-  pub whole : new ≡ old ++ text
-  pub tail_is : later ≡ tail ++ moved
+  pub becomes : LineBecomes (scope_seen placed.plan.now) placed.at placed.end placed.line.now text moved
+  pub whole : new.lines.items ≡ old.lines.items ++ text
+  pub tail_is : new.tail.items ≡ old.tail.items ++ moved
 
 -- what becomes of the constant line of a name with a value may become of it
 abbrev pub IsFate : Scope → ℕ → Fate → Type 0

@@ -1,6 +1,6 @@
 //! The lines of a listing, each as it becomes.
 
-ghost use Rattle.std.specs.Prelude.{◌≡◌, ◌-◌, [], IfOk, OnOk, length, slice_get};
+ghost use Rattle.std.specs.Prelude.{◌≡◌, ◌-◌, IfOk, OnOk, length, slice_get};
 ghost use Rattle.std.specs.Option.{unwrap_or};
 ghost use Rattle.text65.specs.Lines.{text_lines};
 ghost use Rattle.map65.specs.Words.{is_marked};
@@ -14,65 +14,61 @@ use crate::complaint::Refusal;
 use crate::constant_line::{put_idle, put_kept};
 use crate::constants::names_after;
 use crate::marks::{has_mark, mark_named};
-use crate::plan::{PlacedLine, Plan};
+use crate::plan::{NewText, PlacedLine, Plan};
 use crate::wishes::Wishes;
 use info65::{Info, Tag};
 use std::alloc::Global;
 use stmt65::{Assembly, LineEnds, Source, Symbols};
 use text65::first_line;
 
-/// Appends what stands in the place of a line. A line that moves is appended to the tail.
+/// Appends what stands in the place of a line.
 #[tactic(auto, unfolding(crate::specs::Changes::is_touched))]
-fn put_line(
-    out: &mut Vec<u8>,
-    tail: &mut Vec<u8>,
-    change: &mut Vec<u8>,
-    plan: &Plan<'_, '_>,
-    placed: &PlacedLine<'_>,
-) -> Result<(), Refusal>
-    ensures { OnOk result (AppendsLine (scope_seen plan.now) placed.now
-        out.old.items out.new.items tail.old.items tail.new.items) }
+fn put_line(out: &mut NewText, placed: &PlacedLine<'_, '_>) -> Result<(), Refusal>
+    ensures { OnOk result (AppendsLine placed.now out.old out.new) }
 {
     if placed.end <= placed.at {
-        return put_idle(out, tail, plan, placed);
+        return put_idle(out, placed);
     }
-    if !has_mark(plan.marks, placed.at, placed.end) {
-        return Ok(put_kept(out, placed.line)?);
+    if !has_mark(placed.plan.marks, placed.at, placed.end) {
+        return Ok(put_kept(&mut out.lines, placed.line)?);
     }
-    change.clear();
-    put_operation(change, plan, placed)?;
-    Ok(put_kept(out, change.as_slice())?)
+    out.change.clear();
+    put_operation(&mut out.change, placed)?;
+    Ok(put_kept(&mut out.lines, out.change.as_slice())?)
 }
 
-/// Appends the lines of a text that begins at an address, each as it becomes, by the address after each. Lines that move are appended to the
-/// tail.
-fn put_lines(
-    out: &mut Vec<u8>,
-    tail: &mut Vec<u8>,
-    plan: &Plan<'_, '_>,
-    start: u64,
-    text: &[u8],
+/// The lines of a source, each as it becomes, by the address after each.
+fn new_lines<'w, 't>(
+    plan: &'w Plan<'w, 't>,
+    source: &Source<'t, '_, '_>,
     ends: &LineEnds<&Global>,
-) -> Result<(), Refusal>
-    requires out { out.old.items ≡ [] }
-    requires tail { tail.old.items ≡ [] }
-    ensures { OnOk result (LinesBecome (scope_seen plan.now) start
-        (text_lines text.now) ends.now out.new.items tail.new.items) }
+) -> Result<NewText, Refusal>
+    ensures { IfOk result (λ new. LinesBecome (scope_seen plan.now) source.now.start
+        (text_lines source.now.text.now) ends.now new.lines.items new.tail.items) }
 {
-    let mut change = Vec::new(plan.alloc);
-    let mut at = start;
-    let mut rest = text;
+    let mut out = NewText {
+        lines: Vec::new(plan.alloc),
+        tail: Vec::new(plan.alloc),
+        change: Vec::new(plan.alloc),
+    };
+    let mut at = u64::from(source.start);
+    let mut rest = source.text;
     let mut left = ends.iter();
     'lines: while let Some((line, after)) = first_line(rest) {
         let Some(end) = left.next() else {
             return Err(Refusal::Changed);
         };
-        let placed = PlacedLine { line, at, end };
-        put_line(out, tail, &mut change, plan, &placed)?;
+        let placed = PlacedLine {
+            plan,
+            line,
+            at,
+            end,
+        };
+        put_line(&mut out, &placed)?;
         at = end;
         rest = after;
     }
-    Ok(())
+    Ok(out)
 }
 
 /// The last of some addresses, or the start if there are none.
@@ -111,17 +107,9 @@ pub fn changed_text<'t, 'b>(
         last: last_of(source.start, &assembly.ends),
         wishes: &wishes,
     };
-    let mut text = Vec::new(*alloc);
-    let mut tail = Vec::new(*alloc);
-    put_lines(
-        &mut text,
-        &mut tail,
-        &plan,
-        u64::from(source.start),
-        source.text,
-        &assembly.ends,
-    )?;
-    text.extend_from_slice(&tail)?;
+    let mut new = new_lines(&plan, source, &assembly.ends)?;
+    new.lines.extend_from_slice(&new.tail)?;
     let names = names_after(alloc, &plan, assembly.names.definitions())?;
+    let text = new.lines;
     Ok(Changed { text, names })
 }

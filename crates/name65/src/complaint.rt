@@ -1,6 +1,6 @@
 //! Why a listing can't be written as the groups of the lines `#: ..` ask.
 
-ghost use Rattle.std.specs.Prelude.{◌≡◌};
+ghost use Rattle.std.specs.Prelude.{◌≡◌, ◌+◌, IfOk, IsTrue, OnOk};
 ghost use Rattle.name65.specs.declared.complaint.Refusal.TheVariants.{Memory};
 
 use std::alloc::AllocError;
@@ -52,5 +52,22 @@ impl From<AllocError> for Refusal {
 
     fn from(_: AllocError) -> Refusal {
         Refusal::Memory
+    }
+}
+
+/// Refuses a line unless this holds of it.
+pub fn need(holds: bool) -> Result<(), Refusal>
+    ensures { OnOk result (IsTrue holds) }
+{
+    if holds { Ok(()) } else { Err(Refusal::Changed) }
+}
+
+/// The address this many bytes after one.
+pub fn after(at: u64, count: u64) -> Result<u64, Refusal>
+    ensures { IfOk result (λ next. next ≡ at + count) }
+{
+    match at.checked_add(count) {
+        Some(next) => Ok(next),
+        None => Err(Refusal::Changed),
     }
 }

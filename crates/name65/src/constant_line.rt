@@ -6,9 +6,9 @@ ghost use Rattle.stmt65.specs.Words.{Assignment, numeral_of};
 ghost use Rattle.name65.specs.Changes.{IsRevalued, is_touched_constant, no_comment, says};
 ghost use Rattle.name65.specs.Written.{AppendsLine, IsPlaced, scope_seen};
 
-use crate::complaint::Refusal;
+use crate::complaint::{Refusal, need};
 use crate::constants::{Fate, fate_of};
-use crate::plan::{PlacedLine, Plan};
+use crate::plan::{NewText, PlacedLine, Plan};
 use crate::rewriting::{cut_at, put_rest};
 use files65::put_decimal;
 use std::alloc::AllocError;
@@ -45,12 +45,8 @@ fn moved(plan: &Plan<'_, '_>, line: &[u8], distance: u64) -> Result<Vec<u8>, Ref
     let Some(span) = value_of(plan.language, line) else {
         return Err(Refusal::Changed);
     };
-    let Some(found) = cut_at(line, span.from, span.to) else {
-        return Err(Refusal::Changed);
-    };
-    if !has_no_comment(found.within) {
-        return Err(Refusal::Changed);
-    }
+    let found = cut_at(line, span.from, span.to)?;
+    need(has_no_comment(found.within))?;
     let mut out = Vec::new(plan.alloc);
     out.extend_from_slice(found.before)?;
     put_decimal(&mut out, b":= * + ", distance as usize)?;
@@ -71,30 +67,25 @@ fn is_placed(plan: &Plan<'_, '_>, line: &[u8], name: &[u8], value: u64) -> Resul
     }
 }
 
-/// Appends what stands in the place of the constant line of a name. A line that moves is appended to the tail.
+/// Appends what stands in the place of the constant line of a name.
 fn put_constant(
-    out: &mut Vec<u8>,
-    tail: &mut Vec<u8>,
-    plan: &Plan<'_, '_>,
-    placed: &PlacedLine<'_>,
+    out: &mut NewText,
+    placed: &PlacedLine<'_, '_>,
     name: &[u8],
     n: Numeral<'_>,
 ) -> Result<(), Refusal>
-    requires { says (scope_seen plan.now) placed.now.line.now
+    requires { says (scope_seen placed.now.plan.now) placed.now.line.now
         ≡ Some (Assignment name.now (numeral_of n)) }
-    ensures { OnOk result (AppendsLine (scope_seen plan.now) placed.now
-        out.old.items out.new.items tail.old.items tail.new.items) }
+    ensures { OnOk result (AppendsLine placed.now out.old out.new) }
 {
-    let value = n.value();
+    let (plan, value) = (placed.plan, n.value());
     match fate_of(plan, name, value) {
-        Fate::Kept => Ok(put_kept(out, placed.line)?),
+        Fate::Kept => Ok(put_kept(&mut out.lines, placed.line)?),
         Fate::LeftOut => Ok(()),
         Fate::Moved(distance) => {
             let line = moved(plan, placed.line, distance)?;
-            if !is_placed(plan, &line, name, value)? {
-                return Err(Refusal::Changed);
-            }
-            Ok(put_kept(tail, &line)?)
+            need(is_placed(plan, &line, name, value)?)?;
+            Ok(put_kept(&mut out.tail, &line)?)
         }
     }
 }
@@ -114,22 +105,13 @@ fn constant_in<'l>(
     }
 }
 
-/// Appends what stands in the place of a line that gives no bytes. A constant line that moves is appended to the tail.
-pub fn put_idle(
-    out: &mut Vec<u8>,
-    tail: &mut Vec<u8>,
-    plan: &Plan<'_, '_>,
-    placed: &PlacedLine<'_>,
-) -> Result<(), Refusal>
+/// Appends what stands in the place of a line that gives no bytes.
+pub fn put_idle(out: &mut NewText, placed: &PlacedLine<'_, '_>) -> Result<(), Refusal>
     requires { nat_lt placed.now.at placed.now.end ≡ false }
-    ensures { OnOk result (AppendsLine (scope_seen plan.now) placed.now
-        out.old.items out.new.items tail.old.items tail.new.items) }
+    ensures { OnOk result (AppendsLine placed.now out.old out.new) }
 {
-    match constant_in(plan, placed.line)? {
-        Some((name, n)) => put_constant(out, tail, plan, placed, name, n),
-        None => {
-            put_kept(out, placed.line)?;
-            Ok(())
-        }
+    match constant_in(placed.plan, placed.line)? {
+        Some((name, n)) => put_constant(out, placed, name, n),
+        None => Ok(put_kept(&mut out.lines, placed.line)?),
     }
 }

@@ -6,6 +6,7 @@
 ghost use Rattle.std.specs.Prelude.{IfErr, IfOk};
 ghost use Rattle.name65.specs.NamedText.{MeansTheSame, Reports};
 
+use crate::constant_line::put_kept;
 use crate::failure::{Failure, Refused};
 use crate::named_text::assembled;
 use std::alloc::{AllocError, Global};
@@ -35,11 +36,6 @@ fn kind_of(alloc: Global, language: Language, line: &[u8]) -> Result<Kind, Alloc
     })
 }
 
-fn put_line(out: &mut Vec<u8>, line: &[u8]) -> Result<(), AllocError> {
-    out.extend_from_slice(line)?;
-    out.extend_from_slice(b"\n")
-}
-
 /// Appends the lines `NAME := * + n`, and before them the label of the line that follows; what comes after the label keeps its column.
 fn put_split(
     out: &mut Vec<u8>,
@@ -47,21 +43,18 @@ fn put_split(
     line: &[u8],
     has_operation: bool,
 ) -> Result<(), AllocError> {
-    let colon = line
-        .iter()
-        .position(|byte| *byte == b':')
-        .unwrap_or(line.len());
-    let end = colon.saturating_add(1).min(line.len());
     if !has_operation {
-        put_line(out, line)?;
+        put_kept(out, line)?;
         return out.extend_from_slice(places);
     }
-    put_line(out, line.get(..end).unwrap_or(&[]))?;
+    let before = line.iter().take_while(|byte| **byte != b':').count();
+    let (label, rest) = line.split_at(before.saturating_add(1).min(line.len()));
+    put_kept(out, label)?;
     out.extend_from_slice(places)?;
-    for byte in line.get(..end).unwrap_or(&[]) {
+    for byte in label {
         out.push(if is_blank(*byte) { *byte } else { b' ' })?;
     }
-    put_line(out, line.get(end..).unwrap_or(&[]))
+    put_kept(out, rest)
 }
 
 /// The lines of a text, each label before the names inside its instruction.
@@ -71,7 +64,7 @@ fn reordered(alloc: Global, source: &Source<'_, '_, '_>) -> Result<Vec<u8>, Allo
     let mut rest = source.text;
     'lines: while let Some((line, after)) = first_line(rest) {
         match kind_of(alloc, source.language, line)? {
-            Kind::Place => put_line(&mut places, line)?,
+            Kind::Place => put_kept(&mut places, line)?,
             Kind::Label(has_operation) if !places.is_empty() => {
                 put_split(&mut out, &places, line, has_operation)?;
                 places.clear();
@@ -79,7 +72,7 @@ fn reordered(alloc: Global, source: &Source<'_, '_, '_>) -> Result<Vec<u8>, Allo
             _ => {
                 out.extend_from_slice(&places)?;
                 places.clear();
-                put_line(&mut out, line)?;
+                put_kept(&mut out, line)?;
             }
         }
         rest = after;

@@ -35,27 +35,9 @@ use labels_first::with_labels_first;
 use named_text::named_text;
 use request::{Naming, request_of};
 use std::process::ExitCode;
-use stmt65::Source;
 use usage65::{Request, words_of};
 
-/// A listing by names; if that is asked for, with its labels first.
-fn named_source(
-    rt: &HostRuntime,
-    naming: &Naming,
-    source: &Source<'_, '_, '_>,
-    info: &Info,
-    tags: &[Tag],
-) -> Result<Vec<u8>, Failure> {
-    let name = naming.names.listing.as_str();
-    if !naming.labels_first {
-        return named_text(rt.alloc(), name, source, info, tags, naming.used);
-    }
-    let text = with_labels_first(rt.alloc(), name, source)?;
-    let source = repair(source.layout, source.start, &text);
-    named_text(rt.alloc(), name, &source, info, tags, naming.used)
-}
-
-/// The listing of this text by names.
+/// The listing of this text by names; if that is asked for, with its labels first.
 fn named_under(
     rt: &HostRuntime,
     naming: &Naming,
@@ -63,9 +45,16 @@ fn named_under(
     tags: &[Tag],
     text: &[u8],
 ) -> Result<Vec<u8>, Failure> {
+    let name = naming.names.listing.as_str();
     let layout = layout_of(rt.alloc(), info.segments(), naming.fill)?;
     let start = start_or_end(rt.alloc(), info.settings().start, &layout, text)?;
-    named_source(rt, naming, &repair(&layout, start, text), info, tags)
+    let source = repair(&layout, start, text);
+    if !naming.labels_first {
+        return named_text(rt.alloc(), name, &source, info, tags, naming.used);
+    }
+    let text = with_labels_first(rt.alloc(), name, &source)?;
+    let source = repair(&layout, start, &text);
+    named_text(rt.alloc(), name, &source, info, tags, naming.used)
 }
 
 /// The listing of these files by names. Halves that a NUMBER takes back count for nothing.

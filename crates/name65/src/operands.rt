@@ -3,12 +3,13 @@
 ghost use Rattle.std.specs.Prelude.{◌≡◌, ◌++◌, IsTrue, OnOk};
 ghost use Rattle.std.specs.List.{list_all};
 ghost use Rattle.name65.specs.Changes.{IsValue, address_text, count_of, directive_of, is_between, may_keep, size_of};
-ghost use Rattle.name65.specs.Written.{AppendsItem, IsNamedNumber, Replaces, scope_seen};
+ghost use Rattle.name65.specs.Written.{AppendsItem, IsNamedNumber, Replaces};
 
-use crate::complaint::{Complaint, Refusal};
+use crate::complaint::{Complaint, Refusal, after, need};
 use crate::marks::has_mark;
 use crate::plan::Plan;
 use crate::reference::{Reference, put_half, put_reference};
+use crate::rewriting::Run;
 use crate::wishes::{Wish, Wished, Wishes};
 use std::alloc::AllocError;
 use stmt65::{Datum, Half, Language, Places, Span, Value, read_value};
@@ -100,81 +101,52 @@ pub fn keep_free(wishes: &Wishes<'_>, from: u64, count: u64) -> Result<(), Refus
     Ok(())
 }
 
-/// Goes over the operands of a line, each of which gives so many bytes unless it is a string.
-#[derive(Drop)]
-pub struct Operands<'w, 't, 'l> {
-    wishes: &'w Wishes<'t>,
-    places: Places<'l>,
-    size: u64,
+/// What stands in the place of a number of a list, whose first byte is at an address.
+fn of_number<'t>(run: &Run<'_, 't>, address: u64) -> Result<Operand<'t>, Refusal> {
+    let (wishes, size) = (run.plan.wishes, run.style.size());
+    let Some(wished) = wishes.at(address) else {
+        keep_free(wishes, address, size)?;
+        return Ok(Operand::Kept);
+    };
+    let next = address.saturating_add(1);
+    match wished.wish {
+        Wish::Half(half, to)
+            if size == 1 || half == Half::Low && wishes.is_half(next, Half::High, to) => {
+            Ok(Operand::Address(half, to))
+        }
+        Wish::Difference(to, from) if size == 2 => Ok(Operand::Difference(to, from)),
+        _ => misplaced(wished, address),
+    }
 }
 
-impl<'w, 't, 'l> Operands<'w, 't, 'l> {
-    /// The operands of a line that are left.
-    pub fn new(wishes: &'w Wishes<'t>, places: Places<'l>, size: u64) -> Operands<'w, 't, 'l> {
-        Operands {
-            wishes,
-            places,
-            size,
+/// Where the next operand of a list stands, whose first byte is at an address, and what stands in its place.
+pub fn next_operand<'t>(
+    run: &Run<'_, 't>,
+    places: &mut Places<'_>,
+    address: u64,
+) -> Result<Option<(Span, Operand<'t>)>, Refusal> {
+    let Some(found) = places.operand() else {
+        return Ok(None);
+    };
+    let count = match found.datum {
+        Datum::Value(Value::Number(_) | Value::Sum(_, _)) => {
+            return Ok(Some((found.span, of_number(run, address)?)));
         }
-    }
-
-    /// Where the last part of the line ends that was passed over.
-    pub fn end(&self) -> usize {
-        self.places.end()
-    }
-
-    /// Whether a number whose first byte is at an address is this half of another address, or a word that is that address.
-    fn is_address(&self, address: u64, half: Half, reference: Reference<'t>) -> bool {
-        let next = address.saturating_add(1);
-        self.size == 1 || half == Half::Low && self.wishes.is_half(next, Half::High, reference)
-    }
-
-    /// What stands in the place of a number whose first byte is at an address.
-    fn of_number(&self, address: u64) -> Result<Operand<'t>, Refusal> {
-        match self.wishes.at(address) {
-            None => {
-                keep_free(self.wishes, address, self.size)?;
-                Ok(Operand::Kept)
-            }
-            Some(wished) => match wished.wish {
-                Wish::Half(half, reference) if self.is_address(address, half, reference) => {
-                    Ok(Operand::Address(half, reference))
-                }
-                Wish::Difference(name, other) if self.size == 2 => {
-                    Ok(Operand::Difference(name, other))
-                }
-                _ => misplaced(wished, address),
-            },
-        }
-    }
-
-    /// Where the next operand stands, whose first byte is at an address, and what stands in its place.
-    pub fn next(&mut self, address: u64) -> Result<Option<(Span, Operand<'t>)>, Refusal> {
-        let Some(found) = self.places.operand() else {
-            return Ok(None);
-        };
-        let operand = match found.datum {
-            Datum::Value(Value::Number(_) | Value::Sum(_, _)) => self.of_number(address)?,
-            Datum::String(text) => {
-                keep_free(self.wishes, address, text.len() as u64)?;
-                Operand::Kept
-            }
-            _ => {
-                keep_free(self.wishes, address, self.size)?;
-                Operand::Kept
-            }
-        };
-        Ok(Some((found.span, operand)))
-    }
+        Datum::String(text) => text.len() as u64,
+        _ => run.style.size(),
+    };
+    keep_free(run.plan.wishes, address, count)?;
+    Ok(Some((found.span, Operand::Kept)))
 }
 
 /// An operand of a list, with its first byte at an address, and what stands between it and what comes before it.
 #[derive(Clone, Copy)]
-pub struct Item<'l> {
+pub struct Item<'w, 't> {
+    pub plan: &'w Plan<'w, 't>,
     pub style: Style,
     pub at: u64,
-    pub between: &'l [u8],
-    pub was: &'l [u8],
+    pub between: &'t [u8],
+    pub was: &'t [u8],
 }
 
 /// Whether the byte is a blank, or one of `,<>()`.
@@ -201,26 +173,13 @@ pub fn is_value(language: Language, text: &[u8]) -> bool
 }
 
 /// Whether an operand is a number that a group names.
-fn is_named_number(plan: &Plan<'_, '_>, item: &Item<'_>) -> bool
-    ensures { IsTrue result → IsNamedNumber (scope_seen plan.now) item.now }
+fn is_named_number(item: &Item<'_, '_>) -> bool
+    ensures { IsTrue result → IsNamedNumber item.now }
 {
-    match read_value(plan.language, item.was) {
-        Some(Value::Number(_) | Value::Sum(_, _)) => plan.marks.get_at(item.at as usize),
+    match read_value(item.plan.language, item.was) {
+        Some(Value::Number(_) | Value::Sum(_, _)) => item.plan.marks.get_at(item.at as usize),
         _ => false,
     }
-}
-
-/// Appends an operand as it was. Fails if a group names a byte of it.
-fn put_kept(out: &mut Vec<u8>, plan: &Plan<'_, '_>, item: &Item<'_>) -> Result<(), Refusal>
-    ensures { OnOk result (Replaces plan.now item.now out.old.items out.new.items) }
-{
-    let Some(next) = item.at.checked_add(count_of(item.style, item.was)) else {
-        return Err(Refusal::Changed);
-    };
-    if !item.style.may_keep() || has_mark(plan.marks, item.at, next) {
-        return Err(Refusal::Changed);
-    }
-    Ok(out.extend_from_slice(item.was)?)
 }
 
 /// Appends an address by a name as it stands in a list.
@@ -239,37 +198,27 @@ fn put_in_list(
     }
 }
 
-/// Appends an address in the place of an operand. Fails unless that is a number that a group names.
-fn put_named(
-    out: &mut Vec<u8>,
-    plan: &Plan<'_, '_>,
-    item: &Item<'_>,
-    half: Half,
-    reference: Reference<'_>,
-) -> Result<(), Refusal>
-    ensures { OnOk result (Replaces plan.now item.now out.old.items out.new.items) }
+/// Appends what stands in the place of an operand. Fails if that may not stand there: an operand of which a group names a byte may not
+/// stay, and only a number that a group names may change, to a difference only if it is a word.
+fn put_operand(out: &mut Vec<u8>, item: &Item<'_, '_>, operand: Operand<'_>) -> Result<(), Refusal>
+    ensures { OnOk result (Replaces item.now out.old.items out.new.items) }
 {
-    if !is_named_number(plan, item) || !has_name_form(reference.name) {
-        return Err(Refusal::Changed);
-    }
-    Ok(put_in_list(out, item.style, half, reference)?)
-}
-
-/// Appends a difference in the place of an operand. Fails unless that is a word that a group names.
-fn put_difference(
-    out: &mut Vec<u8>,
-    plan: &Plan<'_, '_>,
-    item: &Item<'_>,
-    to: &[u8],
-    from: &[u8],
-) -> Result<(), Refusal>
-    ensures { OnOk result (Replaces plan.now item.now out.old.items out.new.items) }
-{
-    if !is_named_number(plan, item) || !has_name_form(to) || !has_name_form(from) {
-        return Err(Refusal::Changed);
-    }
-    match item.style {
-        Style::Words => {
+    match (operand, item.style) {
+        (Operand::Kept, style) => {
+            let next = after(item.at, count_of(style, item.was))?;
+            need(style.may_keep())?;
+            need(!has_mark(item.plan.marks, item.at, next))?;
+            Ok(out.extend_from_slice(item.was)?)
+        }
+        (Operand::Address(half, reference), style) => {
+            need(is_named_number(item))?;
+            need(has_name_form(reference.name))?;
+            Ok(put_in_list(out, style, half, reference)?)
+        }
+        (Operand::Difference(to, from), Style::Words) => {
+            need(is_named_number(item))?;
+            need(has_name_form(to))?;
+            need(has_name_form(from))?;
             out.extend_from_slice(to)?;
             out.extend_from_slice(b" - ")?;
             Ok(out.extend_from_slice(from)?)
@@ -278,34 +227,11 @@ fn put_difference(
     }
 }
 
-fn put_operand(
-    out: &mut Vec<u8>,
-    plan: &Plan<'_, '_>,
-    item: &Item<'_>,
-    operand: Operand<'_>,
-) -> Result<(), Refusal>
-    ensures { OnOk result (Replaces plan.now item.now out.old.items out.new.items) }
-{
-    match operand {
-        Operand::Kept => put_kept(out, plan, item),
-        Operand::Address(half, reference) => put_named(out, plan, item, half, reference),
-        Operand::Difference(to, from) => put_difference(out, plan, item, to, from),
-    }
-}
-
 /// Appends what stands before an operand, and what stands in its place. Fails if that may not stand there.
-pub fn put_item(
-    out: &mut Vec<u8>,
-    plan: &Plan<'_, '_>,
-    item: &Item<'_>,
-    operand: Operand<'_>,
-) -> Result<(), Refusal>
-    ensures { OnOk result (AppendsItem (scope_seen plan.now) item.now
-        out.old.items out.new.items) }
+pub fn put_item(out: &mut Vec<u8>, item: &Item<'_, '_>, operand: Operand<'_>) -> Result<(), Refusal>
+    ensures { OnOk result (AppendsItem item.now out.old.items out.new.items) }
 {
-    if !are_between(item.between) {
-        return Err(Refusal::Changed);
-    }
+    need(are_between(item.between))?;
     out.extend_from_slice(item.between)?;
-    put_operand(out, plan, item, operand)
+    put_operand(out, item, operand)
 }

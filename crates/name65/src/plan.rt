@@ -17,10 +17,19 @@ pub struct Plan<'w, 't> {
     pub wishes: &'w Wishes<'t>,
 }
 
-/// A line without its line feed. It gives the bytes from `at` to before `end`.
+/// A line without its line feed, and what is asked of it. It gives the bytes from `at` to before `end`.
 #[derive(Clone, Copy)]
-pub struct PlacedLine<'t> {
+pub struct PlacedLine<'w, 't> {
+    pub plan: &'w Plan<'w, 't>,
     pub line: &'t [u8],
     pub at: u64,
     pub end: u64,
+}
+
+/// The lines of a text as they become, those that stand after the last one, and the line that is being changed.
+#[derive(Drop)]
+pub struct NewText {
+    pub lines: Vec<u8>,
+    pub tail: Vec<u8>,
+    pub change: Vec<u8>,
 }

@@ -2,16 +2,17 @@
 //!
 //! Nothing is trusted of where the operands are, and what is to stand in their places: what may not change so is refused.
 
-ghost use Rattle.std.specs.Prelude.{◌≡◌, ◌++◌, ◌∷◌, IfSome, OnOk, drop, true};
+ghost use Rattle.std.specs.Prelude.{◌≡◌, ◌++◌, ◌∷◌, IfOk, IfSome, OnOk, drop, true};
 ghost use Rattle.std.specs.List.{list_all};
 ghost use Rattle.text65.specs.Names.{is_blank};
 ghost use Rattle.name65.specs.Changes.{IsRest};
 ghost use Rattle.name65.specs.Written.{AppendsOne, AreBlanks, Lists};
 
-use crate::complaint::Refusal;
-use crate::operands::{Item, Operands, Style, count_of, put_item};
+use crate::complaint::{Refusal, after, need};
+use crate::operands::{Item, Style, count_of, next_operand, put_item};
 use crate::plan::Plan;
 use std::alloc::AllocError;
+use stmt65::Places;
 use text65::is_blank;
 
 /// Bytes that are cut at two places.
@@ -24,16 +25,20 @@ pub struct Cut<'l> {
 
 /// Cuts bytes at two places, if they have them.
 #[tactic(auto, using(crate::proofs::ChangeLemmas::cut_whole))]
-pub fn cut_at(bytes: &[u8], from: usize, to: usize) -> Option<Cut<'_>>
-    ensures { IfSome result (λ c. bytes.now ≡ c.before.now ++ (c.within.now ++ c.after.now)) }
+pub fn cut_at(bytes: &[u8], from: usize, to: usize) -> Result<Cut<'_>, Refusal>
+    ensures { IfOk result (λ c. bytes.now ≡ c.before.now ++ (c.within.now ++ c.after.now)) }
 {
-    let (before, rest) = bytes.split_at_checked(from)?;
-    let (within, after) = rest.split_at_checked(to.checked_sub(from)?)?;
-    Some(Cut {
-        before,
-        within,
-        after,
-    })
+    let Some((before, rest)) = bytes.split_at_checked(from) else {
+        return Err(Refusal::Changed);
+    };
+    match rest.split_at_checked(to.saturating_sub(from)) {
+        Some((within, after)) => Ok(Cut {
+            before,
+            within,
+            after,
+        }),
+        None => Err(Refusal::Changed),
+    }
 }
 
 /// How many blanks are at the beginning of bytes.
@@ -66,7 +71,9 @@ fn comment_after(rest: &[u8], kept: usize) -> Option<Cut<'_>>
     ensures sign { IfSome result (λ c. c.after.now ≡ 59 ∷ drop 1 c.after.now) }
 {
     let blanks = blank_len(rest.get(kept..)?);
-    let found = cut_at(rest, kept, kept.checked_add(blanks)?)?;
+    let Ok(found) = cut_at(rest, kept, kept.checked_add(blanks)?) else {
+        return None;
+    };
     match found.after {
         [b';', ..] if 0 < blanks && are_blank(found.within) => Some(found),
         _ => None,
@@ -101,53 +108,40 @@ pub fn put_rest(
 /// A list of operands in a line, which gives the bytes from `at` to before `end`: its style, and what stands in the line from its column
 /// on.
 #[derive(Clone, Copy)]
-pub struct Run<'l> {
+pub struct Run<'w, 't> {
+    pub plan: &'w Plan<'w, 't>,
     pub style: Style,
     pub at: u64,
     pub end: u64,
     pub column: usize,
-    pub text: &'l [u8],
+    pub text: &'t [u8],
 }
 
 /// Appends a list with other operands, and what stands after it.
-pub fn put_list(
-    out: &mut Vec<u8>,
-    plan: &Plan<'_, '_>,
-    run: &Run<'_>,
-    mut operands: Operands<'_, '_, '_>,
-) -> Result<(), Refusal>
-    ensures { OnOk result (Lists plan.now run.now out.old.items out.new.items) }
+pub fn put_list(out: &mut Vec<u8>, run: &Run<'_, '_>, mut places: Places<'_>) -> Result<(), Refusal>
+    ensures { OnOk result (Lists run.now out.old.items out.new.items) }
 {
-    let style = run.style;
+    let Run { plan, style, .. } = *run;
     let mut at = run.at;
     let mut column = run.column;
     let mut rest = run.text;
     'items: for _ in 0..=run.text.len() {
-        let Some((span, operand)) = operands.next(at)? else {
-            if at != run.end {
-                return Err(Refusal::Changed);
-            }
-            let kept = operands.end().saturating_sub(column);
+        let Some((span, operand)) = next_operand(run, &mut places, at)? else {
+            need(at == run.end)?;
+            let kept = places.end().saturating_sub(column);
             return Ok(put_rest(out, rest, column, kept)?);
         };
-        let Some(found) = cut_at(
-            rest,
-            span.from.saturating_sub(column),
-            span.to.saturating_sub(column),
-        ) else {
-            return Err(Refusal::Changed);
-        };
+        let from = span.from.saturating_sub(column);
+        let found = cut_at(rest, from, span.to.saturating_sub(column))?;
         let item = Item {
+            plan,
             style,
             at,
             between: found.before,
             was: found.within,
         };
-        put_item(out, plan, &item, operand)?;
-        let Some(next) = at.checked_add(count_of(style, found.within)) else {
-            return Err(Refusal::Changed);
-        };
-        at = next;
+        put_item(out, &item, operand)?;
+        at = after(at, count_of(style, found.within))?;
         column = span.to;
         rest = found.after;
     }

@@ -29,12 +29,11 @@ pub struct Wished<'t> {
     pub wish: Wish<'t>,
 }
 
-/// The wishes of all groups, the names of the listing, and the address after its last byte.
+/// The wishes of all groups, and the names of the listing.
 #[derive(Drop)]
 pub struct Wishes<'t> {
     by_address: ByAddress<Wished<'t>>,
     names: ListingNames<'t>,
-    end: u64,
 }
 
 /// A group, the information file in which it stands, and the bytes of the image that it is about, with the address of the first.
@@ -47,8 +46,8 @@ struct TagGroup<'b> {
 }
 
 impl<'b> TagGroup<'b> {
-    fn refused<T>(self, complaint: Complaint) -> Result<T, Refusal> {
-        Err(Refusal::Group(self.tag.line, complaint))
+    fn refusal(self, complaint: Complaint) -> Refusal {
+        Refusal::Group(self.tag.line, complaint)
     }
 
     /// The byte at an address.
@@ -58,7 +57,7 @@ impl<'b> TagGroup<'b> {
                 return Ok(*byte);
             }
         }
-        self.refused(Complaint::NoLine(u32::from(address)))
+        Err(self.refusal(Complaint::NoLine(u32::from(address))))
     }
 
     /// The word at an address, low byte first.
@@ -68,43 +67,36 @@ impl<'b> TagGroup<'b> {
         Ok(u16::from_le_bytes([low, high]))
     }
 
+    /// The address after the last byte.
+    fn end(self) -> u64 {
+        u64::from(self.start).saturating_add(self.bytes.len() as u64)
+    }
+
     /// The address that the instruction at an address has as its operand, by the opcodes of all CPUs.
     fn operand(self, address: u16) -> Result<u16, Refusal> {
-        let row = match Cpu::M65C02.decode(self.byte(address)?) {
-            Some(op) => op.mode.row(),
-            None => return self.refused(Complaint::NoAddress(address)),
-        };
-        let place = self.later(address, 1)?;
-        match row {
-            Row::One(_, OperandKind::Word) => self.word(place),
-            Row::One(_, OperandKind::ZeroPage) => Ok(u16::from(self.byte(place)?)),
-            _ => self.refused(Complaint::NoAddress(address)),
+        if let Some(op) = Cpu::M65C02.decode(self.byte(address)?) {
+            let place = self.later(address, 1)?;
+            match op.mode.row() {
+                Row::One(_, OperandKind::Word) => return self.word(place),
+                Row::One(_, OperandKind::ZeroPage) => return Ok(u16::from(self.byte(place)?)),
+                _ => {}
+            }
         }
+        Err(self.refusal(Complaint::NoAddress(address)))
     }
 
     /// The address this many bytes after one.
     fn later(self, address: u16, count: u16) -> Result<u16, Refusal> {
-        match address.checked_add(count) {
-            Some(later) => Ok(later),
-            None => self.refused(Complaint::NoLine(u32::from(address) + u32::from(count))),
-        }
+        let place = u32::from(address) + u32::from(count);
+        u16::try_from(place).or(Err(self.refusal(Complaint::NoLine(place))))
     }
 
     /// The address this many bytes after one, if there is one.
     fn place(self, address: Option<u16>, count: u16) -> Result<Option<u16>, Refusal> {
-        match address {
-            Some(address) => Ok(Some(self.later(address, count)?)),
-            None => Ok(None),
-        }
+        address
+            .map(|address| self.later(address, count))
+            .transpose()
     }
-}
-
-/// Whether a group is followed by the names of the listing.
-fn needs_names(tag: Tag) -> bool {
-    matches!(
-        tag.kind,
-        TagKind::Halves | TagKind::Difference | TagKind::Base
-    )
 }
 
 impl<'t> Wishes<'t> {
@@ -117,26 +109,27 @@ impl<'t> Wishes<'t> {
         tags: &[Tag],
         used: bool,
     ) -> Result<Wishes<'t>, Refusal> {
-        let mut names = ListingNames::none(alloc);
-        if used {
-            names.take_used(alloc, source)?;
-        }
-        if tags.iter().any(|tag| needs_names(*tag)) {
-            names.take(assembly.names.definitions())?;
-        }
-        let bytes = assembly.bytes.as_slice();
-        let end = u64::from(source.start).saturating_add(bytes.len() as u64);
         let mut wishes = Wishes {
             by_address: ByAddress::none(alloc),
-            names,
-            end,
+            names: ListingNames::none(alloc),
         };
+        if used {
+            wishes.names.take_used(alloc, source)?;
+        }
+        if tags.iter().any(|tag| {
+            matches!(
+                tag.kind,
+                TagKind::Halves | TagKind::Difference | TagKind::Base
+            )
+        }) {
+            wishes.names.take(assembly.names.definitions())?;
+        }
         for &tag in tags {
             wishes.take(TagGroup {
                 tag,
                 info,
                 start: source.start,
-                bytes,
+                bytes: assembly.bytes.as_slice(),
             })?;
         }
         Ok(wishes)
@@ -151,7 +144,12 @@ impl<'t> Wishes<'t> {
                 Ok(())
             }
             TagKind::Difference => self.take_difference(group),
-            TagKind::After => self.check_after(group),
+            TagKind::After => match group.tag.first {
+                Some(first) if u64::from(first) < group.end() => {
+                    Err(group.refusal(Complaint::Inside(first)))
+                }
+                _ => Ok(()),
+            },
             TagKind::Base => self.take_base(group),
             TagKind::Entry | TagKind::Inline | TagKind::Number => Ok(()),
         }
@@ -173,7 +171,7 @@ impl<'t> Wishes<'t> {
         for (half, at, byte) in [(Half::Low, low, low_byte), (Half::High, high, high_byte)] {
             let Some(at) = at else { continue };
             if group.byte(at)? != byte {
-                return group.refused(Complaint::NotHalf(at, address));
+                return Err(group.refusal(Complaint::NotHalf(at, address)));
             }
             self.wish(group, at, Wish::Half(half, reference))?;
         }
@@ -186,7 +184,7 @@ impl<'t> Wishes<'t> {
             return Ok(());
         };
         if to < from || group.word(at)? != to - from {
-            return group.refused(Complaint::NotDifference(at));
+            return Err(group.refusal(Complaint::NotDifference(at)));
         }
         let to = self.name_at(group, to)?;
         let from = self.name_at(group, from)?;
@@ -208,64 +206,42 @@ impl<'t> Wishes<'t> {
         self.wish(group, at, Wish::Address(Reference { name, offset }))
     }
 
-    fn check_after(&self, group: TagGroup<'_>) -> Result<(), Refusal> {
-        match group.tag.first {
-            Some(first) if u64::from(first) < self.end => group.refused(Complaint::Inside(first)),
-            _ => Ok(()),
-        }
-    }
-
     fn name_at(&mut self, group: TagGroup<'_>, address: u16) -> Result<&'t [u8], Refusal> {
-        match self.names.name_at(address)? {
-            Some(name) => Ok(name),
-            None => group.refused(Complaint::NoName(address)),
-        }
-    }
-
-    /// The name of the address after one. That of a constant line does not move with a byte of the image, so it is none for its address.
-    fn name_after(
-        &mut self,
-        group: TagGroup<'_>,
-        address: u16,
-    ) -> Result<Option<&'t [u8]>, Refusal> {
-        let Some(next) = address.checked_add(1) else {
-            return Ok(None);
-        };
-        if group.byte(address).is_ok() && self.names.is_constant_at(next) {
-            return Ok(None);
-        }
-        Ok(self.names.name_at(next)?)
+        let name = self.names.name_at(address)?;
+        name.ok_or(group.refusal(Complaint::NoName(address)))
     }
 
     /// An address by a name: its own; or else that of which it is one of SIZE addresses; or else that of the next address, since a return
-    /// address is one less than where the CPU goes on.
+    /// address is one less than where the CPU goes on. The name of a constant line does not move with a byte of the image before it.
     fn reference_to(
         &mut self,
         group: TagGroup<'_>,
         address: u16,
     ) -> Result<Reference<'t>, Refusal> {
-        if let Some(name) = self.names.name_at(address)? {
-            let offset = Offset::Zero;
-            return Ok(Reference { name, offset });
-        }
-        if let Some(given) = group.info.covering(address) {
-            if let Some(name) = self.names.name_at(given.address)? {
-                let offset = Offset::Plus(address.saturating_sub(given.address));
+        let base = match group.info.covering(address) {
+            Some(given) => given.address,
+            None => address,
+        };
+        let next = match address.checked_add(1) {
+            Some(next) if group.byte(address).is_err() || !self.names.is_constant_at(next) => next,
+            _ => address,
+        };
+        let ways = [
+            (address, Offset::Zero),
+            (base, Offset::Plus(address.saturating_sub(base))),
+            (next, Offset::Minus(1)),
+        ];
+        for (place, offset) in ways {
+            if let Some(name) = self.names.name_at(place)? {
                 return Ok(Reference { name, offset });
             }
         }
-        match self.name_after(group, address)? {
-            Some(name) => {
-                let offset = Offset::Minus(1);
-                Ok(Reference { name, offset })
-            }
-            None => group.refused(Complaint::NoName(address)),
-        }
+        Err(group.refusal(Complaint::NoName(address)))
     }
 
     fn wish(&mut self, group: TagGroup<'_>, at: u16, wish: Wish<'t>) -> Result<(), Refusal> {
         if self.by_address.get(u64::from(at)).is_some() {
-            return group.refused(Complaint::Twice(at));
+            return Err(group.refusal(Complaint::Twice(at)));
         }
         let line = group.tag.line;
         Ok(self.by_address.put(at, Wished { line, wish })?)

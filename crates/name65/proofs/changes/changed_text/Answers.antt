@@ -9,9 +9,9 @@ use Rattle.name65.proofs.changes.changed_text.Goals as goal
 pub returns : goal.returns
 returns c =
     let s = c.args.source.now in record {
-      lines = c.put_lines.new.out.items;
-      tail = c.put_lines.new.tail.items;
-      become = subst (λ (test : ℕ → Bool). LinesBecome (scope_of s test c.args.used (source_addresses s)) s.start (text_lines s.text.now) (source_addresses s) c.put_lines.new.out.items c.put_lines.new.tail.items)
-          (fun_ext c.in_ok-marks.ensures) (rw (← c.requires, ← c.last_of.ensures, ← c.from.ensures) c.in_ok-put_lines.ensures);
+      lines = c.in_ok-new.new.lines.items;
+      tail = c.in_ok-new.new.tail.items;
+      become = subst (λ (test : ℕ → Bool). LinesBecome (scope_of s test c.args.used (source_addresses s)) s.start (text_lines s.text.now) (source_addresses s) c.in_ok-new.new.lines.items c.in_ok-new.new.tail.items)
+          (fun_ext c.in_ok-marks.ensures) (rw (← c.requires, ← c.last_of.ensures) c.in_ok-new.ensures);
       whole = rw c.deref.ensures.value at c.in_ok-extend_from_slice.ensures.items;
     }

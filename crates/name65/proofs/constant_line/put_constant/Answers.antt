@@ -1,34 +1,25 @@
-use Rattle.std.proofs.Common.{◌≡◌, ◌∙◌, ◌++◌, ◌∷◌, [], append_assoc, false, refl, rules, subst, sym, true}
+use Rattle.std.proofs.Common.{◌≡◌, ◌∙◌, ◌++◌, ◌∷◌, [], false, refl, rules, subst, sym, true}
 use Rattle.std.proofs.lemmas.List.{append-nil}
 use Rattle.stmt65.specs.Words.{numeral_of}
 use Rattle.name65.specs.Changes.{left_out, moved, moves, stays}
 use Rattle.name65.specs.Written.{scope_seen}
+use Rattle.name65.proofs.ChangeLemmas.{in_place}
 use Rattle.name65.proofs.constant_line.put_constant.Goals as goal
 
 pub returns-in_ok-put_kept-in-Kept : goal.returns-in_ok-put_kept-in-Kept
-returns-in_ok-put_kept-in-Kept c = record {
-  text = c.args.placed.now.line.now ++ 10 ∷ [];
-  moved = [];
-  becomes = stays c.args.name.now (numeral_of c.args.n) c.requires (subst (λ v. moves (scope_seen c.args.plan.now) v ≡ false) c.value-value.ensures c.in-Kept.ensures);
-  whole = c.in_ok-put_kept-in-Kept.ensures;
-  tail_is = sym (append-nil _);
-}
+returns-in_ok-put_kept-in-Kept c =
+    in_place _ _ _ _ (stays c.args.name.now (numeral_of c.args.n) c.requires (subst (λ v. moves (scope_seen c.args.placed.now.plan.now) v ≡ false) c.value-value.ensures c.in-Kept.ensures))
+    c.in_ok-put_kept-in-Kept.ensures refl
 
 pub returns-in-LeftOut : goal.returns-in-LeftOut
-returns-in-LeftOut c = record {
-  text = [];
-  moved = [];
-  becomes = left_out c.args.name.now (numeral_of c.args.n) c.requires c.in-LeftOut.ensures;
-  whole = sym (append-nil _);
-  tail_is = sym (append-nil _);
-}
+returns-in-LeftOut c = in_place _ _ _ [] (left_out c.args.name.now (numeral_of c.args.n) c.requires c.in-LeftOut.ensures) (sym (append-nil _)) refl
 
 pub returns-in_ok-put_kept-in-Moved : goal.returns-in_ok-put_kept-in-Moved
 returns-in_ok-put_kept-in-Moved c =
-    let placed = rw c.deref.ensures.value at (c.in_ok-is_placed-in-Moved.ensures (search rules)) in record {
+    let placed = rw c.deref.ensures.value at (c.in_ok-is_placed-in-Moved.ensures c.in_ok-need-in-Moved.ensures) in record {
       text = [];
       moved = c.in_ok-line-in-Moved.line.items ++ 10 ∷ [];
-      becomes = moved c.args.name.now (numeral_of c.args.n) placed.distance c.requires (subst (λ v. moves (scope_seen c.args.plan.now) v ≡ true) c.value-value.ensures c.in-Moved.ensures.0)
+      becomes = moved c.args.name.now (numeral_of c.args.n) placed.distance c.requires (subst (λ v. moves (scope_seen c.args.placed.now.plan.now) v ≡ true) c.value-value.ensures c.in-Moved.ensures.0)
           c.in_ok-line-in-Moved.ensures placed.reads (sym c.value-value.ensures ∙ placed.value_is);
       whole = sym (append-nil _);
       tail_is = rw c.deref-in-Moved.ensures.value at c.in_ok-put_kept-in-Moved.ensures;

@@ -1,5 +1,5 @@
 use Rattle.std.proofs.Common.{arith}
-use Rattle.name65.proofs.ChangeLemmas.{nothing_done, one_done}
+use Rattle.name65.proofs.ChangeLemmas.{all_done, nothing_done, one_done}
 use Rattle.name65.proofs.rewriting.put_list.Goals as goal
 
 pub items-init : goal.items-init
@@ -8,5 +8,8 @@ items-init c = nothing_done _ _ _ _ _
 pub items-preserved : goal.items-preserved
 items-preserved c =
     let item = c.in_ok-put_item.ensures in
-    one_done _ _ _ _ _ _ _ _ _ _ _ _ _ c.items.invariant c.in-Some-cut_at.ensures item.all_between item.now item.becomes item.whole
-    (grind (arith, c.in-Some-checked_add.ensures, c.count_of.ensures))
+    one_done _ _ _ _ _ _ _ _ _ _ _ _ _ c.items.invariant c.in_ok-found.ensures item.all_between item.now item.becomes item.whole
+    (grind (arith, c.in_ok-at.ensures, c.count_of.ensures))
+
+pub returns-in_default : goal.returns-in_default
+returns-in_default c = all_done _ _ _ _ _ _ _ _ _ _ c.items.invariant (grind (arith, c.in_ok-need.ensures)) c.in_ok-put_rest.ensures

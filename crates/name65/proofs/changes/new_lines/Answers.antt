@@ -3,10 +3,10 @@ use Rattle.std.proofs.lemmas.List.{append-nil}
 use Rattle.stmt65.specs.Words.{ends_left}
 use Rattle.name65.specs.Changes.{no_line}
 use Rattle.name65.proofs.ChangeLemmas.{lines_from}
-use Rattle.name65.proofs.changes.put_lines.Goals as goal
+use Rattle.name65.proofs.changes.new_lines.Goals as goal
 
 pub lines-init : goal.lines-init
-lines-init c = λ texts tails from. rw (c.requires.out, c.requires.tail, ← c.iter-left.ensures) from
+lines-init c = λ texts tails from. rw (c.new.ensures.items, c.new-2.ensures.items, ← c.from-at.ensures, ← c.iter-left.ensures) from
 
 pub lines-preserved : goal.lines-preserved
 lines-preserved c = λ texts tails from.
