@@ -4,10 +4,9 @@ use Rattle.std.specs.List.{list_all}
 use Rattle.text65.specs.Names.{is_blank}
 use Rattle.stmt65.specs.Words.{PlaceAssignment, held}
 use Rattle.map65.specs.Words.{is_marked}
-use Rattle.name65.specs.Changes.{Becomes, IsList, IsNumber, IsRewritten, LineBecomes, Scope, is_between, moves, says}
+use Rattle.name65.specs.Changes.{Becomes, IsList, IsNumber, IsRewritten, LineBecomes, Scope, moves, says}
 use Rattle.name65.specs.declared.constants.Fate.{Fate}
 use Rattle.name65.specs.declared.constants.Fate.TheVariants.{Kept, LeftOut, Moved}
-use Rattle.name65.specs.declared.operands.Item.{Item}
 use Rattle.name65.specs.declared.plan.NewText.{NewText}
 use Rattle.name65.specs.declared.plan.PlacedLine.{PlacedLine}
 use Rattle.name65.specs.declared.plan.Plan.{Plan}
@@ -28,8 +27,8 @@ abbrev pub Rewrites : PlacedLine → List ℕ → List ℕ → Type 0
 Rewrites placed old new = AppendsOne (IsRewritten (scope_seen placed.plan.now) placed.at placed.end placed.line.now) old new
 
 -- what an operand becomes was appended
-abbrev pub Replaces : Item → List ℕ → List ℕ → Type 0
-Replaces item old new = AppendsOne (Becomes (scope_seen item.plan.now) item.style item.at item.was.now) old new
+abbrev pub Replaces : Run → List ℕ → List ℕ → Type 0
+Replaces item old new = AppendsOne (Becomes (scope_seen item.plan.now) item.style item.at item.text.now) old new
 
 -- what a list and what stands after it become was appended
 abbrev pub Lists : Run → List ℕ → List ℕ → Type 0
@@ -40,16 +39,9 @@ abbrev pub Opens : PlacedLine → Run → List ℕ → List ℕ → Type 0
 Opens placed run old new = (whole : List ℕ) → Lists run new whole → Rewrites placed old whole
 
 -- a number that a group names
-pub record IsNamedNumber (item : Item) : Type 0 where
-  pub number : IsNumber item.plan.now.language item.was.now
+pub record IsNamedNumber (item : Run) : Type 0 where
+  pub number : IsNumber item.plan.now.language item.text.now
   pub named : is_marked item.plan.now.marks.now item.at ≡ true
-
--- an operand and what stands before it were appended
-pub record AppendsItem (item : Item) (old new : List ℕ) : Type 0 where
-  pub now : List ℕ
-  pub all_between : list_all is_between item.between.now ≡ true
-  pub becomes : Becomes (scope_seen item.plan.now) item.style item.at item.was.now now
-  pub whole : new ≡ (old ++ item.between.now) ++ now
 
 -- a line was appended as it becomes, and what moves behind the last line
 pub record AppendsLine (placed : PlacedLine) (old new : NewText) : Type 0 where

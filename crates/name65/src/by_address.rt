@@ -1,9 +1,7 @@
 //! Values by addresses.
 
+use map65::ADDRESSES;
 use std::alloc::{AllocError, Global};
-
-/// How many addresses there are.
-const ADDRESSES: usize = 65_536;
 
 /// At most one value for each address. It has a place for each address once there is a value, so a look takes no search.
 #[derive(Drop)]

@@ -10,31 +10,8 @@ use crate::constant_line::put_kept;
 use crate::failure::{Failure, Refused};
 use crate::named_text::assembled;
 use std::alloc::{AllocError, Global};
-use stmt65::{AsmFaultKind, Language, Operation, Source, SourceLine, assemble_source, read_line};
+use stmt65::{AsmFaultKind, Operation, Source, SourceLine, assemble_source, read_line};
 use text65::{first_line, is_blank};
-
-/// What a line is for the lines around it.
-#[derive(Clone, Copy)]
-enum Kind {
-    /// `NAME := * + n`.
-    Place,
-    /// A label, and whether an operation comes after it.
-    Label(bool),
-    Other,
-}
-
-fn kind_of(alloc: Global, language: Language, line: &[u8]) -> Result<Kind, AllocError> {
-    Ok(match read_line(alloc, language, line)? {
-        Some(SourceLine::PlaceAssignment(_, _)) => Kind::Place,
-        Some(
-            SourceLine::Statement {
-                label: Some(_),
-                operation,
-            },
-        ) => { Kind::Label(!matches!(operation, Operation::Nothing)) }
-        _ => Kind::Other,
-    })
-}
 
 /// Appends the lines `NAME := * + n`, and before them the label of the line that follows; what comes after the label keeps its column.
 fn put_split(
@@ -63,9 +40,15 @@ fn reordered(alloc: Global, source: &Source<'_, '_, '_>) -> Result<Vec<u8>, Allo
     let mut places = Vec::new(alloc);
     let mut rest = source.text;
     'lines: while let Some((line, after)) = first_line(rest) {
-        match kind_of(alloc, source.language, line)? {
-            Kind::Place => put_kept(&mut places, line)?,
-            Kind::Label(has_operation) if !places.is_empty() => {
+        match read_line(alloc, source.language, line)? {
+            Some(SourceLine::PlaceAssignment(_, _)) => put_kept(&mut places, line)?,
+            Some(
+                SourceLine::Statement {
+                    label: Some(_),
+                    operation,
+                },
+            ) if !places.is_empty() => {
+                let has_operation = !matches!(operation, Operation::Nothing);
                 put_split(&mut out, &places, line, has_operation)?;
                 places.clear();
             }

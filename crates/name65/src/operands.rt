@@ -1,17 +1,16 @@
 //! The operands of a line, and what stands in their places.
 
-ghost use Rattle.std.specs.Prelude.{◌≡◌, ◌++◌, IsTrue, OnOk};
+ghost use Rattle.std.specs.Prelude.{◌≡◌, IsTrue, OnOk};
 ghost use Rattle.std.specs.List.{list_all};
-ghost use Rattle.name65.specs.Changes.{IsValue, address_text, count_of, directive_of, is_between, may_keep, size_of};
-ghost use Rattle.name65.specs.Written.{AppendsItem, IsNamedNumber, Replaces};
+ghost use Rattle.name65.specs.Changes.{IsValue, count_of, directive_of, is_between, may_keep, size_of};
+ghost use Rattle.name65.specs.Written.{IsNamedNumber, Replaces};
 
 use crate::complaint::{Complaint, Refusal, after, need};
 use crate::marks::has_mark;
 use crate::plan::Plan;
-use crate::reference::{Reference, put_half, put_reference};
+use crate::reference::{Reference, put_in_list};
 use crate::rewriting::Run;
 use crate::wishes::{Wish, Wished, Wishes};
-use std::alloc::AllocError;
 use stmt65::{Datum, Half, Language, Places, Span, Value, read_value};
 use text65::{has_name_form, is_blank};
 
@@ -139,16 +138,6 @@ pub fn next_operand<'t>(
     Ok(Some((found.span, Operand::Kept)))
 }
 
-/// An operand of a list, with its first byte at an address, and what stands between it and what comes before it.
-#[derive(Clone, Copy)]
-pub struct Item<'w, 't> {
-    pub plan: &'w Plan<'w, 't>,
-    pub style: Style,
-    pub at: u64,
-    pub between: &'t [u8],
-    pub was: &'t [u8],
-}
-
 /// Whether the byte is a blank, or one of `,<>()`.
 fn is_between(byte: u8) -> bool
     ensures { result ≡ is_between byte }
@@ -156,7 +145,8 @@ fn is_between(byte: u8) -> bool
     is_blank(byte) || byte == b',' || byte == b'<' || byte == b'>' || byte == b'(' || byte == b')'
 }
 
-fn are_between(bytes: &[u8]) -> bool
+/// Whether bytes may stand between the operands of a list.
+pub fn are_between(bytes: &[u8]) -> bool
     ensures { result ≡ list_all is_between bytes.now }
 {
     bytes.iter().all(|byte| is_between(*byte))
@@ -173,42 +163,30 @@ pub fn is_value(language: Language, text: &[u8]) -> bool
 }
 
 /// Whether an operand is a number that a group names.
-fn is_named_number(item: &Item<'_, '_>) -> bool
+fn is_named_number(item: &Run<'_, '_>) -> bool
     ensures { IsTrue result → IsNamedNumber item.now }
 {
-    match read_value(item.plan.language, item.was) {
+    match read_value(item.plan.language, item.text) {
         Some(Value::Number(_) | Value::Sum(_, _)) => item.plan.marks.get_at(item.at as usize),
         _ => false,
     }
 }
 
-/// Appends an address by a name as it stands in a list.
-fn put_in_list(
+/// Appends what stands in the place of an operand of a list. Fails if that may not stand there: an operand of which a group names a byte
+/// may not stay, and only a number that a group names may change, to a difference only if it is a word.
+pub fn put_operand(
     out: &mut Vec<u8>,
-    style: Style,
-    half: Half,
-    reference: Reference<'_>,
-) -> Result<(), AllocError>
-    ensures { OnOk result (out.new.items
-        ≡ out.old.items ++ address_text style half reference.entry) }
-{
-    match style {
-        Style::Bytes => put_half(out, half, reference),
-        Style::Halves(_) | Style::Words => put_reference(out, reference),
-    }
-}
-
-/// Appends what stands in the place of an operand. Fails if that may not stand there: an operand of which a group names a byte may not
-/// stay, and only a number that a group names may change, to a difference only if it is a word.
-fn put_operand(out: &mut Vec<u8>, item: &Item<'_, '_>, operand: Operand<'_>) -> Result<(), Refusal>
+    item: &Run<'_, '_>,
+    operand: Operand<'_>,
+) -> Result<(), Refusal>
     ensures { OnOk result (Replaces item.now out.old.items out.new.items) }
 {
     match (operand, item.style) {
         (Operand::Kept, style) => {
-            let next = after(item.at, count_of(style, item.was))?;
+            let next = after(item.at, count_of(style, item.text))?;
             need(style.may_keep())?;
             need(!has_mark(item.plan.marks, item.at, next))?;
-            Ok(out.extend_from_slice(item.was)?)
+            Ok(out.extend_from_slice(item.text)?)
         }
         (Operand::Address(half, reference), style) => {
             need(is_named_number(item))?;
@@ -225,13 +203,4 @@ fn put_operand(out: &mut Vec<u8>, item: &Item<'_, '_>, operand: Operand<'_>) -> 
         }
         _ => Err(Refusal::Changed),
     }
-}
-
-/// Appends what stands before an operand, and what stands in its place. Fails if that may not stand there.
-pub fn put_item(out: &mut Vec<u8>, item: &Item<'_, '_>, operand: Operand<'_>) -> Result<(), Refusal>
-    ensures { OnOk result (AppendsItem item.now out.old.items out.new.items) }
-{
-    need(are_between(item.between))?;
-    out.extend_from_slice(item.between)?;
-    put_operand(out, item, operand)
 }

@@ -1,8 +1,9 @@
 //! How an address is written by a name.
 
 ghost use Rattle.std.specs.Prelude.{◌≡◌, ◌++◌, OnOk};
-ghost use Rattle.name65.specs.Changes.{half_text, offset_text, reference_text, sign_of};
+ghost use Rattle.name65.specs.Changes.{address_text, offset_text, reference_text, sign_of};
 
+use crate::operands::Style;
 use files65::put_decimal;
 use std::alloc::AllocError;
 use stmt65::Half;
@@ -49,17 +50,28 @@ fn sign_of(half: Half) -> &'static [u8]
     }
 }
 
-/// Appends half of an address. Parentheses stand around a sum, since ca65 reads `<NAME+1` as one more than the half.
-pub fn put_half(out: &mut Vec<u8>, half: Half, reference: Reference<'_>) -> Result<(), AllocError>
-    ensures { OnOk result (out.new.items ≡ out.old.items ++ half_text half reference.entry) }
+/// Appends an address as it stands in a list: this half of it among bytes, the address itself among halves or words. Parentheses stand
+/// around a sum, since ca65 reads `<NAME+1` as one more than the half.
+pub fn put_in_list(
+    out: &mut Vec<u8>,
+    style: Style,
+    half: Half,
+    reference: Reference<'_>,
+) -> Result<(), AllocError>
+    ensures { OnOk result (out.new.items
+        ≡ out.old.items ++ address_text style half reference.entry) }
 {
-    out.extend_from_slice(sign_of(half))?;
-    match reference.offset {
-        Offset::Zero => put_reference(out, reference),
-        _ => {
+    match (style, reference.offset) {
+        (Style::Bytes, Offset::Zero) => {
+            out.extend_from_slice(sign_of(half))?;
+            put_reference(out, reference)
+        }
+        (Style::Bytes, _) => {
+            out.extend_from_slice(sign_of(half))?;
             out.extend_from_slice(b"(")?;
             put_reference(out, reference)?;
             out.extend_from_slice(b")")
         }
+        _ => put_reference(out, reference),
     }
 }

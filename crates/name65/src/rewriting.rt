@@ -9,7 +9,7 @@ ghost use Rattle.name65.specs.Changes.{IsRest};
 ghost use Rattle.name65.specs.Written.{AppendsOne, AreBlanks, Lists};
 
 use crate::complaint::{Refusal, after, need};
-use crate::operands::{Item, Style, count_of, next_operand, put_item};
+use crate::operands::{Style, are_between, count_of, next_operand, put_operand};
 use crate::plan::Plan;
 use std::alloc::AllocError;
 use stmt65::Places;
@@ -121,7 +121,6 @@ pub struct Run<'w, 't> {
 pub fn put_list(out: &mut Vec<u8>, run: &Run<'_, '_>, mut places: Places<'_>) -> Result<(), Refusal>
     ensures { OnOk result (Lists run.now out.old.items out.new.items) }
 {
-    let Run { plan, style, .. } = *run;
     let mut at = run.at;
     let mut column = run.column;
     let mut rest = run.text;
@@ -133,15 +132,15 @@ pub fn put_list(out: &mut Vec<u8>, run: &Run<'_, '_>, mut places: Places<'_>) ->
         };
         let from = span.from.saturating_sub(column);
         let found = cut_at(rest, from, span.to.saturating_sub(column))?;
-        let item = Item {
-            plan,
-            style,
+        need(are_between(found.before))?;
+        out.extend_from_slice(found.before)?;
+        let item = Run {
             at,
-            between: found.before,
-            was: found.within,
+            text: found.within,
+            ..*run
         };
-        put_item(out, &item, operand)?;
-        at = after(at, count_of(style, found.within))?;
+        put_operand(out, &item, operand)?;
+        at = after(at, count_of(run.style, found.within))?;
         column = span.to;
         rest = found.after;
     }

@@ -4,7 +4,7 @@ use Rattle.name65.proofs.operands.put_operand.Goals as goal
 
 pub returns-in_ok-extend_from_slice-in-Kept-default : goal.returns-in_ok-extend_from_slice-in-Kept-default
 returns-in_ok-extend_from_slice-in-Kept-default c = record {
-  text = c.args.item.now.was.now;
+  text = c.args.item.now.text.now;
   is_one = kept (grind (arith, c.may_keep.ensures, c.in_ok-need-in-Kept-default.ensures))
       (grind (arith, c.has_mark.ensures, c.in_ok-need-in-Kept-default-2.ensures, c.in_ok-next-in-Kept-default.ensures, c.count_of.ensures));
   whole = c.in_ok-extend_from_slice-in-Kept-default.ensures.items;
