@@ -1,4 +1,3 @@
 pub mod CommandLemmas
 pub mod PassingLemmas
-pub mod StretchLemmas
 pub mod HintLemmas

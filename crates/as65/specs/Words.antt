@@ -7,7 +7,7 @@ unfoldable pub use Rattle.as65.specs.Code.Passing.{IsReady}
 pub use Rattle.as65.specs.Code.Requests.{given_of}
 pub use Rattle.as65.specs.Command.{app, this_program}
 pub use Rattle.as65.specs.Comparison.{Compares, CountsWrites}
-pub use Rattle.as65.specs.Differences.{AppendsDifferences, Compared, IsDifferences, compared, dots_above, is_control, line_of, shown_byte, shown_bytes, shown_line, spaced, stretch_bytes, stretch_line, trimmed}
+pub use Rattle.as65.specs.Differences.{AppendsDifferences, Compared, IsDifferences, compared, dots_above, is_control, line_of, shown_byte, shown_bytes, spaced, stretch_bytes, stretch_line, trimmed}
 unfoldable pub use Rattle.as65.specs.Differences.{change_text, lengths_line, origin_text, shown}
 pub use Rattle.as65.specs.FaultyLine.{FailsWith, Reports, hint_text, line_at, said_after}
 unfoldable pub use Rattle.as65.specs.FaultyLine.{about}

@@ -4,16 +4,16 @@
 
 use crate::moves::{IN_PLACE, Label};
 use crate::named_start::address_in_name;
-use files65::put_decimal;
+use crate::origins::Origin;
+use files65::{put_decimal, repair};
 use std::alloc::{AllocError, Global};
 use stmt65::{AsmFaultKind, Source, SourceLine, Symbols, assemble_source, names_in, read_line};
 
 /// A line that gives bytes.
 #[derive(Clone, Copy)]
 pub struct Placed<'t> {
-    /// Its number, from 1.
-    pub number: usize,
-    pub line: &'t [u8],
+    /// Its number and its text.
+    pub origin: Origin<'t>,
     /// The last line above it that has a `.setcpu`; empty without one.
     pub cpu: &'t [u8],
     /// The address of its first byte.
@@ -27,24 +27,28 @@ pub fn earlier(label: Label, at: u64) -> Option<u64> {
     at.saturating_add(label.named).checked_sub(label.at)
 }
 
-/// The last label at or before an address, and the first one after it, or the same if there is none.
-fn beside(labels: &[Label], address: u64) -> (Label, Label) {
+/// The last label at or before an address; or the first one after it, if that is wanted and there is one.
+fn beside(labels: &[Label], address: u64, by_later: bool) -> Label {
     let count = labels.partition_point(|label| label.at <= address);
-    let before = match count.checked_sub(1) {
-        Some(last) => labels.get(last).copied().unwrap_or(IN_PLACE),
-        None => IN_PLACE,
+    let before = labels.get(..count).unwrap_or(&[]).last();
+    let found = if by_later {
+        labels.get(count).or(before)
+    } else {
+        before
     };
-    (before, labels.get(count).copied().unwrap_or(before))
+    found.copied().unwrap_or(IN_PLACE)
 }
 
-/// What the names of a text were before its labels left the address in their name.
+/// A text, and what its names were before its labels left the address in their name.
 #[derive(Drop)]
-pub struct Before<'b, 't> {
+pub struct Before<'s, 'b, 't, 'l, 'n> {
+    pub alloc: Global,
+    pub source: &'s Source<'t, 'l, 'n>,
     pub names: Symbols<'t, &'b Global>,
     pub labels: Vec<Label>,
 }
 
-impl<'b, 't> Before<'b, 't> {
+impl<'s, 'b, 't, 'l, 'n> Before<'s, 'b, 't, 'l, 'n> {
     /// The value that a name had; by the label after it, if that is wanted.
     fn value(&self, name: &[u8], by_later: bool) -> Option<u64> {
         let definition = self.names.all().find(name)?;
@@ -54,75 +58,52 @@ impl<'b, 't> Before<'b, 't> {
         if let Some(named) = address_in_name(name) {
             return Some(named);
         }
-        let (before, after) = beside(&self.labels, definition.value);
-        earlier(if by_later { after } else { before }, definition.value)
+        let label = beside(&self.labels, definition.value, by_later);
+        earlier(label, definition.value)
     }
 
-    /// Appends a name as a constant with the value that it had, unless it is the label of the line.
-    fn put_constant(
-        &self,
-        out: &mut Vec<u8>,
-        name: &[u8],
-        label: Option<&[u8]>,
-        by_later: bool,
-    ) -> Result<(), AllocError> {
-        if label == Some(name) {
-            return Ok(());
-        }
-        let Some(value) = self.value(name, by_later) else {
-            return Ok(());
-        };
-        out.extend_from_slice(name)?;
-        put_decimal(out, b":=", value as usize)?;
-        out.extend_from_slice(b"\n")
-    }
-
-    /// A text of the line alone: its CPU, the names of its operands as constants, and the line.
+    /// A text of the line alone: its CPU, the names of its operands as constants, but for its label, and the line.
     fn text(
         &self,
-        alloc: Global,
         placed: &Placed<'t>,
         line: &SourceLine<'t>,
         by_later: bool,
     ) -> Result<Vec<u8>, AllocError> {
-        let mut out = Vec::new(alloc);
+        let mut out = Vec::new(self.alloc);
         out.extend_from_slice(placed.cpu)?;
         out.extend_from_slice(b"\n")?;
         if let SourceLine::Statement { label, operation } = line {
-            let names = names_in(alloc, operation)?;
+            let names = names_in(self.alloc, operation)?;
             for (place, name) in names.iter().enumerate() {
-                if !names.iter().take(place).any(|other| other == name) {
-                    self.put_constant(&mut out, name, *label, by_later)?;
+                let is_new = !names.iter().take(place).any(|other| other == name);
+                let value = self.value(name, by_later);
+                if let (true, Some(value)) = (is_new && *label != Some(*name), value) {
+                    out.extend_from_slice(name)?;
+                    put_decimal(&mut out, b":=", value as usize)?;
+                    out.extend_from_slice(b"\n")?;
                 }
             }
         }
-        out.extend_from_slice(placed.line)?;
+        out.extend_from_slice(placed.origin.line)?;
         Ok(out)
     }
 
     /// The bytes that a line gave at an earlier address, if they are as many as now.
     pub fn bytes(
         &self,
-        alloc: Global,
-        source: &Source<'t, '_, '_>,
         placed: &Placed<'t>,
         at: u64,
         by_later: bool,
     ) -> Result<Option<Vec<u8>>, AllocError> {
-        let Some(line) = read_line(alloc, source.language, placed.line)? else {
+        let Some(line) = read_line(self.alloc, self.source.language, placed.origin.line)? else {
             return Ok(None);
         };
         let Ok(start) = u16::try_from(at) else {
             return Ok(None);
         };
-        let text = self.text(alloc, placed, &line, by_later)?;
-        let alone = Source {
-            language: source.language,
-            layout: source.layout,
-            start,
-            text: &text,
-        };
-        match assemble_source(alloc, &alone) {
+        let text = self.text(placed, &line, by_later)?;
+        let alone = repair(self.source.layout, start, &text);
+        match assemble_source(self.alloc, &alone) {
             Ok(bytes) if bytes.len() as u64 == placed.end.saturating_sub(placed.at) => {
                 Ok(Some(bytes))
             }

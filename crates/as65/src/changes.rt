@@ -16,23 +16,21 @@ use crate::before::{Before, Placed, earlier};
 use crate::differences::{put_change, put_lengths, put_origin, trimmed};
 use crate::moves::{IN_PLACE, Label, is_alike};
 use crate::origins::{Origin, line_at};
+use crate::stretches::{Stretch, stretches};
 use map65::Image;
 use std::alloc::{AllocError, Global};
 use stmt65::{Assembly, LineEnds, Operation, Source, SourceLine, assemble_lines, read_line};
 use text65::first_line;
 
-/// Bytes of the image in whose place a listing has others: offsets from the first byte of each, and a line.
+/// Bytes of the image in whose place a listing has others, as offsets from the first byte of each, and a line.
 #[derive(Clone, Copy)]
 struct Change<'t> {
-    was: usize,
-    was_end: usize,
-    is: usize,
-    is_end: usize,
-    number: usize,
-    line: &'t [u8],
+    was: Stretch,
+    is: Stretch,
+    origin: Origin<'t>,
 }
 
-/// What is compared, and what the names were before.
+/// What is compared, what the names were before, and what differs.
 #[derive(Drop)]
 struct Scene<'i, 'b, 's, 'a, 't, 'l, 'n> {
     /// The address of both first bytes.
@@ -41,13 +39,13 @@ struct Scene<'i, 'b, 's, 'a, 't, 'l, 'n> {
     image: &'i [u8],
     /// Those of the listing.
     bytes: &'b [u8],
-    source: &'s Source<'t, 'l, 'n>,
-    before: Before<'a, 't>,
+    before: Before<'s, 'a, 't, 'l, 'n>,
+    changes: Vec<Change<'t>>,
 }
 
-/// The bytes from one place to before another, or none.
-fn part(bytes: &[u8], from: usize, end: usize) -> &[u8] {
-    bytes.get(from..end).unwrap_or(&[])
+/// The bytes of a stretch, or none.
+fn part(bytes: &[u8], stretch: Stretch) -> &[u8] {
+    bytes.get(stretch.at..stretch.end).unwrap_or(&[])
 }
 
 /// How many first bytes of two rows are the same.
@@ -62,36 +60,26 @@ fn common_end(one: &[u8], other: &[u8]) -> usize {
     pairs.take_while(|(byte, beside)| byte == beside).count()
 }
 
-/// The address of the first of some lines before a label; without one that of the label.
-fn first_address(lines: &[Placed<'_>], label: Label) -> u64 {
-    match lines.first() {
-        Some(placed) => placed.at,
-        None => label.at,
-    }
+/// A stretch this many bytes later.
+fn later(stretch: Stretch, count: usize) -> Stretch {
+    let at = stretch.at.saturating_add(count);
+    let end = stretch.end.saturating_add(count);
+    Stretch { at, end }
 }
 
-/// Adds a change, or makes the last one longer that ends where it begins.
-fn add_change<'t>(changes: &mut Vec<Change<'t>>, change: Change<'t>) -> Result<(), AllocError> {
-    if let Some(last) = changes.last_mut() {
-        if last.was_end == change.was && last.is_end == change.is {
-            last.was_end = change.was_end;
-            last.is_end = change.is_end;
-            return Ok(());
-        }
-    }
-    changes.push(change)?;
-    Ok(())
+/// A stretch without so many bytes at its beginning and so many at its end.
+fn trimmed_by(stretch: Stretch, first: usize, last: usize) -> Stretch {
+    let at = stretch.at.saturating_add(first);
+    let end = stretch.end.saturating_sub(last);
+    Stretch { at, end }
 }
 
 impl<'i, 'b, 's, 'a, 't, 'l, 'n> Scene<'i, 'b, 's, 'a, 't, 'l, 'n> {
     /// An address as an offset in the image, up to its end.
     fn offset(&self, address: u64) -> Option<usize> {
         let offset = address.checked_sub(self.start)? as usize;
-        if offset <= self.image.len() {
-            Some(offset)
-        } else {
-            None
-        }
+        let _ = self.image.get(offset..)?;
+        Some(offset)
     }
 
     /// The address that something had before, by a label, as an offset in the image.
@@ -99,300 +87,216 @@ impl<'i, 'b, 's, 'a, 't, 'l, 'n> Scene<'i, 'b, 's, 'a, 't, 'l, 'n> {
         self.offset(earlier(label, at)?)
     }
 
-    /// How far an address of the listing is from its first byte.
-    fn place(&self, address: u64) -> usize {
-        address.saturating_sub(self.start) as usize
+    /// The bytes of the listing from an address to before another.
+    fn stretch(&self, at: u64, end: u64) -> Stretch {
+        let at = at.saturating_sub(self.start) as usize;
+        let end = end.saturating_sub(self.start) as usize;
+        Stretch { at, end }
     }
 
     /// The bytes of a line.
     fn bytes_of(&self, placed: &Placed<'t>) -> &'b [u8] {
-        part(self.bytes, self.place(placed.at), self.place(placed.end))
+        part(self.bytes, self.stretch(placed.at, placed.end))
     }
 
     /// The bytes of the image in whose place the line lay by a label, as many as the image has.
     fn image_of(&self, placed: &Placed<'t>, label: Label) -> &'i [u8] {
-        let Some(from) = self.earlier_offset(label, placed.at) else {
+        let Some(at) = self.earlier_offset(label, placed.at) else {
             return &[];
         };
         let len = placed.end.saturating_sub(placed.at) as usize;
-        part(
-            self.image,
-            from,
-            from.saturating_add(len).min(self.image.len()),
-        )
+        let end = at.saturating_add(len).min(self.image.len());
+        part(self.image, Stretch { at, end })
     }
 
-    /// What the line gave before, by a label: of two ways to see its names the one that the image has, else the first.
-    fn bytes_before(
-        &self,
-        alloc: Global,
-        placed: &Placed<'t>,
-        label: Label,
-    ) -> Result<Option<Vec<u8>>, AllocError> {
+    /// What the line gave before, by a label: of two ways to see its names the one that the image has, else the first. `None` if the image
+    /// has what it gives now, or if it gave nothing.
+    fn gave(&self, placed: &Placed<'t>, label: Label) -> Result<Option<Vec<u8>>, AllocError> {
+        let was = self.image_of(placed, label);
         let Some(at) = earlier(label, placed.at) else {
             return Ok(None);
         };
-        let source = self.source;
-        let first = self.before.bytes(alloc, source, placed, at, false)?;
-        let second = self.before.bytes(alloc, source, placed, at, true)?;
-        match second {
-            Some(bytes) if bytes.as_slice() == self.image_of(placed, label) => Ok(Some(bytes)),
+        if was == self.bytes_of(placed) {
+            return Ok(None);
+        }
+        let first = self.before.bytes(placed, at, false)?;
+        match self.before.bytes(placed, at, true)? {
+            Some(bytes) if bytes.as_slice() == was => Ok(Some(bytes)),
             _ => Ok(first),
         }
     }
 
-    /// Whether the line has only moved with a label.
+    /// Whether the line has only moved with a label, within a stretch of the image.
     fn has_only_moved(
         &self,
-        alloc: Global,
         placed: &Placed<'t>,
         label: Label,
+        within: Stretch,
     ) -> Result<bool, AllocError> {
+        let at = self.earlier_offset(label, placed.at);
+        let (Some(at), Some(end)) = (at, self.earlier_offset(label, placed.end)) else {
+            return Ok(false);
+        };
+        if at < within.at || within.end < end {
+            return Ok(false);
+        }
         let was = self.image_of(placed, label);
-        if was == self.bytes_of(placed) {
-            return Ok(true);
-        }
-        match self.bytes_before(alloc, placed, label)? {
-            Some(bytes) => Ok(bytes.as_slice() == was),
-            None => Ok(false),
-        }
+        Ok(match &self.gave(placed, label)? {
+            Some(bytes) => bytes.as_slice() == was,
+            None => self.bytes_of(placed) == was,
+        })
     }
 
-    /// Adds what differs in a line that has moved with a label.
-    fn add_line(
-        &self,
-        alloc: Global,
-        changes: &mut Vec<Change<'t>>,
-        placed: &Placed<'t>,
-        label: Label,
-    ) -> Result<(), AllocError> {
-        let was = self.image_of(placed, label);
-        if self.has_only_moved(alloc, placed, label)? {
-            return Ok(());
-        }
-        let before = self.bytes_before(alloc, placed, label)?;
-        let bytes = match &before {
-            Some(bytes) => bytes.as_slice(),
-            None => self.bytes_of(placed),
-        };
-        let first = self.earlier_offset(label, placed.at).unwrap_or(0);
-        for at in 0..was.len().min(bytes.len()) {
-            if was.get(at) != bytes.get(at) {
-                let was = first.saturating_add(at);
-                let is = self.place(placed.at).saturating_add(at);
-                add_change(
-                    changes,
-                    Change {
-                        was,
-                        was_end: was.saturating_add(1),
-                        is,
-                        is_end: is.saturating_add(1),
-                        number: placed.number,
-                        line: placed.line,
-                    },
-                )?;
+    /// Adds a change, or makes the last one longer that ends where it begins.
+    fn add(&mut self, change: Change<'t>) -> Result<(), AllocError> {
+        if let Some(last) = self.changes.last_mut() {
+            if last.was.end == change.was.at && last.is.end == change.is.at {
+                last.was.end = change.was.end;
+                last.is.end = change.is.end;
+                return Ok(());
             }
         }
+        self.changes.push(change)?;
         Ok(())
     }
 
     /// Adds what differs in lines that have moved with a label. If the image does not have its address, nothing has moved.
-    fn add_lines(
-        &self,
-        alloc: Global,
-        changes: &mut Vec<Change<'t>>,
-        lines: &[Placed<'t>],
-        label: Label,
-    ) -> Result<(), AllocError> {
+    fn add_lines(&mut self, lines: &[Placed<'t>], label: Label) -> Result<(), AllocError> {
         let is_there = self.offset(label.named).is_some();
+        let label = if is_there { label } else { IN_PLACE };
         for placed in lines {
-            self.add_line(
-                alloc,
-                changes,
-                placed,
-                if is_there { label } else { IN_PLACE },
-            )?;
+            let gave = self.gave(placed, label)?;
+            let bytes = match &gave {
+                Some(bytes) => bytes.as_slice(),
+                None => self.bytes_of(placed),
+            };
+            let first = self.earlier_offset(label, placed.at).unwrap_or(0);
+            let place = self.stretch(placed.at, placed.end).at;
+            let was = self.image_of(placed, label);
+            for stretch in &stretches(self.before.alloc, was, bytes)? {
+                self.add(Change {
+                    was: later(*stretch, first),
+                    is: later(*stretch, place),
+                    origin: placed.origin,
+                })?;
+            }
         }
         Ok(())
     }
 
-    /// How many of the lines have only moved with a label, one after the other from an offset of the image on, and before another one.
-    fn moved_first(
-        &self,
-        alloc: Global,
-        lines: &[Placed<'t>],
-        label: Label,
-        end: usize,
-    ) -> Result<usize, AllocError> {
-        for (count, placed) in lines.iter().enumerate() {
-            let fits = match self.earlier_offset(label, placed.end) {
-                Some(offset) => offset <= end,
-                None => false,
-            };
-            if !fits || !self.has_only_moved(alloc, placed, label)? {
-                return Ok(count);
-            }
-        }
-        Ok(lines.len())
-    }
-
-    /// How many of the last lines have only moved with a label, down to an offset of the image.
-    fn moved_last(
-        &self,
-        alloc: Global,
-        lines: &[Placed<'t>],
-        label: Label,
-        begin: usize,
-    ) -> Result<usize, AllocError> {
-        for count in 0..lines.len() {
-            let place = lines.len().saturating_sub(count).saturating_sub(1);
-            let Some(placed) = lines.get(place) else {
-                return Ok(count);
-            };
-            let fits = match self.earlier_offset(label, placed.at) {
-                Some(offset) => begin <= offset,
-                None => false,
-            };
-            if !fits || !self.has_only_moved(alloc, placed, label)? {
-                return Ok(count);
-            }
-        }
-        Ok(lines.len())
-    }
-
-    /// Adds the one change between two labels that have not moved equally far, whose addresses are these offsets of the image.
+    /// Adds the one change between two labels that have not moved equally far, whose addresses are the ends of a stretch of the image. The
+    /// first lines that have only moved with the label before are left out, and the last ones that have with the label after.
     fn add_change_between(
-        &self,
-        alloc: Global,
-        changes: &mut Vec<Change<'t>>,
+        &mut self,
         lines: &[Placed<'t>],
-        labels: (Label, Label),
-        offsets: (usize, usize),
+        front: Label,
+        back: Label,
+        mut was: Stretch,
     ) -> Result<(), AllocError> {
-        let (front, back) = labels;
-        let first = self.moved_first(alloc, lines, front, offsets.1)?;
+        let mut first = 0usize;
+        for placed in lines {
+            if !self.has_only_moved(placed, front, Stretch { at: 0, ..was })? {
+                break;
+            }
+            first = first.saturating_add(1);
+        }
         let rest = lines.get(first..).unwrap_or(&[]);
-        let begin = first_address(rest, back);
-        let was = self.earlier_offset(front, begin).unwrap_or(offsets.0);
-        let count = self.moved_last(alloc, rest, back, was)?;
-        let last = rest.get(rest.len().saturating_sub(count)..).unwrap_or(&[]);
-        let end = first_address(last, back);
-        let was_end = self.earlier_offset(back, end).unwrap_or(offsets.1);
-        let (number, line) = match rest.first() {
-            Some(placed) => (placed.number, placed.line),
-            None => (back.number, line_at(self.source.text, back.number)),
+        let begin = rest.first().map_or(back.at, |placed| placed.at);
+        was.at = self.earlier_offset(front, begin).unwrap_or(was.at);
+        let whole = Stretch {
+            end: self.image.len(),
+            ..was
         };
-        self.add_trimmed(
-            changes,
-            Change {
-                was,
-                was_end,
-                is: self.place(begin),
-                is_end: self.place(end),
-                number,
-                line,
+        let mut end = back.at;
+        for placed in rest.iter().rev() {
+            if !self.has_only_moved(placed, back, whole)? {
+                break;
+            }
+            end = placed.at;
+        }
+        was.end = self.earlier_offset(back, end).unwrap_or(was.end);
+        let origin = match rest.first() {
+            Some(placed) => placed.origin,
+            None => Origin {
+                number: back.number,
+                line: line_at(self.before.source.text, back.number),
             },
-        )
+        };
+        let is = self.stretch(begin, end);
+        self.add_trimmed(Change { was, is, origin })
     }
 
     /// Adds a change without the bytes that are alike at its beginning and its end.
-    fn add_trimmed(
-        &self,
-        changes: &mut Vec<Change<'t>>,
-        change: Change<'t>,
-    ) -> Result<(), AllocError> {
-        let was = part(self.image, change.was, change.was_end);
-        let is = part(self.bytes, change.is, change.is_end);
+    fn add_trimmed(&mut self, change: Change<'t>) -> Result<(), AllocError> {
+        let was = part(self.image, change.was);
+        let is = part(self.bytes, change.is);
         let first = common(was, is);
-        let was_rest = part(was, first, was.len());
-        let is_rest = part(is, first, is.len());
-        let last = common_end(was_rest, is_rest);
-        changes.push(Change {
-            was: change.was.saturating_add(first),
-            was_end: change.was_end.saturating_sub(last),
-            is: change.is.saturating_add(first),
-            is_end: change.is_end.saturating_sub(last),
+        let rest = was.len().min(is.len()).saturating_sub(first);
+        let last = common_end(was, is).min(rest);
+        self.changes.push(Change {
+            was: trimmed_by(change.was, first, last),
+            is: trimmed_by(change.is, first, last),
             ..change
         })?;
         Ok(())
     }
 
-    /// Whether the image has the address of a label after that of one and before that of another: then the lines are in another order.
-    fn has_label(&self, front: Label, back: Label) -> bool {
-        self.before.labels.iter().any(|label| {
-            label.number != front.number && front.named <= label.named && label.named < back.named
-        })
-    }
-
-    /// Adds what differs in the lines between two labels.
+    /// Adds what differs in the lines between two labels. If the image has the address of a label between theirs, the lines are in another
+    /// order.
     fn add_between(
-        &self,
-        alloc: Global,
-        changes: &mut Vec<Change<'t>>,
+        &mut self,
         lines: &[Placed<'t>],
         front: Label,
         back: Label,
     ) -> Result<(), AllocError> {
-        let offsets = (self.offset(front.named), self.offset(back.named));
-        match offsets {
-            (Some(low), Some(high))
-                if low <= high && !is_alike(front, back) && !self.has_label(front, back) => {
-                self.add_change_between(alloc, changes, lines, (front, back), (low, high))
+        let is_between = self.before.labels.iter().any(|label| {
+            label.number != front.number && front.named <= label.named && label.named < back.named
+        });
+        match (self.offset(front.named), self.offset(back.named)) {
+            (Some(at), Some(end)) if at <= end && !is_alike(front, back) && !is_between => {
+                self.add_change_between(lines, front, back, Stretch { at, end })
             }
-            _ => self.add_lines(alloc, changes, lines, front),
+            _ => self.add_lines(lines, front),
         }
     }
 
-    /// All that differs apart from what has only moved.
-    fn changes(&self, alloc: Global, lines: &[Placed<'t>]) -> Result<Vec<Change<'t>>, AllocError> {
-        let start = self.start;
-        let mut changes = Vec::new(alloc);
+    /// Adds all that differs apart from what has only moved.
+    fn add_all(&mut self, lines: &[Placed<'t>]) -> Result<(), AllocError> {
+        let (named, at) = (self.start, self.start);
         let mut front = Label {
-            number: 0,
-            named: start,
-            at: start,
+            named,
+            at,
+            ..IN_PLACE
         };
         let mut rest = lines;
-        for label in &self.before.labels {
-            let count = rest
-                .iter()
-                .take_while(|placed| placed.at < label.at)
-                .count();
-            let between = rest.get(..count).unwrap_or(&[]);
-            self.add_between(alloc, &mut changes, between, front, *label)?;
-            front = *label;
+        for place in 0..self.before.labels.len() {
+            let back = self.before.labels.get(place).copied().unwrap_or(front);
+            let count = rest.iter().take_while(|placed| placed.at < back.at).count();
+            self.add_between(rest.get(..count).unwrap_or(&[]), front, back)?;
+            front = back;
             rest = rest.get(count..).unwrap_or(&[]);
         }
-        self.add_lines(alloc, &mut changes, rest, front)?;
-        Ok(changes)
+        self.add_lines(rest, front)
     }
 
     /// Appends the line of a change.
     fn put(&self, out: &mut Vec<u8>, change: &Change<'t>) -> Result<(), AllocError> {
-        let was = part(self.image, change.was, change.was_end);
-        let is = part(self.bytes, change.is, change.is_end);
+        let was = part(self.image, change.was);
+        let is = part(self.bytes, change.is);
         if was.is_empty() && is.is_empty() {
             return Ok(());
         }
-        put_change(
-            out,
-            (self.start as usize).saturating_add(change.was),
-            was,
-            is,
-        )?;
-        put_origin(
-            out,
-            &Origin {
-                number: change.number,
-                line: trimmed(change.line),
-            },
-        )
+        let address = (self.start as usize).saturating_add(change.was.at);
+        put_change(out, address, was, is)?;
+        let Origin { number, line } = change.origin;
+        let line = trimmed(line);
+        put_origin(out, &Origin { number, line })
     }
 }
 
 /// Whether a line sets the CPU. Only lines with a dot are read for it.
 fn sets_cpu(alloc: Global, source: &Source<'_, '_, '_>, line: &[u8]) -> Result<bool, AllocError> {
-    if !line.iter().any(|byte| *byte == b'.') {
+    if !line.contains(&b'.') {
         return Ok(false);
     }
     let says = read_line(alloc, source.language, line)?;
@@ -422,9 +326,9 @@ fn placed_lines<'t>(
         };
         number = number.saturating_add(1);
         if at < end {
+            let origin = Origin { number, line };
             found.push(Placed {
-                number,
-                line,
+                origin,
                 cpu,
                 at,
                 end,
@@ -453,15 +357,21 @@ pub fn changes(
         return Err(AllocError);
     };
     let lines = placed_lines(alloc, source, &ends)?;
-    let scene = Scene {
+    let before = Before {
+        alloc,
+        source,
+        names,
+        labels,
+    };
+    let mut scene = Scene {
         start: u64::from(image.start()),
         image: image.bytes(),
         bytes: assembled.bytes(),
-        source,
-        before: Before { names, labels },
+        before,
+        changes: Vec::new(alloc),
     };
-    let changes = scene.changes(alloc, &lines)?;
-    for change in &changes {
+    scene.add_all(&lines)?;
+    for change in &scene.changes {
         scene.put(&mut out, change)?;
     }
     put_lengths(&mut out, image.bytes().len(), assembled.bytes().len())?;

@@ -1,7 +1,7 @@
 //! The lines that say where a listing and an image differ.
 
 ghost use Rattle.std.specs.Prelude.{◌≡◌, ◌+◌, ◌++◌, IfOk, OnOk, flat_map, map, take};
-ghost use Rattle.as65.specs.Words.{AppendsDifferences, IsDifferences, IsInBoth, IsReady, Moves, beside, change_text, compared, dots_above, is_control, lengths_line, line_left, line_of, origin_text, shown, shown_byte, shown_bytes, shown_line, spaced, trimmed};
+ghost use Rattle.as65.specs.Words.{AppendsDifferences, IsDifferences, IsInBoth, IsReady, Moves, beside, change_text, compared, dots_above, is_control, lengths_line, line_left, line_of, origin_text, shown, shown_byte, shown_bytes, spaced, trimmed};
 
 use crate::assembled::Assembled;
 use crate::changes::changes;
@@ -84,18 +84,11 @@ pub(crate) fn trimmed(line: &[u8]) -> &[u8]
 
 /// Appends the first characters.
 #[tactic(auto, unfolding(crate::specs::Differences::shown))]
-fn put_shown(out: &mut Vec<u8>, line: &[u8]) -> Result<(), AllocError>
+pub(crate) fn put_shown(out: &mut Vec<u8>, line: &[u8]) -> Result<(), AllocError>
     ensures { OnOk result (out.new.items ≡ out.old.items ++ shown line.now) }
 {
     put_characters(out, at_most(line, SHOWN_CHARACTERS))?;
     put_dots(out, SHOWN_CHARACTERS, line.len())
-}
-
-/// Appends the beginning of a line.
-pub(crate) fn put_line(out: &mut Vec<u8>, line: &[u8]) -> Result<(), AllocError>
-    ensures { OnOk result (out.new.items ≡ out.old.items ++ shown_line line.now) }
-{
-    put_shown(out, trimmed(line))
 }
 
 /// Appends an address, and the bytes that the image and the listing have there.

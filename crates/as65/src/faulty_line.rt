@@ -3,7 +3,7 @@
 ghost use Rattle.std.specs.Prelude.{◌≡◌, ◌++◌, IfOk, OnOk};
 ghost use Rattle.as65.specs.Words.{FailsWith, Reports, about, hint_text};
 
-use crate::differences::put_line;
+use crate::differences::{put_shown, trimmed};
 use crate::failure::{Failure, Refused};
 use crate::hint::hint;
 use crate::origins::line_at;
@@ -34,7 +34,7 @@ fn about(
     let mut out = Vec::new(alloc);
     put_hint(&mut out, hint)?;
     out.extend_from_slice(b": ")?;
-    put_line(&mut out, line_at(source.text, fault.line))?;
+    put_shown(&mut out, trimmed(line_at(source.text, fault.line)))?;
     Ok(out)
 }
 

@@ -37,15 +37,14 @@ use info65::Info;
 use information::{information, placed_at};
 use labels::names_in;
 use listing::need_bytes;
-use map65::Image;
 use message::{say, say_starts};
 use moves::need_in_place;
 use named_start::named_start;
-use request::{Comparing, Work, Writing, is_compared_by, is_comparing, request_of};
+use request::{Comparing, Placement, Work, Writing, is_compared_by, is_comparing, request_of};
 use status::{Ended, status_of};
 use std::process::ExitCode;
 use stmt65::Source;
-use usage65::{FileNames, Request, RequestFault, words_of};
+use usage65::{Request, RequestFault, words_of};
 
 /// Where the information file of this name, under the start of the command line, places the bytes of a listing.
 fn start_in(rt: &HostRuntime, name: Option<&str>, info: &Info) -> Result<u16, Failure> {
@@ -59,53 +58,40 @@ fn start_in(rt: &HostRuntime, name: Option<&str>, info: &Info) -> Result<u16, Fa
     }
 }
 
-/// Writes the bytes of a listing, if its labels are where they have to be. The output is created once the bytes are there.
-fn write_source(
+/// The listing of this name with its bytes, if its labels are where they have to be.
+fn assembled_in<'s, 't, 'l, 'n>(
     rt: &HostRuntime,
-    names: &mut FileNames,
-    in_place: bool,
-    source: &Source<'_, '_, '_>,
-) -> Result<Ended, Failure> {
-    let name = names.listing.as_str();
+    name: &str,
+    place: Placement,
+    source: &'s Source<'t, 'l, 'n>,
+) -> Result<Assembled<'s, 't, 'l, 'n>, Failure> {
     let assembled = Assembled::new(rt.alloc(), source, name)?;
     need_bytes(rt.alloc(), &assembled, name)?;
-    if in_place {
+    if place.in_place {
         need_in_place(rt.alloc(), &assembled, name)?;
     }
-    let mut output = Output::create(rt, names.output.take())?;
-    assembled.write(&mut output)?;
-    Ok(Ended::Done)
+    Ok(assembled)
 }
 
-/// Writes the names of a listing. The output is created once they are there.
-fn write_labels(
-    rt: &HostRuntime,
-    names: &mut FileNames,
-    source: &Source<'_, '_, '_>,
-) -> Result<Ended, Failure> {
-    let text = names_in(rt.alloc(), source, names.listing.as_str())?;
-    let mut output = Output::create(rt, names.output.take())?;
-    write_text(&mut output, &text)?;
-    Ok(Ended::Done)
-}
-
-/// Reads the listing, and writes its bytes or its names. The output may not be the input of the information file either.
+/// Reads the listing, and writes its bytes or its names. The output may not be the input of the information file either, and is created
+/// once they are there.
 fn write_under(rt: &HostRuntime, writing: &mut Writing, info: &Info) -> Result<Ended, Failure> {
     let names = &mut writing.names;
-    keep_inputs(
-        rt,
-        names.output.as_deref(),
-        &[info.settings().input.as_deref()],
-    )?;
+    let inputs = [info.settings().input.as_deref()];
+    keep_inputs(rt, names.output.as_deref(), &inputs)?;
     let start = start_in(rt, names.info.as_deref(), info)?;
     let layout = layout_of(rt.alloc(), info.segments(), writing.place.fill)?;
-    let text = read_listing(rt, names.listing.as_str())?;
+    let name = names.listing.as_str();
+    let text = read_listing(rt, name)?;
     let source = repair(&layout, start, &text);
     if writing.labels {
-        write_labels(rt, names, &source)
+        let text = names_in(rt.alloc(), &source, name)?;
+        write_text(&mut Output::create(rt, names.output.take())?, &text)?;
     } else {
-        write_source(rt, names, writing.place.in_place, &source)
+        let assembled = assembled_in(rt, name, writing.place, &source)?;
+        assembled.write(&mut Output::create(rt, names.output.take())?)?;
     }
+    Ok(Ended::Done)
 }
 
 /// Reads what says where the image is, and writes it.
@@ -118,37 +104,20 @@ fn write_image(rt: &HostRuntime, writing: &mut Writing) -> Result<Ended, Failure
     write_under(rt, writing, &info)
 }
 
-/// Writes on standard output where the bytes of an image and of a listing differ.
-fn compare_source(
-    rt: &HostRuntime,
-    comparing: &Comparing,
-    info: &Info,
-    image: &Image,
-    source: &Source<'_, '_, '_>,
-) -> Result<Ended, Failure> {
-    let name = comparing.names.listing.as_str();
-    let assembled = Assembled::new(rt.alloc(), source, name)?;
-    need_bytes(rt.alloc(), &assembled, name)?;
-    if info.settings().start.is_none() && image.bytes() != assembled.bytes() {
-        let named = named_start(rt.alloc(), source, image.bytes().len())?;
-        say_starts(rt, comparing.image.as_str(), image.start(), named)?;
-    }
-    compare(rt.alloc(), image, &assembled, &mut Output::standard(rt))
-}
-
-/// Reads the image and the listing, and compares them.
+/// Reads the image and the listing, and writes on standard output where their bytes differ.
 fn compare_under(rt: &HostRuntime, comparing: &Comparing, info: &Info) -> Result<Ended, Failure> {
     keep_inputs(rt, None, &[info.settings().input.as_deref()])?;
     let image = image(rt, comparing.image.as_str(), info)?;
     let layout = layout_of(rt.alloc(), info.segments(), comparing.place.fill)?;
-    let text = read_listing(rt, comparing.names.listing.as_str())?;
-    compare_source(
-        rt,
-        comparing,
-        info,
-        &image,
-        &repair(&layout, image.start(), &text),
-    )
+    let name = comparing.names.listing.as_str();
+    let text = read_listing(rt, name)?;
+    let source = repair(&layout, image.start(), &text);
+    let assembled = assembled_in(rt, name, comparing.place, &source)?;
+    if info.settings().start.is_none() && image.bytes() != assembled.bytes() {
+        let named = named_start(rt.alloc(), &source, image.bytes().len())?;
+        say_starts(rt, comparing.image.as_str(), image.start(), named)?;
+    }
+    compare(rt.alloc(), &image, &assembled, &mut Output::standard(rt))
 }
 
 /// Reads what says where the image is, and compares. The output is standard output.

@@ -184,28 +184,6 @@ pub fn put_moves(out: &mut Vec<u8>, moves: &[Label]) -> Result<(), AllocError>
     Ok(())
 }
 
-/// What is said of a label from which on the distance is another.
-fn said_of(alloc: Global, label: Label) -> Result<Vec<u8>, AllocError>
-    ensures { IfOk result (λ said. said.items ≡ move_text label) }
-{
-    let mut said = Vec::new(alloc);
-    put_move(&mut said, label)?;
-    Ok(said)
-}
-
-/// Refuses a listing of this name in which the distance changes at these labels, with the first of them.
-fn refuse_moves(alloc: Global, moves: &[Label], name: &str) -> Result<(), Failure>
-    ensures none { OnOk result (moves.now ≡ []) }
-    ensures failure { IfErr result (IsMoved name.now moves.now) }
-{
-    let Some((first, _)) = moves.split_first() else {
-        return Ok(());
-    };
-    let said = said_of(alloc, *first)?;
-    let name = String::from_str(alloc, name)?;
-    Err(Failure::Own(Refused::Moved(name, first.number, said)))
-}
-
 /// Refuses a listing of this name in which a label is not at the address in its name, with the first such label.
 pub fn need_in_place(
     alloc: Global,
@@ -220,5 +198,11 @@ pub fn need_in_place(
     let ends = assembled.ends(alloc)?;
     let labels = labels_in(alloc, assembled.source(), &ends)?;
     let moves = moves_in(alloc, &labels)?;
-    refuse_moves(alloc, &moves, name)
+    let Some((first, _)) = moves.split_first() else {
+        return Ok(());
+    };
+    let mut said = Vec::new(alloc);
+    put_move(&mut said, *first)?;
+    let name = String::from_str(alloc, name)?;
+    Err(Failure::Own(Refused::Moved(name, first.number, said)))
 }
