@@ -69,10 +69,7 @@ impl<'t> ListingNames<'t> {
 
     /// Whether the name of an address is that of a constant line.
     pub fn is_constant_at(&self, address: u16) -> bool {
-        match self.by_value.get(u64::from(address)) {
-            Some(definition) => definition.constant,
-            None => false,
-        }
+        matches!(self.by_value.get(u64::from(address)), Some(found) if found.constant)
     }
 
     /// The name of an address, which is used from now on.

@@ -1,7 +1,7 @@
 //! How an address is written by a name.
 
 ghost use Rattle.std.specs.Prelude.{◌≡◌, ◌++◌, OnOk};
-ghost use Rattle.name65.specs.Changes.{address_text, offset_text, reference_text, sign_of};
+ghost use Rattle.name65.specs.Changes.{address_text, reference_text, sign_of};
 
 use crate::operands::Style;
 use files65::put_decimal;
@@ -23,22 +23,16 @@ pub struct Reference<'t> {
     pub offset: Offset,
 }
 
-fn put_offset(out: &mut Vec<u8>, offset: Offset) -> Result<(), AllocError>
-    ensures { OnOk result (out.new.items ≡ out.old.items ++ offset_text offset) }
-{
-    match offset {
-        Offset::Zero => Ok(()),
-        Offset::Plus(n) => put_decimal(out, b"+", usize::from(n)),
-        Offset::Minus(n) => put_decimal(out, b"-", usize::from(n)),
-    }
-}
-
 /// Appends an address.
 pub fn put_reference(out: &mut Vec<u8>, reference: Reference<'_>) -> Result<(), AllocError>
     ensures { OnOk result (out.new.items ≡ out.old.items ++ reference_text reference.entry) }
 {
     out.extend_from_slice(reference.name)?;
-    put_offset(out, reference.offset)
+    match reference.offset {
+        Offset::Zero => Ok(()),
+        Offset::Plus(n) => put_decimal(out, b"+", usize::from(n)),
+        Offset::Minus(n) => put_decimal(out, b"-", usize::from(n)),
+    }
 }
 
 fn sign_of(half: Half) -> &'static [u8]
