@@ -67,6 +67,11 @@ impl<'t> ListingNames<'t> {
         Ok(())
     }
 
+    /// Whether an address has a name.
+    pub fn has(&self, address: u16) -> bool {
+        self.by_value.get(u64::from(address)).is_some()
+    }
+
     /// Whether the name of an address is that of a constant line.
     pub fn is_constant_at(&self, address: u16) -> bool {
         matches!(self.by_value.get(u64::from(address)), Some(found) if found.constant)

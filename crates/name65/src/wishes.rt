@@ -45,6 +45,14 @@ struct TagGroup<'b> {
     bytes: &'b [u8],
 }
 
+/// Where the halves of an address are, and the address.
+#[derive(Clone, Copy)]
+struct Pair {
+    low: Option<u16>,
+    high: Option<u16>,
+    address: u16,
+}
+
 impl<'b> TagGroup<'b> {
     fn refusal(self, complaint: Complaint) -> Refusal {
         Refusal::Group(self.tag.line, complaint)
@@ -97,6 +105,20 @@ impl<'b> TagGroup<'b> {
             .map(|address| self.later(address, count))
             .transpose()
     }
+
+    /// The k-th pair of a group of halves. One half is enough if the group has the address.
+    fn pair(self, k: u16) -> Result<Option<Pair>, Refusal> {
+        let low = self.place(self.tag.low, k)?;
+        let high = self.place(self.tag.high, k)?;
+        let address = match (self.tag.address, low, high) {
+            (Some(address), _, _) => address,
+            (None, Some(low), Some(high)) => {
+                u16::from_le_bytes([self.byte(low)?, self.byte(high)?])
+            }
+            _ => return Ok(None),
+        };
+        Ok(Some(Pair { low, high, address }))
+    }
 }
 
 impl<'t> Wishes<'t> {
@@ -138,8 +160,11 @@ impl<'t> Wishes<'t> {
     fn take(&mut self, group: TagGroup<'_>) -> Result<(), Refusal> {
         match group.tag.kind {
             TagKind::Halves => {
+                let returns = self.are_returns(group);
                 for k in 0..group.tag.size.unwrap_or(1) {
-                    self.take_pair(group, k)?;
+                    if let Some(pair) = group.pair(k)? {
+                        self.take_pair(group, pair, returns)?;
+                    }
                 }
                 Ok(())
             }
@@ -155,18 +180,24 @@ impl<'t> Wishes<'t> {
         }
     }
 
-    /// The k-th pair of a group of halves. One half is enough if the group has the address.
-    fn take_pair(&mut self, group: TagGroup<'_>, k: u16) -> Result<(), Refusal> {
-        let low = group.place(group.tag.low, k)?;
-        let high = group.place(group.tag.high, k)?;
-        let address = match (group.tag.address, low, high) {
-            (Some(address), _, _) => address,
-            (None, Some(low), Some(high)) => {
-                u16::from_le_bytes([group.byte(low)?, group.byte(high)?])
-            }
-            _ => return Ok(()),
-        };
-        let reference = self.reference_to(group, address)?;
+    /// Whether only the address after one of these has a name: then all are return addresses, each one less than where the CPU goes on.
+    fn are_returns(&self, group: TagGroup<'_>) -> bool {
+        let count = group.tag.size.unwrap_or(1);
+        1 < count
+            && (0..count).any(|k| {
+                let Ok(Some(Pair { address, .. })) = group.pair(k) else {
+                    return false;
+                };
+                !self.names.has(address)
+                    && group.info.covering(address).is_none()
+                    && self.next_named(group, address).is_some()
+            })
+    }
+
+    /// The halves of a pair, which may be a return address.
+    fn take_pair(&mut self, group: TagGroup<'_>, pair: Pair, returns: bool) -> Result<(), Refusal> {
+        let Pair { low, high, address } = pair;
+        let reference = self.reference_to(group, address, returns)?;
         let [low_byte, high_byte] = address.to_le_bytes();
         for (half, at, byte) in [(Half::Low, low, low_byte), (Half::High, high, high_byte)] {
             let Some(at) = at else { continue };
@@ -211,27 +242,35 @@ impl<'t> Wishes<'t> {
         name.ok_or(group.refusal(Complaint::NoName(address)))
     }
 
+    /// The address after one, if it has a name that moves with it: that of a constant line does not move with a byte of the image before it.
+    fn next_named(&self, group: TagGroup<'_>, address: u16) -> Option<u16> {
+        let next = address.checked_add(1)?;
+        let moves = group.byte(address).is_err() || !self.names.is_constant_at(next);
+        (moves && self.names.has(next)).then_some(next)
+    }
+
     /// An address by a name: its own; or else that of which it is one of SIZE addresses; or else that of the next address, since a return
-    /// address is one less than where the CPU goes on. The name of a constant line does not move with a byte of the image before it.
+    /// address is one less than where the CPU goes on. For a return address that comes first.
     fn reference_to(
         &mut self,
         group: TagGroup<'_>,
         address: u16,
+        returns: bool,
     ) -> Result<Reference<'t>, Refusal> {
         let base = match group.info.covering(address) {
             Some(given) => given.address,
             None => address,
         };
-        let next = match address.checked_add(1) {
-            Some(next) if group.byte(address).is_err() || !self.names.is_constant_at(next) => next,
-            _ => address,
+        let next = self.next_named(group, address);
+        let less = next.map(|next| (next, Offset::Minus(1)));
+        let own = Some((address, Offset::Zero));
+        let inside = Some((base, Offset::Plus(address.saturating_sub(base))));
+        let ways = if returns {
+            [less, own, inside]
+        } else {
+            [own, inside, less]
         };
-        let ways = [
-            (address, Offset::Zero),
-            (base, Offset::Plus(address.saturating_sub(base))),
-            (next, Offset::Minus(1)),
-        ];
-        for (place, offset) in ways {
+        for (place, offset) in ways.into_iter().flatten() {
             if let Some(name) = self.names.name_at(place)? {
                 return Ok(Reference { name, offset });
             }
