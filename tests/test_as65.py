@@ -6,11 +6,6 @@ from conftest import command, in_pieces, holds, read, tables, write
 TEXTS, _ = tables(__name__)
 
 
-def test_shows_names(as65, name, shown):
-    write(os.fsdecode(name.encode("latin-1")), TEXTS["THREE"])
-    as65.refuses(["-S", "0xFFFE", name], f"{shown}:6: past the end of the address space: rts")
-
-
 def test_gives(as65, text, wanted, words, info):
     """The text gives these bytes, and does not differ from them, unless the information file asks for more."""
     write("a.info", info or TEXTS["PLACES"])
@@ -26,10 +21,7 @@ def test_runs(as65, given, words, status, out, err, after, stdin):
 
 
 def test_pipes(as65):
-    """Two of them; one in two pieces; and one of a listing a byte too large, which is read no further."""
-    fds = [in_pieces(read(name)) for name in ("three.bin", "three.s")]
-    as65(["-S", "0x1000", "--compare", *(f"/dev/fd/{pipe.fileno()}" for pipe in fds)],
-         pass_fds=[pipe.fileno() for pipe in fds])
+    """One in two pieces, and one of a listing a byte too large, which is read no further."""
     as65("-S 0x1000 -", 0, "\xa9\x01\x60", stdin=in_pieces(TEXTS["THREE"][:40], TEXTS["THREE"][40:]))
     pipe = in_pieces(bytes(67108864 + 8192))
     as65.refuses("-S 0", "input is too large", stdin=pipe)
@@ -81,16 +73,3 @@ def test_suggests_a_start(as65, text, labels, start):
     said = f"as65: {labels} of the labels LXXXX would be at $XXXX with -S 0x{start}\n" if labels else ""
     as65(f"--compare other.bin {write('named.s', text)}", 1, None,
          "as65: other.bin is taken to begin at $FFFD\n" + said)
-
-
-def test_full(as65, image, full, status):
-    with open("/dev/full", "wb") as file:
-        as65(f"--compare {image} three.s", status, **{full: file})
-
-
-@pytest.mark.parametrize("words, status", (("", 1), ("--compare other.bin", 2)))
-def test_what_is_appended_to_is_the_input_of_the_information_file(as65, words, status):
-    write("a.info", 'GLOBAL { INPUTNAME "three.bin"; STARTADDR $1000; };')
-    with open("three.bin", "ab") as out:
-        as65.refuses(f"-i a.info {words} here.s", "the output is an input: three.bin", status, stdout=out)
-    holds("three.bin", "\xa9\x01\x60")

@@ -1,10 +1,10 @@
 """da65 on real files: what it writes, where, and with which status. Most rows are in tests/rows/da65.txt."""
-import re, subprocess
+import re
 import pytest
-from conftest import ROOT, holds, in_pieces, same, shell, tables, write
+from conftest import ROOT, in_pieces, same, tables, write
 
 TEXTS, _ = tables(__name__)
-HEADER, START, SKIPPED, WARNING = (TEXTS[name] for name in ("HEADER", "START", "SKIPPED", "WARNING"))
+HEADER = TEXTS["HEADER"]
 
 
 def test_lists(da65, words, body, warning, cpu):
@@ -15,13 +15,27 @@ def test_runs(da65, given, words, status, out, err, after, stdin):
     da65.does(given, words, status, out, err, after, stdin)
 
 
-@pytest.mark.parametrize("name", sorted(path.name for path in (ROOT / "names").glob("*.inc")))
-def test_the_names_of(da65, name):
-    """Each line is accepted without IGNOREUNKNOWN, and a listing that has none of the addresses defines them all."""
-    found = re.findall(r"^(\w+) += (\$....)  ;", (ROOT / "names" / name).read_text(), re.M)
-    write("machine.info", f'GLOBAL {{ STARTADDR $3000; }};\nASMINC {{ FILE "names/{name}"; }};')
-    constants = "".join(f"{word:15} := {value}\n" for word, value in found)
+MACHINES = sorted(path.stem for path in (ROOT / "names").glob("*.inc"))
+
+
+def test_twelve_machines_have_names():
+    assert len(MACHINES) == 12 and {path.stem for path in (ROOT / "names").glob("*.info")} < set(MACHINES)
+
+
+@pytest.mark.parametrize("name", MACHINES)
+def test_the_names_of(da65, trace65, name):
+    """The lines of an include file, each with a comment, are in the order of their addresses: a listing that has none
+    of these defines them all. What has several bytes, by the information file beside it, ends before the next name."""
+    names = {int(value, 16): word for word, value in re.findall(
+        r"^(\w+) += \$([0-9A-F]{4})  ; \S", (ROOT / f"names/{name}.inc").read_text(), re.M)}
+    beside = ROOT / f"names/{name}.info"
+    groups = beside.read_text() if beside.exists() else ""
+    write("machine.info", f'GLOBAL {{ STARTADDR $3000; }};\n{groups}ASMINC {{ FILE "names/{name}.inc"; }};')
+    constants = "".join(f"{word:15} := ${at:04X}\n" for at, word in names.items())
     da65("-i machine.info three.bin", 0, f"{HEADER}{constants}\n{TEXTS['THREE']}")
+    trace65("-i machine.info three.bin", 0, None)
+    for at, size in re.findall(r"^LABEL .* ADDR \$(\w+);.* SIZE (\d+);", groups, re.M):
+        assert not names.keys() & set(range(int(at, 16) + 1, int(at, 16) + int(size))), f"{size} bytes at ${at}"
 
 
 @pytest.mark.parametrize("size", (1, 4095, 4096, 4097, 4999, 5000, 5001, 8191, 8192, 8193),
@@ -33,36 +47,8 @@ def test_sizes(da65, size):
     da65("/dev/stdin", 0, listing, stdin=in_pieces(image[:1], image[1:], 0.02))
 
 
-def test_an_information_file_from_a_pipe_in_two_pieces(da65):
-    pipe = in_pieces(START, "RANGE { START $1000; SIZE 3; TYPE BYTETABLE; };", 0.3)
-    da65("-i /dev/stdin three.bin", 0, HEADER + "        .byte   $A9,$01,$60\n", stdin=pipe)
-
-
 def test_nothing_is_read_after(da65, words, text, message):
     """Nothing is read after the bytes that show that a file is too large."""
     pipe = in_pieces(1048577 * text + "rest")
     da65.refuses(words, message, stdin=pipe)
     same("rest", pipe.read(), "what is left in the pipe")
-
-
-def test_both_streams_on_one_file(da65):
-    with open("both", "wb") as both:
-        da65("-i skip.info three.bin", stdout=both, stderr=both)
-    holds("both", HEADER + SKIPPED + WARNING)
-
-
-def test_closed(da65, command, wanted):
-    assert subprocess.run(["sh", "-c", f"exec {da65.path} {command}"]).returncode == 1
-    holds("out.s", wanted)
-
-
-def test_no_warning_after_a_listing_that_was_cut(da65):
-    """The file may have 256 KiB."""
-    da65.refuses("-i skip_last.info -o cut.s large.bin", "cannot write the listing",
-                 before=shell("trap '' XFSZ; ulimit -f 512"))
-    holds("cut.s", (HEADER + 65536 * "        nop\n")[:262144])
-
-
-def test_a_full_standard_error(da65, words, out, written):
-    da65(words, 1, out, None, stderr=open("/dev/full", "wb"))
-    holds("out.s", written or None)

@@ -21,7 +21,7 @@ class Use:
     """A use of a program on its inputs, with an old output where one may be. In messages @ is the name of an input."""
 
     def __init__(self, request, kind, options="all", input=None):
-        inputs, every, *self.most = RUNS[kind]
+        inputs, every = RUNS[kind]
         self.kind, self.options, self.inputs = kind, options, inputs.split()
         self.every = every.split() if options == "all" else []
         self.main = self.inputs[-1]
@@ -143,7 +143,7 @@ def each(of="program", /, kinds=tuple(RUNS), options=("few", "all"), **values):
                  for use in kept for value in itertools.product(*values.values())}, *values)
 
 
-ALL, WRITING = ({kind: ((kind,),) for kind in kinds} for kinds in (RUNS, WRITERS))
+WRITING = {kind: ((kind,),) for kind in WRITERS}
 
 
 @each("input", what=("absent", "a folder", "a byte too large"))
@@ -383,21 +383,6 @@ def test_a_file_that_is_full(use, to):
         os.remove(use.out or "stdout")
 
 
-@uses(ALL)
-def test_less_and_less_memory(use):
-    """The run succeeds, or runs out and writes nothing. Below some limit the program is not even started."""
-    use.enlarged().out = None
-    whole, ended = use.go().ran.out, set()
-    for limit in range(24576, 0, -64):
-        status = use.go(before=["prlimit", f"--as={limit * 1024}"]).ran.status
-        if status not in (use.fine, use.trouble) or status == use.fine and use.ran.err:
-            break
-        ended.add(status)
-        use.says(status, "" if status == use.fine else "out of memory")
-        same(whole if status == use.fine else "", use.ran.out, use.ran.line)
-    assert ended == {use.fine, use.trouble}, "it was never fine, or never ran out"
-
-
 @pytest.mark.cc
 @each()
 def test_what_is_opened(use):
@@ -440,13 +425,3 @@ def test_a_write_that_fails(use):
     # A failure of close comes too late to be seen.
     for at in range(1, 9):
         use.begin().go(shim={"REFUSE_CLOSE": at, "ERROR": 5}).wrote(use.out)
-
-
-@pytest.mark.cc
-@uses(ALL)
-def test_calls_and_memory(use):
-    """What the run takes for large inputs. All the memory that it asks for may be a twentieth more."""
-    counts = use.enlarged().go(shim={}).ran.counts
-    opens, reads, writes, asked, allocations = use.most
-    assert counts[:3] == (opens, reads, writes)
-    assert counts.asked * 20 <= asked * 21 and counts.allocations <= allocations, counts

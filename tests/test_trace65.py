@@ -28,8 +28,8 @@ def test_refuses(trace65, words, message, info):
 FORMS = {
     "test_ranges": (r"RANGE \{ START \$(....); END \$(....); TYPE (.*); \}; # .*", r"\1-\2 \3"),
     "test_halves": (r"#: HALVES \{ LOW \$(....); HIGH \$(....); \}; # \$(.*)", r"\1,\2: \3"),  # address and name
-    "test_labels": (r'LABEL \{ ADDR \$(....); NAME "(.*)"; \};', r"\1 \2"),
-    "test_after": (r"#: AFTER \{ START \$(....); END \$(....); \};", r"\1-\2"),  # what lies after the image
+    # and what lies after the image
+    "test_labels": (r'(?:LABEL|#: AFTER) \{ (?:ADDR|START) \$(....); (?:NAME "|END \$)(.*?)"?; \};', r"\1 \2"),
     "test_shown": (r"RANGE .*; \}; # (.*)", r"\1"),  # what stands after each proposed range
     "test_misplaced": (r"# ((entry|range) .*)", r"\1"),  # entries and ranges at the wrong place
     "test_likely": (r"# ((the word|what follows) .*)", r"\1"),

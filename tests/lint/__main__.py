@@ -9,7 +9,7 @@ import sys
 
 sys.dont_write_bytecode = True
 
-import columns, contracts, edits, imports, manual, memory, names, page, pages, proofs, readings, rows, scripts, words  # noqa: E401
+import columns, contracts, edits, imports, manual, memory, page, pages, proofs, readings, rows, scripts, words  # noqa: E401
 from source import LeftOut, Refused
 
 CHECKS = {
@@ -24,7 +24,6 @@ CHECKS = {
     proofs: "docs/PROOFS.md is made from the comments of the clauses",
     pages: "each link of a page leads somewhere, and each name of a page about the code stands in the tree",
     columns: "no more clauses than listed are wider than 100 columns; no test or page is wider than 120, no script than 140, no man page than 80",
-    names: "the files of names have their form",
     rows: "each table of tests/rows has its test",
     scripts: "shellcheck finds nothing in the scripts",
 }

@@ -2,12 +2,11 @@
 of each definition that these cite. Public is what the root of a library exports, and whatever a row of docs/PROOFS.md names; in a program,
 every `pub` item."""
 
-import difflib
 import re
 
 from definitions import checksum, cited_in, definition, resolved, types_in
 from proofs import rows
-from source import ATTRIBUTE, CRATES, ROOT, TYPES, module_file, source, sources, split_list, through
+from source import ATTRIBUTE, CRATES, IMPL, ROOT, TYPES, differs, module_file, source, sources, split_list, through
 
 SNAPSHOT = ROOT / "docs" / "contracts"
 PRELUDE = "std.Prelude"
@@ -18,10 +17,11 @@ def entry(here, head, lines, ghosts=()):
     named = types_in(here) | {name: resolved(target) for name, target in [*here.ghosts, *ghosts]}
     clauses = [line for line in lines if re.match(r"requires|ensures|decreases|ghost", line)]
     if any(re.search(r"\bRattle\b|\bcrate\b", line) for line in clauses):
-        here.refuse(f"{head} names other files outside `ghost use`", 1)
-    cited = sorted({(definition(one).name, checksum(one)) for line in clauses for one in cited_in(line, named) if not isinstance(one, str)})
-    outside = sorted({one for line in clauses for one in cited_in(line, named) if isinstance(one, str) and not one.startswith(PRELUDE)})
-    return head, [*lines, *(f"cites {name} {sum_}" for name, sum_ in cited), *(f"cites {name}" for name in outside)]
+        here.refuse(f"{head} names other files outside `ghost use`")
+    cited = set().union(*(cited_in(line, named) for line in clauses))
+    outside = {one for one in cited if isinstance(one, str)}
+    sums = sorted(f"cites {definition(one).name} {checksum(one)}" for one in cited - outside)
+    return head, [*lines, *sums, *sorted(f"cites {one}" for one in outside if not one.startswith(PRELUDE))]
 
 
 def visible(text):
@@ -35,8 +35,7 @@ def visible(text):
 
 def block_entries(here, item, is_public_type):
     """The entries of a trait, of an `impl` of a trait, or of the methods of a type; none for a trait that is not public."""
-    of_trait = re.match(r"impl(?:<(?:[^<>]|<[^<>]*>)*>)? (.*) for ", item.text)
-    laws = set()
+    of_trait, laws = re.match(rf"{IMPL} (.*) for ", item.text), set()
     if of_trait:
         found = types_in(here).get(re.match(r"\w+", of_trait[1])[0])
         if found:
@@ -56,27 +55,19 @@ def block_entries(here, item, is_public_type):
             yield entry(here, head, [*([item.text] if item.kind == "impl" else []), one.text, *one.clauses], item.clauses)
         elif one.kind in ("const", "type") and one.is_public and not of_trait:
             yield entry(here, f"{item.name}::{one.name}", [item.text, one.text + ";"], item.clauses)
-        elif one.kind not in ("fn", "ghost", "const", "type"):
-            here.refuse(f"a member of kind {one.kind}", one.line)
 
 
 def given_out(crate):
     """What the root of a library gives out: the file of each item by its name, and the items of other crates."""
-    root, own, others = source(crate, module_file(crate, [])), {}, []
-    for name, (steps, is_public) in root.uses.items():
-        if not is_public:
-            continue
-        found = through(root, name)
-        if not found:
-            root.refuse(f"nothing in the tree is {'::'.join(steps)}", 1)
-        if found[0].crate != crate:
-            others.append("::".join(steps))
-            continue
-        own[found[1].name] = found[0].path
-        target = found[1].kind == "type" and types_in(found[0]).get(re.match(r"type \w+ = (\w+)", found[1].text)[1])
-        if target:
+    root = source(crate, module_file(crate, []))
+    found = {steps: through(root, name) for name, (steps, is_public) in root.uses.items() if is_public}
+    for steps in (steps for steps, place in found.items() if not place):
+        root.refuse(f"nothing in the tree is {'::'.join(steps)}")
+    own = {item.name: here.path for here, item in found.values() if here.crate == crate}
+    for here, item in found.values():
+        if item.kind == "type" and (target := types_in(here).get(re.match(r"type \w+ = (\w+)", item.text)[1])):
             own[target[3]] = target[2]
-    return own, others
+    return own, ["::".join(steps) for steps, (here, _) in found.items() if here.crate != crate]
 
 
 def entries(crate):
@@ -128,11 +119,5 @@ def snapshot(crate):
 def check(write):
     """What differs from the snapshot, a line each; with `write` it is written anew."""
     found = {f"{crate}.txt": snapshot(crate) for crate in CRATES}
-    if write:
-        SNAPSHOT.mkdir(exist_ok=True)
-        for name, text in found.items():
-            (SNAPSHOT / name).write_text(text)
     for name in sorted(found.keys() | {path.name for path in SNAPSHOT.glob("*")}):
-        path = SNAPSHOT / name
-        kept = path.read_text() if path.exists() else ""
-        yield from difflib.unified_diff(kept.splitlines(), found.get(name, "").splitlines(), f"docs/contracts/{name}", "the tree", lineterm="")
+        yield from differs(SNAPSHOT / name, found.get(name, ""), write and name in found, "the tree")

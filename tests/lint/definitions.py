@@ -5,11 +5,13 @@ import re
 from functools import cache
 from typing import NamedTuple
 
-from source import ATTRIBUTE, ROOT, Refused, imports, module_file, own_steps, place_of, source, through
+from source import ALL_CRATES, ATTRIBUTE, ROOT, TYPES, Refused, imports, module_file, own_steps, source, through
 
-DEFINITION_TOKENS = re.compile(r'(?P<gap>--[^\n]*|\s+)|(?P<text>"(?:\\.|[^"\\])*")|(?P<word>\w[\w\'-]*)|(?P<mark>[^\w\s"(){}.,]+|.)', re.DOTALL)
+TOKEN = re.compile(r'"(?:\\.|[^"\\])*"|\w[\w\'-]*|[^\w\s"(){}.,]+|\S')
 # What a block of definitions begins with. Its equations, and whatever is indented, belong to it.
 HEAD = re.compile(r"(?:(?:pub|abbrev|unfoldable|record|data) )+(?:data |record )?([^\s:]+)|([^\s:]+) :|module _ |infix[lr]? \d+ (\S+)")
+# What a name of a contract can stand for in the code.
+NAMED = (*TYPES, "const")
 
 
 class Definition(NamedTuple):
@@ -17,45 +19,37 @@ class Definition(NamedTuple):
 
     name: str
     text: str
-    cited: frozenset
+    cited: set
 
 
 class Definitions:
     """A file of definitions: its blocks, each with the names that it defines, and the names of other files that it hands on."""
 
     def __init__(self, path):
-        self.path = path
         self.names, self.blocks, self.imports, self.handed_on = {}, {}, [], {}
         name = None
         for number, line in enumerate(path.read_text().splitlines(), 1):
             bare = re.sub(r'^((?:[^"]|"(?:\\.|[^"\\])*")*?)\s*--(?: .*|$)', r"\1", line).rstrip()
             if not bare or bare.startswith("pub mod "):
                 continue
-            if bare.startswith("use "):
-                self.imports += imports(bare[4:]) or self.refuse(number, f"an import {bare}")
+            if brought := re.match(r"((?:unfoldable )?pub )?use (.*)", bare):
+                found = imports(brought[2])
+                self.handed_on.update(found) if brought[1] else self.imports.extend(found)
                 continue
-            handed_on = re.match(r"(?:unfoldable )?pub use (.*)", bare)
-            if handed_on:
-                self.handed_on.update(imports(handed_on[1]) or self.refuse(number, f"an import {bare}"))
-                continue
-            head = HEAD.match(bare)
             if "Rattle." in bare:
-                self.refuse(number, "names of other files outside `use` lines")
-            if head:
+                raise Refused(f"{path.relative_to(ROOT)}:{number}: names of other files outside `use` lines")
+            if head := HEAD.match(bare):
                 name = head[1] or head[2] or head[3] or f"module {number}"
                 self.names[name] = name
-                self.blocks.setdefault(name, [])
-                self.in_module = bare.startswith("module _ ")
-            elif not (name and (re.match(r" |unfolding |[)\]}]+$", bare) or set(name.split("◌")) - {""} <= set(re.split(r"[\s()]+", bare)))):
-                self.refuse(number, "neither a definition nor an equation of the one above")
-            self.blocks[name].append(bare)
+                has_members = bare.startswith(("module _ ", "pub data", "data"))
+            self.blocks.setdefault(name, []).append(bare)
             inner = re.match(r"  (?:pub )?([^:=()]+) : ", bare)
-            if inner and (self.in_module or self.blocks[name][0].startswith(("pub data", "data"))):
-                for word in inner[1].split():
-                    self.names.setdefault(word, name)
+            for word in inner[1].split() if inner and has_members else ():
+                self.names.setdefault(word, name)
 
-    def refuse(self, number, cause):
-        raise Refused(f"{self.path.relative_to(ROOT)}:{number}: {cause}")
+
+def specs_file(crate, steps):
+    return (ROOT / "crates" / crate / "specs").joinpath(*steps).with_suffix(".antt")
 
 
 @cache
@@ -63,60 +57,45 @@ def definitions(path):
     return Definitions(path)
 
 
-def short(path):
-    """A path as the snapshot shows it."""
-    return path.replace("Rattle.", "").replace(".specs.", ".")
-
-
 @cache
 def resolved(path):
-    """What a path of an import names: ("definition", file, name), ("type", crate, file, name), ("module", file), or the path itself if
-    it is outside the tree or a proof."""
-    crate, _, rest = path.removeprefix("Rattle.").partition(".")
-    folder = ROOT / "crates" / crate
-    if not path.startswith("Rattle.") or not folder.is_dir():
-        return short(path)
-    kind, *steps = rest.split(".")
-    if kind == "proofs":
-        return short(path)
-    if kind == "specs" and steps[0] in ("declared", "contracts"):
+    """What a path of an import names: ("definition", file, name), ("type", crate, file, name), ("module", file), or the path as the
+    snapshot shows it if it is outside the tree or a proof."""
+    crate, kind, *steps = path.removeprefix("Rattle.").split(".")
+    if not path.startswith("Rattle.") or crate not in ALL_CRATES or kind == "proofs":
+        return path.replace("Rattle.", "").replace(".specs.", ".")
+    if steps[0] in ("declared", "contracts"):
         for count in reversed(range(1, len(steps))):
-            file = module_file(crate, steps[1:count])
-            if file:
-                name = steps[count + 1] if steps[count] == "TheConstants" else steps[count]
-                return ("type", crate, file, name)
-    elif kind == "specs":
-        whole = (folder / "specs").joinpath(*steps).with_suffix(".antt")
-        if whole.exists():
-            return ("module", whole)
-        file = (folder / "specs").joinpath(*steps[:-1]).with_suffix(".antt")
-        here = definitions(file) if file.exists() else None
-        if here and steps[-1] in here.names:
-            return ("definition", file, here.names[steps[-1]])
-        if here and steps[-1] in here.handed_on:
-            return resolved(here.handed_on[steps[-1]])
+            if file := module_file(crate, steps[1:count]):
+                return ("type", crate, file, steps[count + (steps[count] == "TheConstants")])
+    if specs_file(crate, steps).exists():
+        return ("module", specs_file(crate, steps))
+    *steps, name = steps
+    file = specs_file(crate, steps)
+    here = definitions(file) if file.exists() else None
+    if here and name in here.names:
+        return ("definition", file, here.names[name])
+    if here and name in here.handed_on:
+        return resolved(here.handed_on[name])
     raise Refused(f"nothing in the tree is {path}")
 
 
 def cited_in(text, named):
     """What a text cites, by the names that can be used in it: tokens of it, or, of a name with holes, the words between these."""
-    words = [found for found in DEFINITION_TOKENS.finditer(text) if found.lastgroup != "gap"]
-    spelled = [found.group() for found in words]
-    present, cited = set(spelled), set()
+    words, cited = TOKEN.findall(text), set()
     for name, target in named.items():
-        parts = [part for part in name.split("◌") if part]
-        if not all(part in present for part in parts):
+        if not set(name.split("◌")) - {""} <= set(words):
             continue
-        if target[0] == "module":
-            inside = definitions(target[1]).names
-            for at, word in enumerate(spelled):
-                if word == name and spelled[at + 1 : at + 2] == ["."]:
-                    if spelled[at + 2] not in inside:
-                        raise Refused(f"{target[1].relative_to(ROOT)}:1: nothing is named {spelled[at + 2]} here, but something cites it")
-                    cited.add(("definition", target[1], inside[spelled[at + 2]]))
-        else:
+        if target[0] != "module":
             cited.add(target)
-    return frozenset(cited)
+            continue
+        inside = definitions(target[1]).names
+        for word, dot, member in zip(words, words[1:], words[2:]):
+            if (word, dot) == (name, "."):
+                if member not in inside:
+                    raise Refused(f"{target[1].relative_to(ROOT)}:1: nothing is named {member} here, but something cites it")
+                cited.add(("definition", target[1], inside[member]))
+    return cited
 
 
 @cache
@@ -130,12 +109,9 @@ def names_in(path):
 @cache
 def types_in(here):
     """The types and constants of the tree that a source can name."""
-    named = {}
-    for name in [*here.uses, *(item.name for item in here.items)]:
-        found = place_of(here.crate, [*own_steps(here), name]) if name not in here.uses else through(here, name)
-        if found and found[1].kind in ("struct", "enum", "type", "const", "trait"):
-            named[name] = ("type", found[0].crate, found[0].path, found[1].name)
-    return named
+    own = {item.name: (here, item) for item in here.items if item.kind in NAMED}
+    found = own | {name: place for name in here.uses if (place := through(here, name)) and place[1].kind in NAMED}
+    return {name: ("type", place.crate, place.path, item.name) for name, (place, item) in found.items()}
 
 
 @cache

@@ -1,8 +1,6 @@
 """Each edit that must fail can be applied: its file exists, and has each text that it replaces exactly once. `rt ci` skips an edit that
 can't be applied. And the wrong bodies that are listed here, and no others, have their edits, or the tests that refuse them."""
 
-import re
-
 from source import ROOT
 
 CRATES = ROOT / "crates"
@@ -30,14 +28,14 @@ WRONG_BODIES = {
     "move65": """text_is_not_read_back moved_address_overflows""",
 }
 
-# Those that a test refuses, each with the test and its file. A contract can't say whether memory ran out, or how much there was.
-TESTED_BODIES = (
-    ("always_bad_words", "start_addresses", "conformance/src/tests/command_lines.rt"),
-    ("always_out_of_memory", "each_allocation_refused_in_turn", "conformance/src/tests/memory.rt"),
-    ("always_out_of_memory", "each_allocation_of_a_large_image_refused_in_turn", "conformance/src/tests/memory.rt"),
-    ("lists_beside_cells", "run_allocates_as_its_parts", "conformance/src/tests/memory.rt"),
-    ("lists_beside_cells", "each_size_allocates_as_its_parts", "conformance/src/tests/memory.rt"),
-)
+# Those that a test refuses, each with its tests, by the file of these. A contract can't say whether memory ran out, or how much there was.
+TESTED_BODIES = {
+    "command_lines": {"always_bad_words": "start_addresses"},
+    "memory": {
+        "always_out_of_memory": "each_allocation_refused_in_turn each_allocation_of_a_large_image_refused_in_turn",
+        "lists_beside_cells": "run_allocates_as_its_parts each_size_allocates_as_its_parts",
+    },
+}
 
 
 def faults(edit):
@@ -69,6 +67,7 @@ def check(write):
         for body in bodies.split():
             if not (CRATES / crate / "must-fail" / f"{body}.edit").is_file():
                 yield f"{crate}/{body}: a wrong body without its edit"
-    for body, test, file in TESTED_BODIES:
-        if not re.search(rf"^#\[test\]\nfn {test}\(", (CRATES / file).read_text(), re.MULTILINE):
-            yield f"{body}: no test {test} in {file}"
+    for file, bodies in TESTED_BODIES.items():
+        text = (CRATES / f"conformance/src/tests/{file}.rt").read_text()
+        for body, tests in bodies.items():
+            yield from (f"{body}: no test {test} in {file}.rt" for test in tests.split() if f"#[test]\nfn {test}(" not in text)

@@ -5,7 +5,7 @@ it is declared."""
 
 import re
 
-from definitions import definitions
+from definitions import definitions, specs_file
 from source import ALL_CRATES, ROOT, imports
 
 USE = re.compile(r"( *)(?:ghost )?use (Rattle\.(\w+)\.specs\.[^;]+);?")
@@ -13,7 +13,7 @@ USE = re.compile(r"( *)(?:ghost )?use (Rattle\.(\w+)\.specs\.[^;]+);?")
 
 def handed_on(crate, name):
     """What a file of a crate hands on: the path of each name."""
-    path = ROOT / "crates" / crate / "specs" / f"{name}.antt"
+    path = specs_file(crate, [name])
     return definitions(path).handed_on if path.exists() else {}
 
 
@@ -32,7 +32,7 @@ def check(write):
             own_specs = found and found[3] == crate and kind == "specs"
             if not found or own_specs and path.stem in ("Words", "Types"):
                 continue
-            for _, target in imports(found[2]) or []:
+            for _, target in imports(found[2]):
                 module, name = target.rsplit(".", 1)
                 place = module.rpartition(".specs.")[2]
                 if place in ("Words", "Types"):

@@ -1,5 +1,5 @@
-"""The files of Rattle code, in the layout of `rt fmt`: their items, with clauses and bodies, and what their imports name. What the script
-does not understand is refused, with file and line."""
+"""The files of Rattle code: their items, with clauses and bodies, and what their imports name. What the script does not understand is
+refused, with the file and the line."""
 
 import difflib
 import re
@@ -14,15 +14,17 @@ ALL_CRATES = re.findall(r"^(\w+):", (ROOT / "crates.txt").read_text(), re.MULTIL
 CRATES = [name for name in ALL_CRATES if name not in LEFT_OUT]
 
 TOKENS = re.compile(
-    r"""(?P<gap>\s+|//[^\n]*)
-    |(?P<text>b?"(?:\\.|[^"\\])*"|b?'(?:\\u\{\w+\}|\\x\w\w|\\.|[^\\'\n])')
-    |(?P<word>'?\w+(?:-\w+)*'*)
-    |(?P<mark>::|->|=>|[^\w\s])""",
+    r"""(?:\s|//[^\n]*)+
+    |(?P<token>b?"(?:\\.|[^"\\])*"|b?'(?:\\u\{\w+\}|\\x\w\w|\\.|[^\\'\n])'|'?\w+(?:-\w+)*'*|::|->|=>|[^\w\s])""",
     re.VERBOSE | re.DOTALL,
 )
 ATTRIBUTE = re.compile(r'#\[(?:"(?:\\.|[^"\\])*"|[^"\]])*\] ?')
+IMPL = r"(?:unsafe )?impl(?:<(?:[^<>]|<[^<>]*>)*>)?"
+NAME = re.compile(rf"(?:trait|{IMPL}) (?:.* for )?(\w+)")
 TYPES = ("struct", "enum", "type", "trait")
 CLAUSES = ("requires", "ensures", "decreases")
+# What the head of an item ends with.
+ENDS = {"fn": (*CLAUSES, "{", ";"), "struct": ("{", "(", ";"), "enum": "{", "impl": "{", "trait": "{", "macro_rules": "{"}
 OPENERS, CLOSERS = "([{", ")]}"
 
 
@@ -34,24 +36,17 @@ class LeftOut(Exception):
     """Why a check is left out."""
 
 
-class Token(NamedTuple):
-    text: str
-    begin: int
-    end: int
-    line: int
-
-
 class Item(NamedTuple):
-    """An item of a source file: its kind, its name, its text without body and clauses, those, and the words of its body."""
+    """An item of a source file. `text` is without body and clauses. The fields of a struct or an enum are its clause, and those of an
+    `impl` or a trait are the imports that stand in it."""
 
     kind: str
     name: str
     is_public: bool
     attributes: list
     text: str
-    clauses: list
-    members: list
-    line: int
+    clauses: list = ()
+    members: list = ()
     body: tuple = ()
 
 
@@ -59,185 +54,119 @@ class Source:
     """A source file: its items, and the names that its `use` lines bring in."""
 
     def __init__(self, crate, path):
-        self.crate, self.path = crate, path
-        self.code = path.read_text()
+        self.crate, self.path, self.code = crate, path, path.read_text()
         self.ghosts, self.uses, self.modules = [], {}, set()
-        self.tokens = self.cut()
+        self.tokens = [found for found in TOKENS.finditer(self.code) if found["token"]]
+        self.words = [found["token"] for found in self.tokens]
+        # Behind which token a bracket closes.
+        self.behind, opened = {}, []
+        for at, word in enumerate(self.words):
+            if word in ("(", "[", "{"):
+                opened.append(at)
+            elif word in (")", "]", "}"):
+                self.behind[opened.pop()] = at + 1
         self.at = 0
-        self.items = self.body(len(self.tokens))
+        self.items = self.items_up_to(len(self.tokens))
 
-    def refuse(self, cause, line=None):
-        line = line or (self.tokens[min(self.at, len(self.tokens) - 1)].line if self.tokens else 1)
-        raise Refused(f"{self.path.relative_to(ROOT)}:{line}: {cause}")
-
-    def cut(self):
-        tokens, at, line = [], 0, 1
-        while at < len(self.code):
-            found = TOKENS.match(self.code, at)
-            if not found or found.group() == '"' or re.compile(r'/\*|b?r#*"').match(self.code, at):
-                self.tokens = tokens
-                self.refuse("a comment or a text of a kind that stands nowhere else", line)
-            if found.lastgroup != "gap":
-                tokens.append(Token(found.group(), at, found.end(), line))
-            line += found.group().count("\n")
-            at = found.end()
-        return tokens
+    def refuse(self, cause):
+        at = self.tokens[min(self.at, len(self.tokens) - 1)].start() if self.tokens else 0
+        raise Refused(f"{self.path.relative_to(ROOT)}:{self.code[:at].count(chr(10)) + 1}: {cause}")
 
     def peek(self, ahead=0):
-        at = self.at + ahead
-        return self.tokens[at].text if at < len(self.tokens) else ""
+        return self.words[self.at + ahead] if self.at + ahead < len(self.words) else ""
 
-    def take(self, wanted=None):
-        word = self.peek()
-        if not word or (wanted and word != wanted):
-            self.refuse(f"{wanted or 'more'} expected, found {word or 'the end'}")
-        self.at += 1
-        return word
+    def step(self):
+        """Passes over a token, or a pair of brackets with what is in it."""
+        self.at = self.behind.get(self.at, self.at + 1)
 
-    def skip_group(self):
-        """Passes over a pair of brackets with what is in it."""
-        depth = 0
-        while True:
-            word = self.take()
-            depth += word in OPENERS and len(word) == 1
-            depth -= word in CLOSERS and len(word) == 1
-            if depth == 0:
-                return
+    def text(self, begin):
+        """The text from a token up to here, without comments, on one line."""
+        text = self.words[begin] if begin < self.at else ""
+        for before, token in zip(self.tokens[begin : self.at], self.tokens[begin + 1 : self.at]):
+            text += " " * (before.end() < token.start()) + token["token"]
+        return text
 
-    def until(self, stops):
-        """Passes over everything up to one of these words that is in no brackets."""
-        begin = self.at
-        while self.peek() not in stops:
-            if self.peek() in ("(", "[", "{"):
-                self.skip_group()
-            else:
-                self.take()
-        return self.text(begin, self.at)
-
-    def text(self, begin, end):
-        """The text from one token to before another, without comments, on one line."""
-        parts = []
-        for before, token in zip([None] + self.tokens[begin:end], self.tokens[begin:end]):
-            parts.append(" " if before and before.end < token.begin else "")
-            parts.append(token.text)
-        return "".join(parts)
+    def up_to(self, ends, begin=None):
+        """The text up to one of these words that is in no brackets."""
+        begin = self.at if begin is None else begin
+        while self.peek() not in ends:
+            if not self.peek():
+                self.refuse(f"no {' or '.join(ends)}")
+            self.step()
+        return self.text(begin)
 
     def group(self):
         begin = self.at
-        self.skip_group()
-        return self.text(begin, self.at)
+        self.step()
+        return self.text(begin)
 
-    def body(self, end):
+    def items_up_to(self, end):
         items = []
         while self.at < end:
-            item = self.item()
-            if item:
-                items.append(item)
-        return items
+            items.append(self.item())
+        return [item for item in items if item]
 
     def item(self):
+        """The next item, or nothing for an import or a module."""
         attributes = []
         while self.peek() == "#":
-            self.take("#")
-            if self.peek() == "!":
-                self.take("!")
-            name, text = self.peek(1), self.group()
-            if name in ("derive", "error", "error_bound", "macro_export"):
-                attributes.append("#" + text)
-            elif name not in ("tactic", "inline", "cycle"):
-                self.refuse(f"an attribute {name}")
-        line = self.tokens[self.at].line if self.at < len(self.tokens) else 0
+            self.at += 1 + (self.peek(1) == "!")
+            attributes.append("#" + self.group())
+        attributes = [text for text in attributes if not re.match(r"#\[(tactic|inline|cycle)\b", text)]
         is_public = self.peek() == "pub" and self.peek(1) != "("
         if self.peek() == "pub":
-            self.take()
+            self.at += 1
             if self.peek() == "(":
-                self.skip_group()
+                self.step()
         begin = self.at
-        kind = self.take()
-        if kind == "ghost" and self.peek() == "use":
-            self.until(";")
-            self.ghost_use(self.text(begin + 2, self.at), line)
-            return self.take(";") and None
-        if kind == "use":
-            self.use(self.until(";"), is_public)
-            return self.take(";") and None
-        if kind == "mod":
-            self.modules.add(self.take())
-            return self.take(";") and None
-        if kind in ("unsafe", "const") and self.peek() in ("fn", "impl"):
-            kind = self.take()
-        if kind == "ghost":
-            return self.member(line)
+        while self.peek() in ("unsafe", "const", "ghost") and self.peek(1) in ("fn", "impl", "use"):
+            self.at += 1
+        kind, name = self.peek(), self.peek(1)
+        self.at += 1
+        text = self.up_to(ENDS.get(kind, ";"), begin)
         if kind == "fn":
-            return self.function(begin, is_public, line)
-        if kind in ("const", "type", "static"):
-            name = self.take()
-            self.until(";")
-            text = self.text(begin, self.at)
-            self.take(";")
-            return Item(kind, name, is_public, attributes, text, [], [], line)
-        if kind in ("struct", "enum"):
-            return self.declared(kind, begin, is_public, attributes, line)
+            return self.function(name, is_public, text)
         if kind in ("impl", "trait"):
-            return self.block(kind, begin, is_public, attributes, line)
-        if kind == "macro_rules" and self.take("!"):
-            name = self.take()
-            text = self.group()
-            return Item("macro", name, bool(attributes), attributes, f"macro_rules! {name} {text}", [], [], line)
-        return self.refuse(f"an item that begins with {kind}", line)
+            return self.block(kind, is_public, attributes, plain(text))
+        if kind == "macro_rules":
+            name = self.peek(-1)
+            self.step()
+            return Item("macro", name, bool(attributes), attributes, self.text(begin))
+        fields = self.group() if kind in ("struct", "enum") and self.peek() != ";" else ""
+        if kind != "enum" and self.peek() == ";":
+            self.at += 1
+        if kind in ("struct", "enum"):
+            return Item(kind, name, is_public, attributes, plain(text), [plain(fields)])
+        if kind in ("const", "type", "static", "ghost"):
+            return Item(kind, name, is_public or kind == "ghost", attributes, text)
+        if kind == "mod":
+            return self.modules.add(name)
+        if kind != "use":
+            self.refuse(f"an item that begins with {kind}")
+        if text.startswith("ghost"):
+            self.ghosts += imports(text.removeprefix("ghost use "))
+            return None
+        return self.use(text.removeprefix("use "), is_public)
 
-    def member(self, line):
-        name, between = self.take(), self.take()
-        if between not in ("=", ":") or self.peek() != "{":
-            self.refuse("a ghost member without a value")
-        text = self.group()
-        self.take(";")
-        return Item("ghost", name, True, [], f"ghost {name}{' ' if between == '=' else ''}{between} {text}", [], [], line)
-
-    def function(self, begin, is_public, line):
-        name = self.peek()
-        self.until(CLAUSES + ("{", ";"))
-        text = self.text(begin, self.at)
+    def function(self, name, is_public, text):
         clauses = []
         while self.peek() in CLAUSES:
-            first = self.at
-            self.until("{")
-            self.skip_group()
-            clauses.append(self.text(first, self.at))
-        first = self.at
-        if self.peek() == "{":
-            self.skip_group()
-        else:
-            self.take(";")
-        body = tuple(token.text for token in self.tokens[first : self.at])
-        return Item("fn", name, is_public, [], re.sub(r"\bmut (?=\w+: )", "", plain(text)), clauses, [], line, body)
+            begin = self.at
+            self.up_to("{")
+            self.step()
+            clauses.append(self.text(begin))
+        begin = self.at
+        self.step()
+        return Item("fn", name, is_public, [], re.sub(r"\bmut (?=\w+: )", "", plain(text)), clauses, [], tuple(self.words[begin : self.at]))
 
-    def declared(self, kind, begin, is_public, attributes, line):
-        name = self.peek()
-        self.until(("{", "(", ";"))
-        text = self.text(begin, self.at)
-        fields = self.group() if self.peek() != ";" else ""
-        if kind == "struct" and self.peek() == ";":
-            self.take(";")
-        return Item(kind, name, is_public, attributes, plain(text), [plain(fields)], [], line)
-
-    def block(self, kind, begin, is_public, attributes, line):
-        self.until("{")
-        text = plain(self.text(begin, self.at))
-        last = self.at
-        self.skip_group()
-        end, self.at = self.at - 1, last + 1
+    def block(self, kind, is_public, attributes, text):
+        end = self.behind[self.at] - 1
+        self.at += 1
         outer, self.ghosts = self.ghosts, []
-        members = self.body(end)
+        members = self.items_up_to(end)
         inner, self.ghosts = self.ghosts, outer
-        self.take("}")
-        name = re.match(r"(?:unsafe )?(?:trait|impl(?:<(?:[^<>]|<[^<>]*>)*>)?) (?:.* for )?(\w+)", text)
-        if not name:
-            self.refuse(f"a head {text}", line)
-        return Item(kind, name[1], is_public, attributes, text, inner, members, line)
-
-    def ghost_use(self, text, line):
-        self.ghosts += imports(text) or self.refuse(f"an import {text}", line)
+        self.at += 1
+        return Item(kind, NAME.match(text)[1], is_public, attributes, text, inner, members)
 
     def use(self, text, is_public, before=()):
         """A tree of imports, as the names that it brings in with their paths."""
@@ -248,8 +177,7 @@ class Source:
                 continue
             path, _, other = part.partition(" as ")
             steps = (*before, *path.split("::"))
-            if steps[-1] == "self":
-                steps = steps[:-1]
+            steps = steps[:-1] if steps[-1] == "self" else steps
             if steps[-1] == "*":
                 self.refuse("an import of all names")
             self.uses[other or steps[-1]] = (steps, is_public)
@@ -277,20 +205,22 @@ def split_list(text):
 
 
 def imports(text):
-    """The names that `use PATH.{NAME, NAME as OTHER}` or `use PATH as OTHER` brings in, each with its path; None for other forms."""
-    listed = re.fullmatch(r"([\w.]+)\.\{(.*)\}", text)
-    if listed:
+    """The names that `use PATH.{NAME, NAME as OTHER}` or `use PATH as OTHER` brings in, each with its path."""
+    if listed := re.fullmatch(r"([\w.]+)\.\{(.*)\}", text):
         pairs = [name.strip().partition(" as ") for name in listed[2].split(",") if name.strip()]
         return [(other or name, f"{listed[1]}.{name}") for name, _, other in pairs]
-    renamed = re.fullmatch(r"([\w.]+) as (\w+)", text)
-    return renamed and [(renamed[2], renamed[1])]
+    path, renamed, other = text.partition(" as ")
+    if not renamed:
+        raise Refused(f"an import of another form: {text}")
+    return [(other, path)]
 
 
 def differs(page, made, write, origin):
     """What differs from a page that is made from others, a line each; with `write` it is written anew."""
     if write:
         page.write_text(made)
-    return difflib.unified_diff(page.read_text().splitlines(), made.splitlines(), page.name, origin, lineterm="")
+    kept = page.read_text() if page.exists() else ""
+    return difflib.unified_diff(kept.splitlines(), made.splitlines(), str(page.relative_to(ROOT)), origin, lineterm="")
 
 
 @cache
@@ -306,10 +236,8 @@ def sources(crate):
 def module_file(crate, steps):
     """The file of a module, or None."""
     folder = ROOT / "crates" / crate / "src"
-    if not steps:
-        return next((folder / name for name in ("lib.rt", "main.rt") if (folder / name).exists()), None)
-    path = folder.joinpath(*steps).with_suffix(".rt")
-    return path if path.exists() else None
+    paths = [folder.joinpath(*steps).with_suffix(".rt")] if steps else [folder / "lib.rt", folder / "main.rt"]
+    return next((path for path in paths if path.exists()), None)
 
 
 def place_of(crate, steps):
@@ -319,31 +247,23 @@ def place_of(crate, steps):
     if not path:
         return None
     here = source(crate, path)
-    for item in here.items:
-        if item.kind not in ("impl", "ghost") and item.name == name:
-            return here, item
-    return through(here, name)
+    found = [item for item in here.items if item.kind not in ("impl", "ghost") and item.name == name]
+    return (here, found[0]) if found else through(here, name)
 
 
 def through(here, name):
     """The item that an import of a source has under this name."""
     if name not in here.uses:
         return None
-    steps = here.uses[name][0]
-    if steps[0] == "crate":
-        return place_of(here.crate, steps[1:])
-    if (ROOT / "crates" / steps[0]).is_dir():
-        return place_of(steps[0], steps[1:])
+    first, *rest = here.uses[name][0]
     own = own_steps(here)
-    if steps[0] in ("self", "super"):
-        return place_of(here.crate, own[: len(own) - (steps[0] == "super")] + list(steps[1:]))
-    if steps[0] in here.modules:
-        return place_of(here.crate, own + list(steps))
-    return None
+    modules = {"crate": [], "self": own, "super": own[:-1]} | {module: [*own, module] for module in here.modules}
+    if first in ALL_CRATES:
+        return place_of(first, rest)
+    return place_of(here.crate, [*modules[first], *rest]) if first in modules else None
 
 
 def own_steps(here):
     """The path of the module that a source is, without the crate."""
     steps = list(here.path.relative_to(ROOT / "crates" / here.crate / "src").with_suffix("").parts)
     return [] if steps in (["lib"], ["main"]) else steps
-

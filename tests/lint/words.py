@@ -3,66 +3,43 @@ words of its table on the page. The rows that the proofs of info65 compute check
 
 import re
 
-from source import ROOT, Refused
+from source import ROOT
 
 SPECS = ROOT / "crates" / "info65" / "specs"
-WORD = r'if str_eq_ignore_ascii_case text \(codes "(\w+)"\) then Some (\S+)'
 
 
-def tables(module, name):
-    """The words of a definition that goes by a word: for each kind of group, or for None, each word with what it stands for."""
-    text = (SPECS / f"{module}.antt").read_text()
-    body = re.search(rf"^unfoldable pub {name} : .*\n((?:.+\n)+)", text, re.MULTILINE)
-    if not body:
-        raise Refused(f"{module} has no {name}")
-    found, words = {}, {}
-    for line in body[1].splitlines():
-        clause = re.match(rf"{name}(?: (\S+))? text =", line)
-        if clause:
-            words = found[clause[1]] = {}
-            line = line[clause.end():]
-        row = re.fullmatch(rf" *(?:(?:else \()?{WORD})?(?: *else None\)*)?", line)
-        if not row:
-            raise Refused(f"{name} has a line that is no row: {line.strip()}")
-        if row[1]:
-            words[row[1]] = row[2]
-    return found
+def defined(module, name):
+    """The words of a definition that goes by a word, for each kind of group, or for an empty text; each with what it stands for."""
+    body = re.search(rf"^unfoldable pub {name} : .*\n((?:.+\n)+)", (SPECS / f"{module}.antt").read_text(), re.MULTILINE)[1]
+    clauses = re.findall(rf"^{name}(?: (\S+))? text =((?:.*\n(?!{name}))*.*)", body, re.MULTILINE)
+    return {kind: dict(re.findall(r'\(codes "(\w+)"\) then Some (\S+)', rows)) for kind, rows in clauses}
 
 
 def grouped(module, groups, attributes):
     """The words of the attributes of each group, by its word."""
-    kinds, found = tables(module, groups)[None], tables(module, attributes)
-    if sorted(kinds.values()) != sorted(found):
-        raise Refused(f"{attributes} has other groups than {groups}")
-    return {word: set(found[kind]) for word, kind in kinds.items()}
+    found = defined(module, attributes)
+    return {word: set(found[kind]) for word, kind in defined(module, groups)[""].items()}
 
 
-def paged(page):
-    """The tables of the page: attributes by group, those of the groups in comments, type words, and booleans by what they stand for."""
-    groups, tags, types = {}, {}, set()
-    for heading, section in re.findall(r"^## (.*)\n((?:(?!## ).*\n)*)", page, re.MULTILINE):
-        for head, rows in re.findall(r"^\| (Attribute|Type word|group) \|.*\n\|[-|]+\n((?:\|.*\n)+)", section, re.MULTILINE):
-            cells = [re.findall(r"`(\w+)`", cell) for cell in re.findall(r"^\| (.*?) \| .*", rows, re.MULTILINE)]
-            firsts = {words[0] for words in cells}
-            if head == "Attribute":
-                groups[heading] = firsts
-            elif head == "Type word":
-                types = firsts
-            else:
-                tags = {name: set(re.findall(r"`(\w+)`", cell)) for name, cell in re.findall(r"^\| `(\w+)` \| (.*?) \|", rows, re.MULTILINE)}
-    yes, no = re.search(r"A boolean is one of the words ([^.]*?) and ([^.]*?), in any case", " ".join(page.split())).groups()
-    booleans = {word.upper(): value for text, value in ((yes, "true"), (no, "false")) for word in re.findall(r"`(\w+)`", text)}
-    return {"groups": groups, "groups in comments": tags, "type words": types, "booleans": booleans}
+def paged(page, head):
+    """The words of each first cell in the page's tables that begin with this cell, by the heading above."""
+    tables = re.findall(rf"^## ([^\n]*)\n(?:(?!## )[^\n]*\n)*?\| {head} \|[^\n]*\n\|[-|]+\n((?:\|[^\n]*\n)+)", page, re.MULTILINE)
+    return {heading: [re.findall(r"`(\w+)`", cell) for cell in re.findall(r"^\| (.*?) \| ", rows, re.MULTILINE)] for heading, rows in tables}
 
 
 def check(write):
-    there = paged((ROOT / "docs" / "INFORMATION_FILE.md").read_text())
-    here = {
-        "groups": grouped("Attributes", "group_named", "attribute_named"),
-        "groups in comments": grouped("Tags", "tag_named", "tag_attribute"),
-        "type words": set(tables("Attributes", "type_named")[None]),
-        "booleans": tables("Attributes", "boolean_named")[None],
-    }
-    for name, words in here.items():
-        if words != there[name]:
-            yield f"the {name} of the definitions are {words}, those of the page {there[name]}"
+    page = (ROOT / "docs" / "INFORMATION_FILE.md").read_text()
+    tags = re.findall(r"^\| `(\w+)` \| (.*?) \|", re.search(r"^\| group \|(.*\n)+?\n", page, re.MULTILINE)[0], re.MULTILINE)
+    yes, no = re.search(r"A boolean is one of the words ([^.]*?) and ([^.]*?), in any case", " ".join(page.split())).groups()
+    meant = {value: {word.upper() for word in re.findall(r"`(\w+)`", text)} for text, value in ((yes, "true"), (no, "false"))}
+    booleans = defined("Attributes", "boolean_named")[""]
+    for kind, here, there in (
+        ("groups", grouped("Attributes", "group_named", "attribute_named"),
+         {heading: {words[0] for words in rows} for heading, rows in paged(page, "Attribute").items()}),
+        ("groups in comments", grouped("Tags", "tag_named", "tag_attribute"),
+         {name: set(re.findall(r"`(\w+)`", cell)) for name, cell in tags}),
+        ("type words", set(defined("Attributes", "type_named")[""]), {words[0] for rows in paged(page, "Type word").values() for words in rows}),
+        ("booleans", {value: {word for word in booleans if booleans[word] == value} for value in booleans.values()}, meant),
+    ):
+        if here != there:
+            yield f"the {kind} of the definitions are {here}, those of the page {there}"

@@ -1,10 +1,12 @@
 // The map of a run, built by the calls that a run makes.
 use crate::heap::Refusing;
 use crate::tests::asserts::{assert_equal, assert_that};
-use da65::{File, Options, Told};
+use crate::tests::command_lines::options_on;
+use crate::tests::runs::Given;
+use da65::{File, Told};
 use info65::{IncludeSpec, Info, read_include, read_info};
 use map65::{Image, Map, read_image};
-use std::alloc::{Allocator, Global};
+use std::alloc::{AllocGlobal, Allocator, Global};
 use std::process::Abort;
 
 /// A map has two bytes for each address.
@@ -35,21 +37,15 @@ fn bytes_of<'a, A: Allocator>(files: &[File<'a>], include: &IncludeSpec<A>) -> O
 }
 
 /// Builds the map of a run with ample memory, by one allocation. Returns false if a call before that refuses.
-pub fn builds_map(
-    rt: &impl Abort,
-    alloc: Global,
-    options: &Options,
-    info: &[u8],
-    files: &[File<'_>],
-    input: &[u8],
-) -> bool {
-    let heap = Refusing::after(alloc, u64::MAX);
-    let Ok(mut info) = read_info(&heap, options, info) else {
+pub fn builds_map(rt: &(impl AllocGlobal + Abort), given: &Given<'_>) -> bool {
+    let heap = Refusing::after(rt.alloc(), u64::MAX);
+    let options = options_on(rt, given.words).expect(rt, "options_on");
+    let Ok(mut info) = read_info(&heap, &options, given.info) else {
         return false;
     };
     for index in 0..16 {
         if index < info.includes().len() {
-            let Some(bytes) = bytes_of(files, &info.includes()[index]) else {
+            let Some(bytes) = bytes_of(given.files, &info.includes()[index]) else {
                 return false;
             };
             if read_include(&heap, &mut info, index, bytes).is_err() {
@@ -57,7 +53,7 @@ pub fn builds_map(
             }
         }
     }
-    let Ok(image) = read_image(&heap, &info, &mut Told::new(input)) else {
+    let Ok(image) = read_image(&heap, &info, &mut Told::new(given.input)) else {
         return false;
     };
     assert_one_allocation(rt, &heap, &info, &image);

@@ -1,12 +1,12 @@
 // Command lines.
-use crate::tests::asserts::{assert_equal, assert_equal_at, assert_that, assert_that_at};
+use crate::tests::asserts::{assert_equal_at, assert_that_at};
+use crate::tests::worked::words_of;
 use da65::{Options, UsageFault, options_of};
-use isa65::Cpu;
-use std::alloc::{AllocError, Global};
+use std::alloc::{AllocError, AllocGlobal, Global};
 use std::process::Abort;
 
 /// The words of a command line: the program's name, and then these.
-fn words_of(alloc: Global, words: &[&str]) -> Result<Vec<String>, AllocError> {
+fn line_of(alloc: Global, words: &[&str]) -> Result<Vec<String>, AllocError> {
     let mut all = Vec::new(alloc);
     all.push(String::from_str(alloc, "da65")?)?;
     for word in words {
@@ -16,8 +16,11 @@ fn words_of(alloc: Global, words: &[&str]) -> Result<Vec<String>, AllocError> {
 }
 
 /// The options of these words, which follow the program's name.
-pub fn options_on(rt: &impl Abort, alloc: Global, words: &[&str]) -> Result<Options, UsageFault> {
-    options_of(alloc, &words_of(alloc, words).expect(rt, "words_of"))
+pub fn options_on(rt: &(impl AllocGlobal + Abort), words: &[&str]) -> Result<Options, UsageFault> {
+    options_of(
+        rt.alloc(),
+        &line_of(rt.alloc(), words).expect(rt, "line_of"),
+    )
 }
 
 const STARTS: &[(&str, &str, u16)] = &[
@@ -34,181 +37,67 @@ const STARTS: &[(&str, &str, u16)] = &[
 #[test]
 fn start_addresses(rt: HostRuntime) {
     for (option, value, start) in STARTS {
-        let options = options_on(&rt, rt.alloc(), &[option, value, "a.bin"]).expect(
-            &rt,
-            "options_on",
-        );
+        let options = options_on(&rt, &[option, value, "a.bin"]).expect(&rt, "options_on");
         let is_found = options.start == Some(*start) && options.input.as_deref() == Some("a.bin");
         assert_that_at(&rt, is_found, &value);
     }
 }
 
-/// A command line and what its options are: the names of the information file, the output and the input, the start, the
-/// CPU, the level and the layout, in the order of the help text; then whether `--hexoffs`, `-h` and `-V` stand there.
-struct Row {
-    words: &'static [&'static str],
-    info: Option<&'static str>,
-    output: Option<&'static str>,
-    input: Option<&'static str>,
-    start: Option<u16>,
-    cpu: Option<Cpu>,
-    layout: [Option<u8>; 6],
-    flags: [bool; 3],
-}
-
-const NO_LAYOUT: [Option<u8>; 6] = [None, None, None, None, None, None];
-
-const ROWS: &[Row] = &[
-    Row {
-        words: &[
-            "-i",
-            "a.info",
-            "-o",
-            "a.s",
-            "-S",
-            "$C000",
-            "--cpu",
-            "6502",
-            "--comments",
-            "4",
-            "--mnemonic-column",
-            "1",
-            "--argument-column",
-            "2",
-            "--comment-column",
-            "120",
-            "--text-column",
-            "003",
-            "--label-break",
-            "0",
-            "--hexoffs",
-            "-h",
-            "-V",
-            "a.bin",
-        ],
-        info: Some("a.info"),
-        output: Some("a.s"),
-        input: Some("a.bin"),
-        start: Some(0xC000),
-        cpu: Some(Cpu::M6502),
-        layout: [Some(4), Some(1), Some(2), Some(120), Some(3), Some(0)],
-        flags: [true, true, true],
-    },
-    Row {
-        words: &[
-            "--info=a.info",
-            "--start-addr=0xC000",
-            "--cpu=65sc02",
-            "--help",
-            "--",
-            "-V",
-        ],
-        info: Some("a.info"),
-        output: None,
-        input: Some("-V"),
-        start: Some(0xC000),
-        cpu: Some(Cpu::M65SC02),
-        layout: NO_LAYOUT,
-        flags: [false, true, false],
-    },
-    Row {
-        words: &["--version"],
-        info: None,
-        output: None,
-        input: None,
-        start: None,
-        cpu: None,
-        layout: NO_LAYOUT,
-        flags: [false, false, true],
-    },
-    Row {
-        words: &["--cpu", "65SC02"],
-        info: None,
-        output: None,
-        input: None,
-        start: None,
-        cpu: Some(Cpu::M65SC02),
-        layout: NO_LAYOUT,
-        flags: [false, false, false],
-    },
-    Row {
-        words: &["--cpu", "65c02"],
-        info: None,
-        output: None,
-        input: None,
-        start: None,
-        cpu: Some(Cpu::M65C02),
-        layout: NO_LAYOUT,
-        flags: [false, false, false],
-    },
-    Row {
-        words: &[],
-        info: None,
-        output: None,
-        input: None,
-        start: None,
-        cpu: None,
-        layout: NO_LAYOUT,
-        flags: [false, false, false],
-    },
+/// A command line and what its options are: the names of the information file, the output and the input, the start and the CPU; the level
+/// and the layout, in the order of the help text; and whether `--hexoffs`, `-h` and `-V` stand there.
+const ROWS: &[(&str, &str)] = &[
+    (
+        "-i a.info -o a.s -S $C000 --cpu 6502 --comments 4 --mnemonic-column 1 --argument-column 2 --comment-column 120 \
+        --text-column 003 --label-break 0 --hexoffs -h -V a.bin",
+        r#"Some("a.info") Some("a.s") Some("a.bin") Some(49152) Some(M6502)
+[Some(4), Some(1), Some(2), Some(120), Some(3), Some(0)] [true, true, true]"#,
+    ),
+    (
+        "--info=a.info --start-addr=0xC000 --cpu=65sc02 --help -- -V",
+        r#"Some("a.info") None Some("-V") Some(49152) Some(M65SC02)
+[None, None, None, None, None, None] [false, true, false]"#,
+    ),
+    (
+        "--version --cpu 65c02",
+        r#"None None None None Some(M65C02)
+[None, None, None, None, None, None] [false, false, true]"#,
+    ),
+    (
+        "",
+        r#"None None None None None
+[None, None, None, None, None, None] [false, false, false]"#,
+    ),
 ];
 
-fn has_names(options: &Options, row: &Row) -> bool {
-    options.info.as_deref() == row.info
-        && options.output.as_deref() == row.output
-        && options.input.as_deref() == row.input
-}
-
-fn has_layout(options: &Options, layout: &[Option<u8>; 6]) -> bool {
-    let [comments, mnemonics, arguments, remarks, texts, label_break] = layout;
-    options.comments == *comments
-        && options.mnemonic_column == *mnemonics
-        && options.argument_column == *arguments
-        && options.comment_column == *remarks
-        && options.text_column == *texts
-        && options.label_break == *label_break
-}
-
-fn has_flags(options: &Options, flags: &[bool; 3]) -> bool {
-    let [hexoffs, help, version] = flags;
-    options.hexoffs == *hexoffs && options.help == *help && options.version == *version
-}
-
-fn is_row(options: &Options, row: &Row) -> bool {
-    has_names(options, row)
-        && options.start == row.start
-        && options.cpu == row.cpu
-        && has_layout(options, &row.layout)
-        && has_flags(options, &row.flags)
+fn put_options(out: &mut String, options: &Options) -> Result<(), AllocError> {
+    let info = options.info.as_deref();
+    let output = options.output.as_deref();
+    let input = options.input.as_deref();
+    let layout = [
+        options.comments,
+        options.mnemonic_column,
+        options.argument_column,
+        options.comment_column,
+        options.text_column,
+        options.label_break,
+    ];
+    let flags = [options.hexoffs, options.help, options.version];
+    write!(
+        out,
+        "{info:?} {output:?} {input:?} {:?} {:?}\n{layout:?} {flags:?}",
+        options.start, options.cpu
+    )
 }
 
 #[test]
 fn each_option(rt: HostRuntime) {
-    for row in ROWS {
-        let options = options_on(&rt, rt.alloc(), row.words).expect(&rt, "options_on");
-        assert_that_at(&rt, is_row(&options, row), &format_args!("{:?}", row.words));
+    for (line, want) in ROWS {
+        let words = words_of(rt.alloc(), line).expect(&rt, "words_of");
+        let options = options_on(&rt, &words).expect(&rt, "options_on");
+        let mut found = String::new(rt.alloc());
+        put_options(&mut found, &options).expect(&rt, "put_options");
+        assert_equal_at(&rt, &found.as_str(), want, line);
     }
-}
-
-/// What it prints without memory for the words, without memory for the options, and with the options of the row. `tests/test_growth.py`
-/// refuses each of its allocations in turn.
-#[test]
-fn options_in_little_memory(rt: HostRuntime) {
-    let row = ROWS.first().expect(&rt, "a row");
-    let found = match words_of(rt.alloc(), row.words) {
-        Ok(words) => match options_of(rt.alloc(), &words) {
-            Ok(options) => {
-                assert_that(&rt, is_row(&options, row));
-                "options"
-            }
-            Err(fault) => {
-                assert_equal(&rt, &fault, &UsageFault::Memory);
-                "no memory for options"
-            }
-        },
-        Err(_) => "no memory for words",
-    };
-    println!(rt; "{found}").expect(&rt, "println");
 }
 
 /// Why a command line is refused.
@@ -273,7 +162,7 @@ const REFUSED: &[(UsageFault, &[&str])] = &[
 #[test]
 fn refusals(rt: HostRuntime) {
     for (fault, words) in REFUSED {
-        let refused = options_on(&rt, rt.alloc(), words).err();
+        let refused = options_on(&rt, words).err();
         assert_equal_at(&rt, &refused, &Some(*fault), &format_args!("{words:?}"));
     }
 }

@@ -120,22 +120,6 @@ impl Read for Tape<'_> {
     }
 }
 
-/// Gives bytes 00 without end, and counts them.
-#[derive(Drop)]
-pub struct Endless {
-    pub given: usize,
-}
-
-impl Read for Endless {
-    fn read(&mut self, buf: &mut [u8]) -> io::Result<usize> {
-        for byte in buf.iter_mut() {
-            *byte = 0;
-        }
-        self.given = self.given.saturating_add(buf.len());
-        Ok(buf.len())
-    }
-}
-
 /// A writer that takes this many bytes, at most eight at each write, meets its fault once, and would then go on.
 #[derive(Drop)]
 pub struct Short {

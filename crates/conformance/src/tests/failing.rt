@@ -1,9 +1,11 @@
 // Runs over devices that fail.
-use crate::tests::asserts::{assert_equal, assert_equal_at, assert_that, assert_that_at};
+use crate::tests::asserts::{assert_equal, assert_equal_at, assert_that};
 use crate::tests::devices::{FAULTS, Fault, Short, Tape};
-use crate::tests::runs::{THREE, THREE_LISTING, WARNING, named, run_on};
+use crate::tests::runs::{AT_1000, Given, NAMED, THREE, THREE_LISTING, WARNING};
 use da65::{RunFault, Status};
-use std::io::ErrorKind;
+use std::alloc::AllocGlobal;
+use std::io::{ErrorKind, Read};
+use std::process::Abort;
 
 /// A reader that fails is not asked again, although it would go on.
 #[test]
@@ -13,78 +15,54 @@ fn a_reader_that_fails(rt: HostRuntime) {
             let mut listing = Vec::new(rt.alloc());
             let mut messages = Vec::new(rt.alloc());
             let mut reader = Tape::failing(THREE, given, kind);
-            let result = run_on(
-                rt.alloc(),
-                &named(&rt, rt.alloc(), None),
-                &[],
-                &mut reader,
-                &mut listing,
-                &mut messages,
-            );
+            let three = Given::named(THREE);
+            let result = three.run_on(&rt, rt.alloc(), &mut reader, &mut listing, &mut messages);
             assert_equal_at(&rt, &result, &Ok(Status::Refused), &given);
             assert_equal(&rt, &reader.given(), &given);
             assert_equal_at(&rt, &reader.later(), &0, &given);
             assert_that(&rt, listing.is_empty());
-            assert_equal(
-                &rt,
-                &messages.as_slice(),
-                &b"da65: cannot read the input\n".as_slice(),
-            );
+            let message = b"da65: cannot read the input\n".as_slice();
+            assert_equal(&rt, &messages.as_slice(), &message);
         }
     }
 }
 
-/// One that fails after the bytes that are asked of it is not asked again.
-#[test]
-fn a_reader_that_fails_after_its_size(rt: HostRuntime) {
+/// The three bytes are listed without a message, which would fail.
+fn assert_listed<R: Read + Drop>(
+    rt: &(impl AllocGlobal + Abort),
+    info: &[u8],
+    reader: R,
+    fault: Fault,
+) {
+    let given = Given {
+        words: NAMED,
+        info,
+        files: &[],
+        input: &[],
+    };
     let mut listing = Vec::new(rt.alloc());
-    let mut messages = Vec::new(rt.alloc());
-    let result = run_on(
-        rt.alloc(),
-        &named(&rt, rt.alloc(), None),
-        b"GLOBAL { INPUTSIZE 3; };",
-        Tape::failing(THREE, 3, ErrorKind::Other),
-        &mut listing,
-        &mut messages,
-    );
-    assert_equal(&rt, &result, &Ok(Status::Done));
-    assert_equal(&rt, &listing.as_slice(), &THREE_LISTING);
-    assert_that(&rt, messages.is_empty());
+    let messages = Short::new(rt.alloc(), 0, fault);
+    let result = given.run_on(rt, rt.alloc(), reader, &mut listing, messages);
+    assert_equal(rt, &result, &Ok(Status::Done));
+    assert_equal(rt, &listing.as_slice(), &THREE_LISTING);
 }
 
+/// A reader that fails after the bytes that are asked of it is not asked again. A run without a message writes none, not even one
+/// without a byte.
 #[test]
-fn a_reader_of_single_bytes(rt: HostRuntime) {
-    let mut listing = Vec::new(rt.alloc());
-    let mut messages = Vec::new(rt.alloc());
-    let result = run_on(
-        rt.alloc(),
-        &named(&rt, rt.alloc(), None),
-        &[],
-        Tape::new(THREE, 1),
-        &mut listing,
-        &mut messages,
-    );
-    assert_equal(&rt, &result, &Ok(Status::Done));
-    assert_equal(&rt, &listing.as_slice(), &THREE_LISTING);
-    assert_that(&rt, messages.is_empty());
-}
-
-/// A run without a message writes none, not even one without a byte: its writer would fail.
-#[test]
-fn no_message_is_no_write(rt: HostRuntime) {
+fn no_call_too_many(rt: HostRuntime) {
     for fault in FAULTS {
-        let mut listing = Vec::new(rt.alloc());
-        let result = run_on(
-            rt.alloc(),
-            &named(&rt, rt.alloc(), None),
-            &[],
-            THREE,
-            &mut listing,
-            Short::new(rt.alloc(), 0, fault),
-        );
-        assert_equal(&rt, &result, &Ok(Status::Done));
-        assert_equal(&rt, &listing.as_slice(), &THREE_LISTING);
+        let size = b"GLOBAL { INPUTSIZE 3; };";
+        assert_listed(&rt, size, Tape::failing(THREE, 3, ErrorKind::Other), fault);
+        assert_listed(&rt, b"", Tape::new(THREE, 1), fault);
     }
+}
+
+/// The writer has got its room of these bytes, and nothing after it met its fault.
+fn assert_cut(rt: &impl Abort, out: &Short, whole: &[u8], room: usize) {
+    let (front, _) = whole.split_at(room.min(whole.len()));
+    assert_equal_at(rt, &out.bytes.as_slice(), &front, &room);
+    assert_equal_at(rt, &out.later(), &0, &room);
 }
 
 #[test]
@@ -93,51 +71,38 @@ fn a_writer_that_fails_or_takes_none(rt: HostRuntime) {
         for room in 0..THREE_LISTING.len() {
             let mut out = Short::new(rt.alloc(), room, fault);
             let mut messages = Vec::new(rt.alloc());
-            let result = run_on(
-                rt.alloc(),
-                &named(&rt, rt.alloc(), None),
-                &[],
-                THREE,
-                &mut out,
-                &mut messages,
-            );
+            let three = Given::named(THREE);
+            let result = three.run_on(&rt, rt.alloc(), THREE, &mut out, &mut messages);
             assert_equal_at(&rt, &result, &Err(RunFault::Write), &room);
-            assert_equal_at(&rt, &out.later(), &0, &room);
-            assert_equal_at(&rt, &out.bytes.as_slice(), &&THREE_LISTING[..room], &room);
+            assert_cut(&rt, &out, THREE_LISTING, room);
             assert_that(&rt, messages.is_empty());
         }
     }
 }
 
-const EMPTY_MESSAGE: &[u8] = b"da65: input is empty\n";
-
 /// A refusal writes nothing on the output, not even no byte: its writer would fail.
 #[test]
 fn messages_that_fail_or_take_none(rt: HostRuntime) {
+    let message = b"da65: input is empty\n";
     for fault in FAULTS {
-        for room in 0..EMPTY_MESSAGE.len() {
+        for room in 0..message.len() {
             let mut messages = Short::new(rt.alloc(), room, fault);
-            let result = run_on(
-                rt.alloc(),
-                &named(&rt, rt.alloc(), None),
-                &[],
-                [].as_slice(),
-                Short::new(rt.alloc(), 0, fault),
-                &mut messages,
-            );
+            let out = Short::new(rt.alloc(), 0, fault);
+            let empty = Given::named(&[]);
+            let result = empty.run_on(&rt, rt.alloc(), [].as_slice(), out, &mut messages);
             assert_equal_at(&rt, &result, &Err(RunFault::Messages), &room);
-            assert_equal_at(&rt, &messages.later(), &0, &room);
-            assert_equal_at(
-                &rt,
-                &messages.bytes.as_slice(),
-                &&EMPTY_MESSAGE[..room],
-                &room,
-            );
+            assert_cut(&rt, &messages, message, room);
         }
     }
 }
 
-const SKIPPING: &[u8] = b"RANGE { START $1001; END $1002; TYPE SKIP; };";
+/// Two of these bytes are skipped.
+const SKIPPING: Given<'static> = Given {
+    words: AT_1000,
+    info: b"RANGE { START $1001; END $1002; TYPE SKIP; };",
+    files: &[],
+    input: &[0xEA, 0x20, 0x30, 0xEA],
+};
 
 const SKIPPED_LISTING: &[u8] =
     b"; da65 listing\n\n        .setcpu \"6502\"\n\n        nop\n        nop\n";
@@ -149,23 +114,11 @@ fn a_warning_that_fails_or_takes_none(rt: HostRuntime) {
         for room in 0..WARNING.len() {
             let mut listing = Vec::new(rt.alloc());
             let mut messages = Short::new(rt.alloc(), room, fault);
-            let result = run_on(
-                rt.alloc(),
-                &named(&rt, rt.alloc(), Some(0x1000)),
-                SKIPPING,
-                [0xEA, 0x20, 0x30, 0xEA].as_slice(),
-                &mut listing,
-                &mut messages,
-            );
+            let input = SKIPPING.input;
+            let result = SKIPPING.run_on(&rt, rt.alloc(), input, &mut listing, &mut messages);
             assert_equal_at(&rt, &result, &Err(RunFault::Messages), &room);
-            assert_equal_at(&rt, &messages.later(), &0, &room);
-            assert_equal_at(&rt, &listing.as_slice(), &SKIPPED_LISTING, &room);
-            assert_equal_at(
-                &rt,
-                &messages.bytes.as_slice(),
-                &&WARNING.as_bytes()[..room],
-                &room,
-            );
+            assert_cut(&rt, &messages, WARNING.as_bytes(), room);
+            assert_equal(&rt, &listing.as_slice(), &SKIPPED_LISTING);
         }
     }
 }
@@ -174,18 +127,12 @@ fn a_warning_that_fails_or_takes_none(rt: HostRuntime) {
 #[test]
 fn a_listing_that_fails_has_no_warning(rt: HostRuntime) {
     for room in 0..SKIPPED_LISTING.len() {
-        let mut out = Short::new(rt.alloc(), room, Fault::Fails(ErrorKind::Other));
+        let mut out = Short::new(rt.alloc(), room, Fault::MovesNone);
         let mut messages = Vec::new(rt.alloc());
-        let result = run_on(
-            rt.alloc(),
-            &named(&rt, rt.alloc(), Some(0x1000)),
-            SKIPPING,
-            [0xEA, 0x20, 0x30, 0xEA].as_slice(),
-            &mut out,
-            &mut messages,
-        );
+        let input = SKIPPING.input;
+        let result = SKIPPING.run_on(&rt, rt.alloc(), input, &mut out, &mut messages);
         assert_equal_at(&rt, &result, &Err(RunFault::Write), &room);
-        assert_equal_at(&rt, &out.bytes.as_slice(), &&SKIPPED_LISTING[..room], &room);
-        assert_that_at(&rt, messages.is_empty(), &room);
+        assert_cut(&rt, &out, SKIPPED_LISTING, room);
+        assert_that(&rt, messages.is_empty());
     }
 }

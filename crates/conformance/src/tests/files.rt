@@ -1,10 +1,11 @@
-//! Information files: one that gives everything, prefixes of two, and many segments. Proofs compute what small files say, in `FileRows`,
-//! `AcceptedRows` and `RefusedRows` of `info65`.
+//! An information file that gives everything, and its tokens. Proofs compute what small files say, in `FileRows`, `AcceptedRows` and
+//! `RefusedRows` of `info65`.
 
-use crate::tests::asserts::{assert_equal, assert_equal_at, assert_that};
-use crate::tests::said::{covered, said, said_beside};
-use info65::{InfoFault, InfoFaultKind, Lexer, TokenKind};
-use std::alloc::{AllocError, Global};
+use crate::tests::asserts::assert_equal;
+use crate::tests::include_files::put_names;
+use crate::tests::inputs::info_of;
+use info65::{Info, InfoFault, InfoFaultKind, Lexer, Settings, TokenKind};
+use std::alloc::AllocError;
 
 /// Each attribute of a setting, and each kind of group. The names are not in the order of their addresses.
 const EVERYTHING: &[u8] =
@@ -17,63 +18,83 @@ LABEL { ADDR $FE; NAME \"buf\"; SIZE 4; };
 SEGMENT { START $1000; END $10FF; NAME \"ROM\"; };
 ASMINC { FILE \"k.inc\"; COMMENTSTART '*'; IGNOREUNKNOWN on; };";
 
+const SAID: &str = "Some(\"a.bin\") Some(\"b.s\") 1 Some(2) Some(4096) M65C02 true
+[4, 1, 2, 3, 4, 5] true true
+WordTable 1000-1001
+ 00FE buf+4 1000 table+1
+segment 1000-10FF ROM
+include k.inc 42 true
+";
+
+fn put_settings(out: &mut String, settings: &Settings) -> Result<(), AllocError> {
+    let input = settings.input.as_deref();
+    let output = settings.output.as_deref();
+    let numbers = [
+        settings.comments,
+        settings.mnemonic_column,
+        settings.argument_column,
+        settings.comment_column,
+        settings.text_column,
+        settings.label_break,
+    ];
+    write!(
+        out,
+        "{input:?} {output:?} {} {:?} {:?} {:?} {}\n{numbers:?} {} {}\n",
+        settings.offset,
+        settings.size,
+        settings.start,
+        settings.cpu,
+        settings.hexoffs,
+        settings.newline_after_jmp,
+        settings.newline_after_rts
+    )
+}
+
+/// All that an information says but for comments.
+fn put_info(out: &mut String, info: &Info) -> Result<(), AllocError> {
+    put_settings(out, info.settings())?;
+    for range in info.ranges() {
+        write!(
+            out,
+            "{:?} {:04X}-{:04X}\n",
+            range.role, range.first, range.last
+        )?;
+    }
+    put_names(out, info)?;
+    out.push_str("\n")?;
+    for segment in info.segments() {
+        let name = segment.name.escape_ascii();
+        write!(
+            out,
+            "segment {:04X}-{:04X} {name}\n",
+            segment.first, segment.last
+        )?;
+    }
+    for include in info.includes() {
+        let file = include.file.as_str();
+        write!(
+            out,
+            "include {file} {} {}\n",
+            include.comment_start, include.ignore_unknown
+        )?;
+    }
+    Ok(())
+}
+
 #[test]
 fn a_file_with_everything(rt: HostRuntime) {
-    let found = said(&rt, rt.alloc(), EVERYTHING);
-    let want =
-        " input a.bin output b.s offset 1 size 2 start 1000 cpu M65C02 hexoffs columns 4 1 2 3 4 5 after jmp after rts \
-        WordTable 1000-1001 00FE buf+4 1000 table \"a word\" segment 1000-10FF ROM include k.inc 2A ignoring";
-    assert_equal(&rt, &found.as_str(), &want);
-}
-
-/// A command line that sets everything wins.
-#[test]
-fn the_command_line_wins(rt: HostRuntime) {
-    let found = said_beside(
+    let info = info_of(&rt, EVERYTHING);
+    let mut out = String::new(rt.alloc());
+    put_info(&mut out, &info).expect(&rt, "put_info");
+    assert_equal(&rt, &out.as_str(), &SAID);
+    let named = info.covering(0x1000).expect(&rt, "a name");
+    assert_equal(&rt, &named.comment, &Some(b"a word".as_slice()));
+    assert_equal(
         &rt,
-        rt.alloc(),
-        b"GLOBAL { STARTADDR 1; CPU \"65C02\"; COMMENTS 4; };",
+        &info.segment_covering(0x10FF),
+        &Some(b"ROM".as_slice()),
     );
-    let want = " input a.bin output c.s start 2000 cpu M65SC02 hexoffs columns 0 11 12 13 14 15";
-    assert_equal(&rt, &found.as_str(), &want);
-}
-
-#[test]
-fn prefixes_of_a_group(rt: HostRuntime) {
-    let text = b"GLOBAL { CPU \"6502\"; INPUTSIZE $20; };";
-    for count in 0..=text.len() {
-        let want = match count {
-            0 => "",
-            37 | 38 => " size 32",
-            1..=5 => " 1: unknown group",
-            10 | 11 | 22..=29 => " 1: unknown attribute",
-            14..=18 => " 1: string not closed",
-            32 => " 1: bad number",
-            _ => " 1: something else expected",
-        };
-        let (front, _) = text.split_at(count);
-        let found = said(&rt, rt.alloc(), front);
-        assert_equal_at(&rt, &found.as_str(), &want, &count);
-    }
-}
-
-#[test]
-fn prefixes_of_a_label(rt: HostRuntime) {
-    let text = b"LABEL { ADDR $20; NAME \"ab\"; };";
-    for count in 0..=text.len() {
-        let want = match count {
-            0 => "",
-            30 | 31 => " 0020 ab",
-            1..=4 => " 1: unknown group",
-            9..=11 | 19..=21 => " 1: unknown attribute",
-            14 => " 1: bad number",
-            24..=26 => " 1: string not closed",
-            _ => " 1: something else expected",
-        };
-        let (front, _) = text.split_at(count);
-        let found = said(&rt, rt.alloc(), front);
-        assert_equal_at(&rt, &found.as_str(), &want, &count);
-    }
+    assert_equal(&rt, &info.segment_covering(0x1100), &None);
 }
 
 #[test]
@@ -84,91 +105,11 @@ fn a_fault_stays(rt: HostRuntime) {
     assert_equal(&rt, &word.kind, &TokenKind::Word);
     assert_equal(&rt, &word.text, &b"GLOBAL".as_slice());
     assert_equal(&rt, &word.line, &1);
+    let bad = InfoFault {
+        line: 1,
+        kind: InfoFaultKind::BadByte,
+    };
     for _ in 0..3 {
-        let fault = lexer.next_token().err();
-        assert_equal(
-            &rt,
-            &fault,
-            &Some(InfoFault {
-                line: 1,
-                kind: InfoFaultKind::BadByte,
-            }),
-        );
+        assert_equal(&rt, &lexer.next_token().err(), &Some(bad));
     }
-}
-
-// 20,000 groups SEGMENT of one address each, the last address first.
-fn segments(alloc: Global) -> Result<String, AllocError> {
-    let mut file = String::new(alloc);
-    for place in 0..20_000_u16 {
-        let n = 19_999_u16.saturating_sub(place);
-        write!(file, "SEGMENT {{ START {n}; END {n}; NAME \"s{n}\"; }};\n")?;
-    }
-    Ok(file)
-}
-
-// What they say.
-fn segments_said(alloc: Global) -> Result<String, AllocError> {
-    let mut want = String::new(alloc);
-    for place in 0..20_000_u16 {
-        let n = 19_999_u16.saturating_sub(place);
-        write!(want, " segment {n:04X}-{n:04X} s{n}")?;
-    }
-    Ok(want)
-}
-
-#[test]
-fn twenty_thousand_segments(rt: HostRuntime) {
-    let file = segments(rt.alloc()).expect(&rt, "segments");
-    let want = segments_said(rt.alloc()).expect(&rt, "segments_said");
-    let found = said(&rt, rt.alloc(), file.as_bytes());
-    assert_that(&rt, found.as_str() == want.as_str());
-}
-
-// 13,107 groups SEGMENT of three addresses each, with two between them, in another order than by address.
-fn apart(alloc: Global) -> Result<String, AllocError> {
-    let mut text = String::new(alloc);
-    for place in 0..13_107_u64 {
-        let first = place * 7919 % 13_107 * 5;
-        let last = first + 2;
-        write!(
-            text,
-            "SEGMENT{{START {first};END {last};NAME \"s{first}\";}}\n"
-        )?;
-    }
-    Ok(text)
-}
-
-// The segment of each address is the one whose first address is the multiple of 5 at or below it, and the last two of
-// each five addresses, and the last address of all, have none.
-fn covered_apart(alloc: Global) -> Result<String, AllocError> {
-    let mut text = String::new(alloc);
-    for address in 0..=0xFFFF_u16 {
-        let within = address % 5;
-        let first = address.saturating_sub(within);
-        if within < 3 && address < 0xFFFF {
-            write!(text, " {address:04X} - s{first}")?;
-        } else {
-            write!(text, " {address:04X} - -")?;
-        }
-    }
-    Ok(text)
-}
-
-// Each address.
-fn addresses(alloc: Global) -> Result<Vec<u16>, AllocError> {
-    let mut all = Vec::new(alloc);
-    for address in 0..=0xFFFF_u16 {
-        all.push(address)?;
-    }
-    Ok(all)
-}
-
-#[test]
-fn the_segment_of_each_address(rt: HostRuntime) {
-    let file = apart(rt.alloc()).expect(&rt, "apart");
-    let want = covered_apart(rt.alloc()).expect(&rt, "covered_apart");
-    let addresses = addresses(rt.alloc()).expect(&rt, "addresses");
-    let found = covered(&rt, rt.alloc(), file.as_bytes(), &addresses);
-    assert_that(&rt, found.as_str() == want.as_str());
 }

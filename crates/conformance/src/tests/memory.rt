@@ -9,12 +9,12 @@ use crate::tests::asserts::{
 use crate::tests::built::assert_one_allocation;
 use crate::tests::command_lines::options_on;
 use crate::tests::refusals::{MANY, Refusals};
-use crate::tests::runs::{NAMED, run_including, run_with, shown};
+use crate::tests::runs::Given;
 use crate::tests::worked::{Row, rows_of};
-use da65::{File, Options, RunFault, Status, Told};
+use da65::{Options, RunFault, Status, Told};
 use info65::{Inclusion, Info, InfoFault, NamePool, read_include, read_info};
 use map65::read_image;
-use std::alloc::Global;
+use std::alloc::{AllocGlobal, Global};
 use std::process::Abort;
 
 /// What a run gives: its result, the messages and the listing.
@@ -40,17 +40,6 @@ Ok(Done)
 
         lda     L2002+1
 L2002:  .word   $1234
-= the same with hexadecimal offsets
--S $1FFF --hexoffs a.bin < AD 03 20 34 12
-RANGE { START $2002; END $2003; TYPE WORDTABLE; };
---
-Ok(Done)
-; da65 listing
-
-        .setcpu "6502"
-
-        lda     L2002+$01
-L2002:  .word   $1234
 = a bit branch of the 65C02
 -S $1000 --cpu 65C02 a.bin < 0F 12 FD
 --
@@ -60,17 +49,6 @@ Ok(Done)
         .setcpu "65C02"
 
 L1000:  bbr0    $12,L1000
-= its bytes on the 6502
--S $1000 --cpu 6502 a.bin < 0F 12 FD
---
-Ok(Done)
-; da65 listing
-
-        .setcpu "6502"
-
-        .byte   $0F
-        .byte   $12
-        .byte   $FD
 = a sized name across the zero page
 a.bin < A5 FF AD 00 01
 LABEL { ADDR $FE; NAME "buf"; SIZE 4; };
@@ -91,18 +69,6 @@ RANGE { START $10FF; SIZE 2; TYPE SKIP; };
 --
 Ok(Refused)
 da65: info:2: ranges overlap
-= a reserved name
-a.bin < EA
-LABEL { ADDR $20; NAME "z"; };
---
-Ok(Refused)
-da65: info:1: reserved name
-= a name that the listing makes
-a.bin < EA
-LABEL { ADDR $3000; NAME "L2000"; };
---
-Ok(Refused)
-da65: info:1: reserved name
 = a string that is not closed
 a.bin < EA
 LABEL { ADDR $20; NAME "ab
@@ -185,20 +151,14 @@ da65: warning: skipped bytes, the listing does not assemble to the image
 "#;
 
 /// A run gives what the row says, with each allocation refused in turn until none is. If one is refused, nothing is written.
-fn assert_row(rt: &impl Abort, alloc: Global, row: &Row<'_>) {
-    let options = options_on(rt, alloc, &row.words).expect(rt, "options_on");
-    let files = [File {
-        name: "k.inc",
-        bytes: row.include.as_bytes(),
-    }];
+fn assert_row(rt: &(impl AllocGlobal + Abort), row: &Row<'_>) {
     let mut refusals = Refusals::none();
     for granted in 0..MANY {
-        let heap = Refusing::after(alloc, granted);
-        let info = row.info.as_bytes();
-        let ran = run_including(alloc, &heap, &options, info, &files, &row.input);
+        let heap = Refusing::after(rt.alloc(), granted);
+        let ran = row.given().run_in(rt, &heap);
         let failed = ran.result == Err(RunFault::Memory);
         refusals.count(rt, &heap, granted, failed);
-        let found = shown(rt, alloc, &ran);
+        let found = ran.shown(rt);
         let want = if failed {
             "Err(Memory)\n"
         } else {
@@ -214,8 +174,8 @@ fn assert_row(rt: &impl Abort, alloc: Global, row: &Row<'_>) {
 
 #[test]
 fn each_allocation_refused_in_turn(rt: HostRuntime) {
-    for row in &rows_of(&rt, rt.alloc(), ROWS) {
-        assert_row(&rt, rt.alloc(), row);
+    for row in &rows_of(&rt, ROWS) {
+        assert_row(&rt, row);
     }
 }
 
@@ -306,16 +266,9 @@ fn address_table(is_empty: bool) -> u64 {
 }
 
 /// Calls the parts of a run one after the other, up to the first that refuses, and looks at what each is granted.
-fn call_parts(
-    rt: &impl Abort,
-    heap: &Refusing<Global>,
-    options: &Options,
-    info: &[u8],
-    include: &[u8],
-    input: &[u8],
-) {
-    let slots = name_slots(info.len());
-    let Ok(mut info) = read_info(heap, options, info) else {
+fn call_parts(rt: &impl Abort, heap: &Refusing<Global>, options: &Options, given: &Given<'_>) {
+    let slots = name_slots(given.info.len());
+    let Ok(mut info) = read_info(heap, options, given.info) else {
         let both = address_table(false).saturating_mul(2);
         assert_granted(rt, heap, 0, 0, both.saturating_add(SMALL));
         return;
@@ -332,7 +285,10 @@ fn call_parts(
         marks.saturating_add(slots),
         pages.saturating_add(SMALL),
     );
-    if !info.includes().is_empty() {
+    if let Some(file) = given.files.first()
+        && !info.includes().is_empty()
+    {
+        let include = file.bytes;
         let before = heap.bytes();
         let names = info.given_count().saturating_mul(BYTES_OF_A_NAME);
         let found = name_slots(include.len().saturating_add(names)).saturating_add(LOOKED_UP);
@@ -349,47 +305,29 @@ fn call_parts(
         );
     }
     let before = heap.bytes();
-    let read = read_image(heap, &info, &mut Told::new(input));
-    assert_granted(rt, heap, before, image_bytes(input.len()), 0);
+    let read = read_image(heap, &info, &mut Told::new(given.input));
+    assert_granted(rt, heap, before, image_bytes(given.input.len()), 0);
     if let Ok(image) = read {
         assert_one_allocation(rt, heap, &info, &image);
     }
 }
 
 /// A run allocates as often as its parts do by themselves, and as many bytes.
-fn assert_as_its_parts(
-    rt: &impl Abort,
-    alloc: Global,
-    words: &[&str],
-    info: &str,
-    include: &str,
-    input: &[u8],
-) {
-    let options = options_on(rt, alloc, words).expect(rt, "options_on");
-    let include = include.as_bytes();
-    let files = [File {
-        name: "k.inc",
-        bytes: include,
-    }];
-    let parts = Refusing::after(alloc, u64::MAX);
-    call_parts(rt, &parts, &options, info.as_bytes(), include, input);
-    let whole = Refusing::after(alloc, u64::MAX);
-    run_including(alloc, &whole, &options, info.as_bytes(), &files, input);
-    assert_equal_at(rt, &whole.left(), &parts.left(), &info);
-    assert_equal_at(rt, &whole.bytes(), &parts.bytes(), &info);
+fn assert_as_its_parts(rt: &(impl AllocGlobal + Abort), given: &Given<'_>) {
+    let options = options_on(rt, given.words).expect(rt, "options_on");
+    let parts = Refusing::after(rt.alloc(), u64::MAX);
+    call_parts(rt, &parts, &options, given);
+    let whole = Refusing::after(rt.alloc(), u64::MAX);
+    given.run_in(rt, &whole);
+    let row = given.info.escape_ascii();
+    assert_equal_at(rt, &whole.left(), &parts.left(), &row);
+    assert_equal_at(rt, &whole.bytes(), &parts.bytes(), &row);
 }
 
 #[test]
 fn run_allocates_as_its_parts(rt: HostRuntime) {
-    for row in &rows_of(&rt, rt.alloc(), ROWS) {
-        assert_as_its_parts(
-            &rt,
-            rt.alloc(),
-            &row.words,
-            row.info,
-            row.include,
-            &row.input,
-        );
+    for row in &rows_of(&rt, ROWS) {
+        assert_as_its_parts(&rt, &row.given());
     }
 }
 
@@ -398,7 +336,7 @@ fn run_allocates_as_its_parts(rt: HostRuntime) {
 fn each_size_allocates_as_its_parts(rt: HostRuntime) {
     for count in [0, 1, 3, 4_096, 65_536, 65_537] {
         let image = vec![in rt.alloc(); 0u8; count].expect(&rt, "vec");
-        assert_as_its_parts(&rt, rt.alloc(), NAMED, "", "", &image);
+        assert_as_its_parts(&rt, &Given::named(&image));
     }
 }
 
@@ -408,11 +346,10 @@ const FEW: u64 = 20;
 #[test]
 fn each_allocation_of_a_large_image_refused_in_turn(rt: HostRuntime) {
     let image = vec![in rt.alloc(); 0u8; 65_536].expect(&rt, "vec");
-    let options = options_on(&rt, rt.alloc(), NAMED).expect(&rt, "options_on");
     let mut refusals = Refusals::none();
     for granted in 0..FEW {
         let heap = Refusing::after(rt.alloc(), granted);
-        let ran = run_with(rt.alloc(), &heap, &options, &[], &image);
+        let ran = Given::named(&image).run_in(&rt, &heap);
         let failed = ran.result == Err(RunFault::Memory);
         refusals.count(&rt, &heap, granted, failed);
         assert_that_at(&rt, failed || ran.result == Ok(Status::Done), &granted);

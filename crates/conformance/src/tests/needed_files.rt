@@ -2,7 +2,7 @@
 use crate::tests::asserts::assert_equal_at;
 use crate::tests::command_lines::options_on;
 use da65::{Needs, needs};
-use std::alloc::{AllocError, Global};
+use std::alloc::{AllocError, AllocGlobal};
 use std::process::Abort;
 
 /// The names of the input, the output and the include files.
@@ -21,10 +21,10 @@ fn put_needs(out: &mut String, found: &Needs) -> Result<(), AllocError> {
 }
 
 /// The names of the files that a run needs, as text.
-pub fn needed(rt: &impl Abort, alloc: Global, words: &[&str], info: &str) -> String {
-    let options = options_on(rt, alloc, words).expect(rt, "options_on");
-    let found = needs(alloc, &options, info.as_bytes()).expect(rt, "needs");
-    let mut out = String::new(alloc);
+fn needed(rt: &(impl AllocGlobal + Abort), words: &[&str], info: &str) -> String {
+    let options = options_on(rt, words).expect(rt, "options_on");
+    let found = needs(rt.alloc(), &options, info.as_bytes()).expect(rt, "needs");
+    let mut out = String::new(rt.alloc());
     put_needs(&mut out, &found).expect(rt, "put_needs");
     out
 }
@@ -66,7 +66,7 @@ const ROWS: &[(&[&str], &str, &str)] = &[
 #[test]
 fn names_of_files(rt: HostRuntime) {
     for (words, info, want) in ROWS {
-        let found = needed(&rt, rt.alloc(), words, info);
+        let found = needed(&rt, words, info);
         assert_equal_at(&rt, &found.as_str(), want, info);
     }
 }

@@ -8,7 +8,7 @@ use crate::tests::runs::AT_1000;
 use da65::{DeviceFault, Lines, Told, write_lines};
 use info65::{Info, read_info};
 use map65::{Image, Map, read_image};
-use std::alloc::Global;
+use std::alloc::AllocGlobal;
 use std::io::ErrorKind;
 use std::process::Abort;
 use stmt65::Line;
@@ -45,8 +45,8 @@ const LINES: &[&str] = &[
 ];
 
 /// The lines from this one on, as one text.
-fn text_from(rt: &impl Abort, alloc: Global, from: usize) -> String {
-    let mut text = String::new(alloc);
+fn text_from(rt: &(impl AllocGlobal + Abort), from: usize) -> String {
+    let mut text = String::new(rt.alloc());
     for line in LINES.iter().skip(from) {
         text.push_str(line).expect(rt, "push_str");
     }
@@ -73,17 +73,17 @@ fn lines_from<'a>(
 }
 
 /// These lines are written as this text.
-fn assert_written(rt: &impl Abort, alloc: Global, lines: Lines<'_>, want: &str) {
-    let mut listing = Vec::new(alloc);
+fn assert_written(rt: &(impl AllocGlobal + Abort), lines: Lines<'_>, want: &str) {
+    let mut listing = Vec::new(rt.alloc());
     let written = write_lines(lines, &mut Told::new(&mut listing));
     assert_equal_at(rt, &written, &Ok(()), &want);
     assert_equal_at(rt, &listing.as_slice(), &want.as_bytes(), &want);
 }
 
 /// A writer that fails once after half of this text gets no more of it.
-fn assert_cut(rt: &impl Abort, alloc: Global, lines: Lines<'_>, want: &str) {
+fn assert_cut(rt: &(impl AllocGlobal + Abort), lines: Lines<'_>, want: &str) {
     let room = want.len() / 2;
-    let mut out = Short::new(alloc, room, Fault::Fails(ErrorKind::Other));
+    let mut out = Short::new(rt.alloc(), room, Fault::Fails(ErrorKind::Other));
     let written = write_lines(lines, &mut Told::new(&mut out));
     assert_equal_at(rt, &written, &Err(DeviceFault), &want);
     assert_equal_at(rt, &out.bytes.as_slice(), &&want.as_bytes()[..room], &want);
@@ -101,17 +101,17 @@ fn assert_ended(rt: &impl Abort, mut lines: Lines<'_>) {
 
 #[test]
 fn lines_that_are_left(rt: HostRuntime) {
-    let options = options_on(&rt, rt.alloc(), AT_1000).expect(&rt, "options_on");
+    let options = options_on(&rt, AT_1000).expect(&rt, "options_on");
     let info = read_info(rt.alloc(), &options, INFO).expect(&rt, "read_info");
     let image = read_image(rt.alloc(), &info, &mut Told::new(IMAGE)).expect(&rt, "read_image");
     let map = Map::build(rt.alloc(), &info, &image).expect(&rt, "build");
     for taken in 0..=LINES.len() {
-        let want = text_from(&rt, rt.alloc(), taken);
+        let want = text_from(&rt, taken);
         let left = lines_from(&rt, &info, &image, &map, taken);
-        assert_written(&rt, rt.alloc(), left, &want);
+        assert_written(&rt, left, &want);
         let left = lines_from(&rt, &info, &image, &map, taken);
         if taken < LINES.len() {
-            assert_cut(&rt, rt.alloc(), left, &want);
+            assert_cut(&rt, left, &want);
         } else {
             assert_ended(&rt, left);
         }

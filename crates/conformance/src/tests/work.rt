@@ -1,12 +1,10 @@
 // How often a run reads and writes.
 use crate::tests::asserts::assert_equal_at;
-use crate::tests::command_lines::options_on;
 use crate::tests::devices::{Counted, Tape};
 use crate::tests::memory::ROWS;
-use crate::tests::runs::{NAMED, named};
+use crate::tests::runs::{Given, NAMED};
 use crate::tests::worked::{Row, rows_of};
-use da65::{File, Told, run};
-use std::alloc::Global;
+use std::alloc::AllocGlobal;
 use std::process::Abort;
 
 /// The most that one read asks for, and more than any write is handed.
@@ -37,24 +35,12 @@ fn writes_of(listing: &str, at_once: usize) -> usize {
 
 /// A run over a row reads its input up to the first empty read, or not at all if it is refused before, and writes each line and
 /// the messages once.
-fn assert_calls(rt: &impl Abort, alloc: Global, row: &Row<'_>, at_once: usize) {
-    let options = options_on(rt, alloc, &row.words).expect(rt, "options_on");
-    let files = [File {
-        name: "k.inc",
-        bytes: row.include.as_bytes(),
-    }];
+fn assert_calls(rt: &(impl AllocGlobal + Abort), row: &Row<'_>, at_once: usize) {
     let mut input = Tape::new(&row.input, at_once);
     let mut listing = Counted::new(at_once);
     let mut messages = Counted::new(at_once);
-    let _ = run(
-        alloc,
-        &options,
-        row.info.as_bytes(),
-        &files,
-        &mut Told::new(&mut input),
-        &mut Told::new(&mut listing),
-        &mut Told::new(&mut messages),
-    );
+    let given = row.given();
+    let _ = given.run_on(rt, rt.alloc(), &mut input, &mut listing, &mut messages);
     let (want_messages, want_listing) = written(row.gives.as_str());
     let reads = if want_listing.is_empty() {
         0
@@ -80,9 +66,9 @@ fn assert_calls(rt: &impl Abort, alloc: Global, row: &Row<'_>, at_once: usize) {
 
 #[test]
 fn reads_and_writes(rt: HostRuntime) {
-    for row in &rows_of(&rt, rt.alloc(), ROWS) {
+    for row in &rows_of(&rt, ROWS) {
         for at_once in [1, 3, CHUNK] {
-            assert_calls(&rt, rt.alloc(), row, at_once);
+            assert_calls(&rt, row, at_once);
         }
     }
 }
@@ -113,17 +99,15 @@ const READS: &[(&str, usize, usize, usize)] = &[
 fn reads_of_each_size(rt: HostRuntime) {
     for (info, count, at_once, reads) in READS {
         let input = vec![in rt.alloc(); 0u8; *count].expect(&rt, "vec");
-        let options = options_on(&rt, rt.alloc(), NAMED).expect(&rt, "options_on");
+        let given = Given {
+            words: NAMED,
+            info: info.as_bytes(),
+            files: &[],
+            input: &input,
+        };
         let mut tape = Tape::new(&input, *at_once);
-        let _ = run(
-            rt.alloc(),
-            &options,
-            info.as_bytes(),
-            &[],
-            &mut Told::new(&mut tape),
-            &mut Told::new(Counted::new(CHUNK)),
-            &mut Told::new(Counted::new(CHUNK)),
-        );
+        let listing = Counted::new(CHUNK);
+        let _ = given.run_on(&rt, rt.alloc(), &mut tape, listing, Counted::new(CHUNK));
         assert_equal_at(&rt, &tape.reads(), reads, info);
     }
 }
