@@ -5,6 +5,7 @@ use info65::Info;
 use isa65::{Mnemonic, Pattern};
 use map65::Marks;
 use std::alloc::{AllocError, Global};
+use std::mem::take;
 use stmt65::{
     Assembly, Datum, Directive, Form, Language, Minus, Notation, Operation, SourceLine, Value,
     first_line, read_line,
@@ -20,7 +21,7 @@ pub struct Lines {
     pub instructions: Marks,
     /// An instruction begins there that has an address of two bytes as its operand, and is no jump or call of it.
     pub operands: Marks,
-    /// Code is called there, or jumped to, or a table has the address; or a line of code has a label behind code that does not go on.
+    /// Code is called there, or jumped to, or a table has the address; or a line of code has a label after code that does not go on.
     pub routines: Marks,
     /// The address has a name, in the listing or in the information file.
     pub named: Marks,
@@ -51,9 +52,13 @@ impl Lines {
                 lines.named.set(address);
             }
         }
+        let mut reader = LineReader {
+            scene,
+            lines,
+            goes_on: false,
+        };
         let mut rest = text;
         let mut at = u64::from(scene.start);
-        let mut goes_on = false;
         for end in assembly.ends.iter() {
             let Some((line, after)) = first_line(rest) else {
                 break;
@@ -61,80 +66,12 @@ impl Lines {
             if at < end
                 && let Ok(address) = u16::try_from(at)
             {
-                let len = end.saturating_sub(at);
-                goes_on = lines.take_line(alloc, scene, (address, len), line, goes_on)?;
+                reader.take_line(alloc, (address, end.saturating_sub(at)), line)?;
             }
             at = end;
             rest = after;
         }
-        Ok(lines)
-    }
-
-    /// Takes a line of so many bytes at an address, behind code that goes on or not. Returns whether code goes on behind it.
-    fn take_line(
-        &mut self,
-        alloc: Global,
-        scene: &Scene,
-        (at, len): (u16, u64),
-        line: &[u8],
-        goes_on: bool,
-    ) -> Result<bool, AllocError> {
-        let Some(SourceLine::Statement { label, operation }) = read_line(
-            alloc,
-            Language::Repair,
-            line,
-        )?
-        else {
-            return Ok(goes_on);
-        };
-        match &operation {
-            Operation::Instr(mnemonic, form) => {
-                if !goes_on && label.is_some() {
-                    self.routines.set(at);
-                }
-                return Ok(self.take_instruction(scene, (at, len), *mnemonic, form));
-            }
-            Operation::Data(data) => self.take_bytes(at, data),
-            Operation::Values(directive @ (Directive::Word | Directive::Addr), values) => {
-                for (value, at) in values.iter().zip((at..=u16::MAX).step_by(2)) {
-                    self.take_word(scene, at, directive, value);
-                }
-            }
-            _ => {}
-        }
-        Ok(false)
-    }
-
-    /// Takes an instruction of so many bytes. Returns whether code goes on behind it.
-    fn take_instruction(
-        &mut self,
-        scene: &Scene,
-        (at, len): (u16, u64),
-        mnemonic: Mnemonic,
-        form: &Form<'_>,
-    ) -> bool {
-        self.instructions.set(at);
-        if let Form::One(Notation::Plain(Pattern::Immediate), Value::Number(_)) = form {
-            self.numbers.set(at.saturating_add(1));
-        }
-        match scene.byte(at).unwrap_or(0) {
-            // `jsr` and `jmp` of an address.
-            0x20 | 0x4C => self.put_routine(scene, at.saturating_add(1), 0),
-            // Those that end in F are branches.
-            opcode if len == 3 && opcode % 16 != 15 => self.operands.set(at),
-            _ => {}
-        }
-        !matches!(mnemonic, Mnemonic::Jmp | Mnemonic::Rts | Mnemonic::Rti)
-    }
-
-    /// Code begins at the word of an address and this many bytes behind it, if the image has that.
-    fn put_routine(&mut self, scene: &Scene, at: u16, behind: u16) {
-        if let Some(word) = scene.word(at, at.wrapping_add(1)) {
-            let to = word.wrapping_add(behind);
-            if scene.has(to) {
-                self.routines.set(to);
-            }
-        }
+        Ok(reader.lines)
     }
 
     /// Takes the operands of a `.byte`.
@@ -151,14 +88,85 @@ impl Lines {
             at = next;
         }
     }
+}
+
+/// Takes the lines of a listing, one after the other.
+#[derive(Drop)]
+struct LineReader<'s> {
+    scene: &'s Scene,
+    lines: Lines,
+    /// Whether the line before is code that goes on with the next line.
+    goes_on: bool,
+}
+
+impl LineReader<'_> {
+    /// Takes a line that has this many bytes at an address.
+    fn take_line(
+        &mut self,
+        alloc: Global,
+        (at, len): (u16, u64),
+        line: &[u8],
+    ) -> Result<(), AllocError> {
+        let Some(SourceLine::Statement { label, operation }) = read_line(
+            alloc,
+            Language::Repair,
+            line,
+        )?
+        else {
+            return Ok(());
+        };
+        let goes_on = take(&mut self.goes_on);
+        match &operation {
+            Operation::Instr(mnemonic, form) => {
+                if !goes_on && label.is_some() {
+                    self.lines.routines.set(at);
+                }
+                self.take_instruction((at, len), form);
+                self.goes_on = !matches!(mnemonic, Mnemonic::Jmp | Mnemonic::Rts | Mnemonic::Rti);
+            }
+            Operation::Data(data) => self.lines.take_bytes(at, data),
+            Operation::Values(directive @ (Directive::Word | Directive::Addr), values) => {
+                for (value, at) in values.iter().zip((at..=u16::MAX).step_by(2)) {
+                    self.take_word(at, directive, value);
+                }
+            }
+            _ => {}
+        }
+        Ok(())
+    }
+
+    /// Takes an instruction that has this many bytes at an address.
+    fn take_instruction(&mut self, (at, len): (u16, u64), form: &Form<'_>) {
+        self.lines.instructions.set(at);
+        if let Form::One(Notation::Plain(Pattern::Immediate), Value::Number(_)) = form {
+            self.lines.numbers.set(at.saturating_add(1));
+        }
+        match self.scene.byte(at).unwrap_or(0) {
+            // `jsr` and `jmp` of an address.
+            0x20 | 0x4C => self.put_routine(at.saturating_add(1), 0),
+            // Those that end in F are branches.
+            opcode if len == 3 && opcode % 16 != 15 => self.lines.operands.set(at),
+            _ => {}
+        }
+    }
+
+    /// Code begins this many bytes after the address that the word at `at` holds, if that lies in the image.
+    fn put_routine(&mut self, at: u16, after: u16) {
+        if let Some(word) = self.scene.word(at, at.wrapping_add(1)) {
+            let to = word.wrapping_add(after);
+            if self.scene.has(to) {
+                self.lines.routines.set(to);
+            }
+        }
+    }
 
     /// Takes an operand of a `.word` or `.addr`. Names are addresses of code, or one less.
-    fn take_word(&mut self, scene: &Scene, at: u16, directive: &Directive, value: &Value<'_>) {
+    fn take_word(&mut self, at: u16, directive: &Directive, value: &Value<'_>) {
         match (directive, value) {
-            (Directive::Word, Value::Number(_)) => self.words.set(at),
+            (Directive::Word, Value::Number(_)) => self.lines.words.set(at),
             (_, Value::Number(_)) => {}
-            (_, Value::Name(_, _, Minus::One)) => self.put_routine(scene, at, 1),
-            _ => self.put_routine(scene, at, 0),
+            (_, Value::Name(_, _, Minus::One)) => self.put_routine(at, 1),
+            _ => self.put_routine(at, 0),
         }
     }
 }

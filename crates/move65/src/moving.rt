@@ -9,7 +9,7 @@ use crate::lines::Lines;
 use crate::progress::Progress;
 use crate::report::Moved;
 use crate::request::Moving;
-use crate::runs::{Both, run_all};
+use crate::runs::run_all;
 use crate::scene::Scene;
 use crate::variables::move_variables;
 use crate::world::World;
@@ -23,7 +23,15 @@ use stmt65::{AsmFault, AsmFaultKind, Assembly, Source, assemble_lines, assemble_
 /// How often what is found is moved, and both images run again.
 const ROUNDS: usize = 8;
 
-/// How much later the second image lies: so much, or so much less if it would end behind $FFFF.
+/// What a listing is run under: the command line, and the information file with its groups in lines `#: ..`.
+#[derive(Drop)]
+struct Setup<'a> {
+    moving: &'a Moving,
+    info: &'a Info,
+    tags: &'a [Tag],
+}
+
+/// How much later the second image lies: `by`, or that much earlier if it would end after $FFFF.
 fn distance(start: u16, len: usize, by: u16) -> Result<u16, Failure> {
     let end = usize::from(start).saturating_add(len);
     if end.saturating_add(usize::from(by)) <= 65_536 {
@@ -47,12 +55,11 @@ fn failure_for(fault: AsmFault, refused: Refused) -> Failure {
 /// Both images of a text, of which one has these bytes.
 fn scene_of(
     alloc: Global,
+    setup: &Setup<'_>,
     source: &Source<'_, '_, '_>,
     bytes: &[u8],
-    by: u16,
-    tags: &[Tag],
 ) -> Result<Scene, Failure> {
-    let by = distance(source.start, bytes.len(), by)?;
+    let by = distance(source.start, bytes.len(), setup.moving.by)?;
     let start = source.start.wrapping_add(by);
     let later = match assemble_source(alloc, &Source { start, ..*source }) {
         Ok(later) => later,
@@ -62,7 +69,7 @@ fn scene_of(
         return Err(Failure::Own(Refused::Length(start)));
     }
     let mut after = Marks::none(alloc)?;
-    for tag in tags {
+    for tag in setup.tags {
         if let (TagKind::After, Some(first), Some(last)) = (tag.kind, tag.first, tag.last) {
             after.set_span(usize::from(first), usize::from(last).saturating_add(1));
         }
@@ -79,14 +86,9 @@ fn scene_of(
 }
 
 /// Where code begins: the addresses that are given and those of groups ENTRY, and the vectors; without any the first address.
-fn entries_of(
-    alloc: Global,
-    given: &[u16],
-    tags: &[Tag],
-    scene: &Scene,
-) -> Result<Vec<u16>, AllocError> {
-    let mut found = Vec::from_slice(alloc, given)?;
-    for tag in tags {
+fn entries_of(alloc: Global, setup: &Setup<'_>, scene: &Scene) -> Result<Vec<u16>, AllocError> {
+    let mut found = Vec::from_slice(alloc, &setup.moving.entries)?;
+    for tag in setup.tags {
         if let (TagKind::Entry, Some(address)) = (tag.kind, tag.address) {
             found.push(address)?;
         }
@@ -104,32 +106,6 @@ fn entries_of(
     Ok(found)
 }
 
-/// Runs both images until nothing more is found, and returns what is written of them.
-fn study(
-    rt: &HostRuntime,
-    machine: &mut Both,
-    lines: &Lines,
-    entries: &[u16],
-    tags: &[Tag],
-) -> Result<Moved, AllocError> {
-    let mut found = Findings::new(rt.alloc(), tags)?;
-    let mut shown = Progress::new(rt);
-    for _ in 0..ROUNDS {
-        run_all(machine, lines, entries, &mut shown);
-        if machine.bus.is_out_of_memory {
-            return Err(AllocError);
-        }
-        let has_moved = move_variables(&mut machine.bus, lines, &mut found.variables)?;
-        if !has_moved && !found.judge(&mut machine.bus, lines)? {
-            break;
-        }
-    }
-    // Those with their bytes as far apart follow each other.
-    let claims = &mut found.claims;
-    claims.sort_by_key(|claim| (claim.high.wrapping_sub(claim.low), claim.low))?;
-    found.text(rt.alloc(), &machine.bus, lines)
-}
-
 /// What the listing of this name means.
 fn assembled<'t, 'b>(
     alloc: &'b Global,
@@ -145,49 +121,52 @@ fn assembled<'t, 'b>(
     }
 }
 
-/// What is written of these lines and both images.
+/// Runs both images until nothing more is found, and returns what is written of them.
 fn moved(
     rt: &HostRuntime,
-    moving: &Moving,
-    info: &Info,
+    setup: &Setup<'_>,
     lines: &Lines,
-    tags: &[Tag],
     scene: Scene,
 ) -> Result<Moved, AllocError> {
-    let entries = entries_of(rt.alloc(), &moving.entries, tags, &scene)?;
+    let entries = entries_of(rt.alloc(), setup, &scene)?;
     let world = World::new(rt.alloc(), scene)?;
-    let mut machine = Machine::new(info.settings().cpu, Registers::at(0), world);
-    study(rt, &mut machine, lines, &entries, tags)
+    let mut machine = Machine::new(setup.info.settings().cpu, Registers::at(0), world);
+    let mut found = Findings::new(rt.alloc(), setup.tags)?;
+    let mut shown = Progress::new(rt);
+    for _ in 0..ROUNDS {
+        run_all(&mut machine, lines, &entries, &mut shown);
+        if machine.bus.is_out_of_memory {
+            return Err(AllocError);
+        }
+        let has_moved = move_variables(&mut machine.bus, lines, &mut found.variables)?;
+        if !has_moved && !found.judge(&mut machine.bus, lines)? {
+            break;
+        }
+    }
+    // Those with their bytes as far apart follow each other.
+    let claims = &mut found.claims;
+    claims.sort_by_key(|claim| (claim.high.wrapping_sub(claim.low), claim.low))?;
+    found.text(rt.alloc(), &machine.bus, lines)
 }
 
-/// What is written of a listing under what the information file says.
+/// What is written of a listing that has its start.
 fn written(
     rt: &HostRuntime,
-    moving: &Moving,
-    info: &Info,
-    tags: &[Tag],
+    setup: &Setup<'_>,
     source: &Source<'_, '_, '_>,
 ) -> Result<Moved, Failure> {
     let alloc = rt.alloc();
-    let assembly = assembled(&alloc, moving.names.listing.as_str(), source)?;
-    let scene = scene_of(alloc, source, &assembly.bytes, moving.by, tags)?;
-    let lines = Lines::of(alloc, &scene, source.text, &assembly, info)?;
-    Ok(moved(rt, moving, info, &lines, tags, scene)?)
+    let assembly = assembled(&alloc, setup.moving.names.listing.as_str(), source)?;
+    let scene = scene_of(alloc, setup, source, &assembly.bytes)?;
+    let lines = Lines::of(alloc, &scene, source.text, &assembly, setup.info)?;
+    Ok(moved(rt, setup, &lines, scene)?)
 }
 
-/// What is written of a listing under the information file of these bytes. Halves that a NUMBER takes back count for nothing.
-fn listed(
-    rt: &HostRuntime,
-    moving: &Moving,
-    info: &Info,
-    bytes: &[u8],
-    text: &[u8],
-) -> Result<Moved, Failure> {
-    let all = tags_of(rt.alloc(), bytes)?;
-    let tags = without_numbers(rt.alloc(), &all)?;
+/// What is written of a listing.
+fn listed(rt: &HostRuntime, setup: &Setup<'_>, text: &[u8]) -> Result<Moved, Failure> {
     let layout = layout_of(rt.alloc(), &[], None)?;
-    let start = start_or_end(rt.alloc(), info.settings().start, &layout, text)?;
-    written(rt, moving, info, &tags, &repair(&layout, start, text))
+    let start = start_or_end(rt.alloc(), setup.info.settings().start, &layout, text)?;
+    written(rt, setup, &repair(&layout, start, text))
 }
 
 /// What is written of a listing, and of the information file of these bytes.
@@ -198,7 +177,14 @@ pub fn text_of(
     text: &[u8],
 ) -> Result<Moved, Failure> {
     let info: Info = information_of(rt.alloc(), &moving.options, bytes)?;
-    let moved = listed(rt, moving, &info, bytes, text)?;
+    // Halves that a NUMBER takes back count for nothing.
+    let tags = without_numbers(rt.alloc(), &tags_of(rt.alloc(), bytes)?)?;
+    let setup = Setup {
+        moving,
+        info: &info,
+        tags: &tags,
+    };
+    let moved = listed(rt, &setup, text)?;
     let _ = read_back(rt.alloc(), &moving.options, bytes, moved.text.as_bytes())?;
     Ok(moved)
 }

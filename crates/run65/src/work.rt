@@ -38,10 +38,10 @@ impl<V: Value, B: Bus<V>> Machine<V, B> {
             Mnemonic::Stx => self.store(operand, self.registers.x),
             Mnemonic::Sty => self.store(operand, self.registers.y),
             Mnemonic::Stz => self.store(operand, V::of(0)),
-            Mnemonic::Asl => self.shift(operand, Operation::ShiftLeft, V::of(0), 7),
-            Mnemonic::Rol => self.shift(operand, Operation::ShiftLeft, carry, 7),
-            Mnemonic::Lsr => self.shift(operand, Operation::ShiftRight, V::of(0), 0),
-            Mnemonic::Ror => self.shift(operand, Operation::ShiftRight, carry, 0),
+            Mnemonic::Asl => self.shift(operand, Operation::ShiftLeft, V::of(0)),
+            Mnemonic::Rol => self.shift(operand, Operation::ShiftLeft, carry),
+            Mnemonic::Lsr => self.shift(operand, Operation::ShiftRight, V::of(0)),
+            Mnemonic::Ror => self.shift(operand, Operation::ShiftRight, carry),
             Mnemonic::Inc => self.count(operand, 1),
             Mnemonic::Dec => self.count(operand, 0xFF),
             Mnemonic::Tsb => self.change_bits(operand, true),
@@ -53,9 +53,10 @@ impl<V: Value, B: Bus<V>> Machine<V, B> {
         }
     }
 
-    /// Moves the bits of an operand, with this bit at the end; the bit of this number goes to the carry.
-    fn shift(&mut self, operand: Operand, operation: Operation, bit: V, out: u8) {
+    /// Moves the bits of an operand, with this bit at one end; the bit at the other end goes to the carry.
+    fn shift(&mut self, operand: Operand, operation: Operation, bit: V) {
         let value = self.load(operand);
+        let out = if operation == Operation::ShiftLeft { 7 } else { 0 };
         self.registers.flags[CARRY] = value.alone(Operation::Bit(out));
         let shifted = self.seen(V::apply(operation, value, value, bit));
         self.store(operand, shifted);
