@@ -1,14 +1,14 @@
--- How codings are found and how long they are.
-use Rattle.std.proofs.Common.{◌≡◌, ℕ, Bool, true, false, ◌+◌, ◌*◌, List, [], ◌∷◌, ◌++◌, length, map, drop, get_or, ◌<◌, Option, Some, None, refl, ap, sym, append_assoc, arith}
+-- How long codings are, and the bytes that they add.
+use Rattle.std.proofs.Common.{◌≡◌, ℕ, Bool, true, false, ◌+◌, ◌*◌, List, [], ◌∷◌, ◌++◌, length, map, take, get_or, ◌<◌, Option, Some, None, refl, ap, sym, append_assoc, arith}
 use Rattle.std.specs.Prelude.{◌&&◌, is_some}
-use Rattle.std.proofs.lemmas.Bool.{and_parts}
 use Rattle.std.proofs.Math.Bool.{and-true}
-use Rattle.std.proofs.lemmas.List.{append-nil}
+use Rattle.std.proofs.Math.Seq.{take-append_seam, take-length}
+use Rattle.std.proofs.lemmas.List.{append-nil, map-append, take_more}
 use Rattle.std.proofs.lemmas.List.Folds.{list_all-append}
-use Rattle.stmt65.specs.Words.{Definition, DifferenceValue, LessValue, Directive, Distance, Entry, Fill, Fixed, Fragment, HalfOf, NameValue, NumberValue, Oversized, Puts, PutsAll, Single, Value, ZeroPage, address_of, apart, below, coding_len, data_fragments, datum_fragments, datum_of, entry_bytes, entry_fragments, entry_in, entry_limit, find_name, fragment_bytes, fragment_fits, fragment_len, held, is_fragment_known, is_known, is_near, value_in, word_in}
+use Rattle.std.proofs.lemmas.Grind.{flat_map-append}
+use Rattle.stmt65.specs.Words.{Definition, DifferenceValue, LessValue, Directive, Distance, Entry, Fill, Fit, Fixed, Fragment, HalfOf, NameValue, NumberValue, Oversized, Puts, PutsAll, Single, Value, ZeroPage, address_of, apart, below, coding_len, data_fragments, datum_fragments, datum_of, entry_bytes, entry_fragments, entry_in, entry_limit, find_name, fragment_bytes, fragment_fits, fragment_len, held, is_fragment_known, is_known, is_near, value_in, value_of, word_in}
 use Rattle.stmt65.specs.declared.source_line.Value.{Value as CodeValue}
 use Rattle.stmt65.specs.declared.source_line.Datum.{Datum as CodeDatum}
-use Rattle.std.proofs.lemmas.List.{drop_more}
 use Rattle.std.specs.List.{list_all, flat_map}
 use Rattle.std.proofs.Math.Nat.{suc-mul, zero-mul}
 use Rattle.stmt65.proofs.Cases.{by_option}
@@ -20,10 +20,10 @@ unfolding coding_len
 coding_len_append [] gs = omega arith
 coding_len_append (f ∷ fs) gs = let ih = coding_len_append fs gs in omega arith
 
-pub datum_len : (bs : List ℕ) → coding_len (map Fixed bs) ≡ length bs
+pub text_len : (bs : List ℕ) → coding_len (map Fixed bs) ≡ length bs
 unfolding coding_len
-datum_len [] = refl
-datum_len (b ∷ bs) = let ih = datum_len bs in omega arith
+text_len [] = refl
+text_len (b ∷ bs) = let ih = text_len bs in omega arith
 
 -- an operand, and its opcode before it
 pub operand_len-none : 0 ≡ held (coding_len [])
@@ -45,31 +45,23 @@ unfolding coding_len
 opcode_len b fs len n e h = omega (arith, e, h)
 
 -- the entries of a directive are alike
-entries_sum : (d : Directive) (vs : List CodeValue) → coding_len (entry_fragments d vs) ≡ length vs * length (entry_bytes d 0)
+pub entries_len : (d : Directive) (vs : List CodeValue) → coding_len (entry_fragments d vs) ≡ length vs * length (entry_bytes d 0)
 unfolding coding_len
-entries_sum d [] = sym (zero-mul (length (entry_bytes d 0)))
-entries_sum d (v ∷ vs) = let ih = entries_sum d vs in rw (suc-mul (length vs) (length (entry_bytes d 0))) (omega (arith, ih))
+entries_len d [] = sym (zero-mul (length (entry_bytes d 0)))
+entries_len d (v ∷ vs) = let ih = entries_len d vs in rw (suc-mul (length vs) (length (entry_bytes d 0))) (omega (arith, ih))
 
-pub entries_len : (d : Directive) (vs : List CodeValue) (size n : ℕ) → size ≡ length (entry_bytes d 0) → n ≡ held (length vs * size) → n ≡ held (coding_len (entry_fragments d vs))
-entries_len d vs size n e h = rw (entries_sum d vs, ← e) h
+-- one more operand of `.byte`, or number
+pub data_more : (ds : List CodeDatum) (i : ℕ) (d : CodeDatum) → i < length ds → data_fragments (take (i + 1) ds) ≡ data_fragments (take i ds) ++ datum_fragments (datum_of (get_or ds i d))
+data_more ds i d h = rw (take_more ds i d h, map-append, flat_map-append, append-nil) refl
 
--- a sum that is held at its limit, one piece on
-pub len_step : (all piece rest : List Fragment) (len more new total : ℕ) → all ≡ piece ++ rest → more ≡ held (coding_len piece) → new ≡ held (len + more)
-    → held (len + coding_len all) ≡ total → held (new + coding_len rest) ≡ total
-len_step all piece rest len more new total cut e sum so_far = grind (arith, coding_len_append)
+pub entries_more : (d : Directive) (vs : List CodeValue) (i : ℕ) (v : CodeValue) → i < length vs → entry_fragments d (take (i + 1) vs) ≡ entry_fragments d (take i vs) ++ Entry d (value_of (get_or vs i v)) ∷ []
+entries_more d vs i v h = rw (take_more vs i v h, map-append, map-append) refl
 
-pub len_end : (rest : List Fragment) (len total : ℕ) → rest ≡ [] → held len ≡ len → held (len + coding_len rest) ≡ total → len ≡ total
-unfolding coding_len
-len_end rest len total e small so_far = grind arith
-
-pub data_step : (ds : List CodeDatum) (i len more new total : ℕ) (d : CodeDatum) → i < length ds → more ≡ held (coding_len (datum_fragments (datum_of (get_or ds i d)))) → new ≡ held (len + more)
-    → held (len + coding_len (data_fragments (drop i ds))) ≡ total → held (new + coding_len (data_fragments (drop (i + 1) ds))) ≡ total
-data_step ds i len more new total d inside e sum so_far = grind (arith, len_step, drop_more)
+pub data_step : (ds : List CodeDatum) (i len more new : ℕ) (d : CodeDatum) → i < length ds → len ≡ held (coding_len (data_fragments (take i ds))) → more ≡ held (coding_len (datum_fragments (datum_of (get_or ds i d)))) → new ≡ held (len + more)
+    → new ≡ held (coding_len (data_fragments (take (i + 1) ds)))
+data_step ds i len more new d h e f g = rw (data_more ds i d h, coding_len_append) (omega (arith, e, f, g))
 
 -- ---- tests of each fragment
-
-pub list_all_append : (p : Fragment → Bool) (fs gs : List Fragment) → list_all p (fs ++ gs) ≡ (list_all p fs && list_all p gs)
-list_all_append p fs gs = list_all-append p fs gs
 
 -- an expression that has a value, a small one or one near an address, has names that are defined
 below_some : (limit : ℕ) (o : Option ℕ) → is_some (below limit o) ≡ true → is_some o ≡ true
@@ -108,48 +100,65 @@ fragment_known all next (HalfOf half v) h = word_known all v h
 fragment_known all next (Fill n b) h = refl
 fragment_known all next (Distance v) h = word_known all v (near_some next (word_in all v) h)
 
--- so has a coding that has room for its values
-pub known_where_fit : (all : List Definition) (next : ℕ) (fs : List Fragment) → true ≡ list_all (fragment_fits all next) fs → true ≡ list_all (is_fragment_known all) fs
-known_where_fit all next [] h = refl
-known_where_fit all next (f ∷ fs) h =
-    let both = and_parts (fragment_fits all next f) (list_all (fragment_fits all next) fs) (sym h) in
-    rw (fragment_known all next f both.0) (known_where_fit all next fs (sym both.1))
-
 pub string_known : (all : List Definition) (bs : List ℕ) → list_all (is_fragment_known all) (map Fixed bs) ≡ true
 string_known all [] = refl
 string_known all (b ∷ bs) = string_known all bs
 
-string_fits : (all : List Definition) (next : ℕ) (bs : List ℕ) → list_all (fragment_fits all next) (map Fixed bs) ≡ true
+pub string_fits : (all : List Definition) (next : ℕ) (bs : List ℕ) → list_all (fragment_fits all next) (map Fixed bs) ≡ true
 unfolding fragment_fits
 string_fits all next [] = refl
 string_fits all next (b ∷ bs) = string_fits all next bs
 
 -- ---- bytes
 
-string_bytes : (all : List Definition) (next : ℕ) (bs : List ℕ) → flat_map (fragment_bytes all next) (map Fixed bs) ≡ bs
+pub string_bytes : (all : List Definition) (next : ℕ) (bs : List ℕ) → flat_map (fragment_bytes all next) (map Fixed bs) ≡ bs
 unfolding fragment_bytes
 string_bytes all next [] = refl
 string_bytes all next (b ∷ bs) = ap (λ (l : List ℕ). b ∷ l) (string_bytes all next bs)
 
--- ---- bytes, and whether they have room
+-- what is added to what stands there
+abbrev fits : Fit
+fits = record { is_known = true; has_room = true }
 
--- one fragment
-pub one_put : (all : List Definition) (next : ℕ) (f : Fragment) (answer : Bool) (old new : List ℕ) → Puts answer (fragment_fits all next f) (fragment_bytes all next f) old new → PutsAll answer all next (f ∷ []) old new
-one_put all next f answer old new puts = grind (arith, and-true, append-nil)
+pub fits_put : (all : List Definition) (next : ℕ) (f : Fragment) (answer : Bool) (old new : List ℕ) → Puts answer (fragment_fits all next f) (fragment_bytes all next f) old new → answer ≡ true → PutsAll fits all next (f ∷ []) old new
+fits_put all next f answer old new puts here = grind (arith, fragment_known, and-true, append-nil, take-append_seam)
 
--- the bytes of a string
-pub string_put : (all : List Definition) (next : ℕ) (bs old new : List ℕ) → new ≡ old ++ bs → PutsAll true all next (map Fixed bs) old new
-string_put all next bs old new e = grind (arith, string_fits, string_bytes)
+pub misses_put : (all : List Definition) (next : ℕ) (f : Fragment) (fit : Fit) (answer : Bool) (old new : List ℕ) → Puts answer (fragment_fits all next f) (fragment_bytes all next f) old new → answer ≡ false → fit.is_known ≡ is_fragment_known all f → fit.has_room ≡ false
+    → PutsAll fit all next (f ∷ []) old new
+misses_put all next f fit answer old new puts here known room = grind (arith, and-true, take-length)
 
--- an opcode, and its operand
-pub opcode_put : (all : List Definition) (next b : ℕ) (fs : List Fragment) (answer : Bool) (old with_opcode new : List ℕ) → with_opcode ≡ old ++ b ∷ [] → PutsAll answer all next fs with_opcode new → PutsAll answer all next (Fixed b ∷ fs) old new
+pub text_put : (all : List Definition) (next : ℕ) (bs old new : List ℕ) → new ≡ old ++ bs → PutsAll fits all next (map Fixed bs) old new
+text_put all next bs old new e = record {
+  fits = record { known = sym (string_known all bs); room = sym (string_fits all next bs) };
+  adds = rw string_bytes e;
+  keeps = rw e (take-append_seam old bs);
+}
+
+pub nothing_put : (all : List Definition) (next : ℕ) (fit : Fit) (old : List ℕ) → fit.is_known ≡ true → fit.has_room ≡ true → PutsAll fit all next [] old old
+nothing_put all next fit old known room = grind (arith, append-nil, take-length)
+
+front_kept : {A : Type 0} (old mid new : List A) → take (length old) mid ≡ old → take (length mid) new ≡ mid → take (length old) new ≡ old
+front_kept [] mid new h g = refl
+front_kept (x ∷ old) [] new h g = absurd cc
+front_kept (x ∷ old) (y ∷ mid) [] h g = absurd cc
+front_kept (x ∷ old) (y ∷ mid) (z ∷ new) h g =
+    let h' : take (length old) mid ≡ old = cc in
+    let g' : take (length mid) new ≡ mid = cc in
+    let ih = front_kept old mid new h' g' in
+    cc
+
+pub more_put : (all : List Definition) (next : ℕ) (fs gs : List Fragment) (one other fit : Fit) (old mid new : List ℕ) → PutsAll one all next fs old mid → PutsAll other all next gs mid new
+    → fit.is_known ≡ (one.is_known && other.is_known) → fit.has_room ≡ (one.has_room && other.has_room) → PutsAll fit all next (fs ++ gs) old new
+more_put all next fs gs one other fit old mid new p q known room = grind (arith, list_all-append, flat_map-append, append_assoc, front_kept)
+
+pub opcode_put : (all : List Definition) (next b : ℕ) (fs : List Fragment) (fit : Fit) (old with_opcode new : List ℕ) → with_opcode ≡ old ++ b ∷ [] → PutsAll fit all next fs with_opcode new → PutsAll fit all next (Fixed b ∷ fs) old new
 unfolding fragment_fits fragment_bytes
-opcode_put all next b fs answer old with_opcode new e puts = grind (arith, append_assoc)
+opcode_put all next b fs fit old with_opcode new e puts = record {
+  fits = record { known = puts.fits.known; room = puts.fits.room };
+  adds = rw (e, append_assoc old (b ∷ []) (flat_map (fragment_bytes all next) fs)) at puts.adds;
+  keeps = front_kept old with_opcode new (rw e (take-append_seam old (b ∷ []))) puts.keeps;
+}
 
--- one fragment, and another one after it
-pub two_put : (all : List Definition) (next : ℕ) (f g : Fragment) (one other : Bool) (old between new : List ℕ) → Puts one (fragment_fits all next f) (fragment_bytes all next f) old between
-    → one ≡ true → Puts other (fragment_fits all next g) (fragment_bytes all next g) between new → PutsAll other all next (f ∷ g ∷ []) old new
-two_put all next f g one other old between new puts e more = grind (arith, and-true, append-nil, append_assoc)
+pub ruleset data_put = (more_put, nothing_put, data_more)
 
-pub first_missed_put : (all : List Definition) (next : ℕ) (f : Fragment) (fs : List Fragment) (old between new : List ℕ) → Puts false (fragment_fits all next f) (fragment_bytes all next f) old between → PutsAll false all next (f ∷ fs) old new
-first_missed_put all next f fs old between new puts = grind arith
+pub ruleset entries_put = (more_put, nothing_put, entries_more)

@@ -7,7 +7,7 @@ use Rattle.std.specs.Str.{bytes_eq}
 use Rattle.std.proofs.lemmas.List.{map-append}
 use Rattle.std.proofs.lemmas.Bool.{cases_lt, ltb-false, ltb-true}
 use Rattle.std.proofs.lemmas.Bool.Decides.{nat_tests}
-use Rattle.stmt65.specs.Words.{AsmFaultKind, Assignment, Coded, Codes, DefinedTwice, Definition, DifferenceValue, LessValue, Directive, Distance, Entry, Fill, Fixed, Form, Fragment, Instr, IsCoding, IsPlaced, Language, Layout, Minus, NameValue, NoSuchForm, NumberValue, One, Operation, OutOfRange, Oversized, PastEnd, PastStart, PlaceAssignment, Placed, PutsAll, Segment, SourceLine, State, Statement, Two, Undefined, UnknownCpu, Value, Zero, address_of, after, apart, below, bytes_of, coded, coded_of, coding, coding_len, defined_by, definitions_in, entry_in, entry_limit, fault_of, final, find_name, first_of, fragment_bytes, fragment_fits, fragments_in, fragments_of, gap, has_no_form, has_unknown_cpu, has_zero_page_size, have_room, held, held_after, held_coded, held_definition, held_final, held_value, initial, is_before, is_constant, is_fragment_known, is_known, is_near, is_out_of_range, is_past_end, is_past_start, is_short, is_small, is_twice, is_undefined, lowered, meaning_in, meaning_of, next_of, operation_in, readings, start_of, value_in, word_in}
+use Rattle.stmt65.specs.Words.{AsmFaultKind, Assignment, Coded, Codes, DefinedTwice, Definition, DifferenceValue, LessValue, Directive, Distance, Entry, Fill, Fit, Fixed, Form, Fragment, Instr, IsCoding, IsFit, IsPlaced, Language, Layout, Minus, NameValue, NoSuchForm, NumberValue, One, Operation, OutOfRange, Oversized, PastEnd, PastStart, PlaceAssignment, Placed, PutsAll, Segment, SourceLine, State, Statement, Two, Undefined, UnknownCpu, Value, Zero, address_of, after, apart, below, bytes_of, coded, coded_of, coding, coding_len, defined_by, definitions_in, entry_in, entry_limit, fault_of, final, find_name, first_of, fragment_bytes, fragment_fits, fragments_in, fragments_of, gap, has_no_form, has_unknown_cpu, has_zero_page_size, held, held_after, held_coded, held_definition, held_final, held_value, initial, is_before, is_constant, is_fragment_known, is_known, is_near, is_out_of_range, is_past_end, is_past_start, is_short, is_small, is_twice, is_undefined, lowered, meaning_in, meaning_of, next_of, operation_in, readings, start_of, value_in, word_in}
 use Rattle.stmt65.specs.declared.directive.Directive.TheVariants.{Word}
 use Rattle.stmt65.proofs.Cases.{by_option, by_test}
 
@@ -151,28 +151,28 @@ pub fragments-placed : (p : Placed) (s : State) (source : SourceLine) → IsPlac
 unfolding fragments_of
 fragments-placed p s source h = ap (λ (o : Option (List Fragment)). unwrap_or o []) h.coded
 
+room-placed : (all : List Definition) (p : Placed) (s : State) (source : SourceLine) (fit : Fit) → IsFit fit all p.next (fragments_in p.coded) → IsPlaced p s source → fit.has_room ≡ list_all (fragment_fits all (next_of s source)) (fragments_of s source)
+room-placed all p s source fit is h = rw (is.room, h.next, fragments-placed p s source h) (all_fit-held all (next_of s source) (fragments_of s source))
+
 flip : (a b : Bool) → a ≡ not b → b ≡ not a
 flip a true e = rw e refl
 flip a false e = rw e refl
 
 -- the tests of the code are those of the line
-pub fault_is : (all : List Definition) (p : Placed) (s : State) (source : SourceLine) → IsPlaced p s source → (none known twice out past end : Bool)
-    → is_some p.coded ≡ not none → known ≡ list_all (is_fragment_known all) (fragments_in p.coded)
-    → twice ≡ list_any (λ d. is_some (find_name d.name s.above)) (definitions_in p.definition)
-    → out ≡ (list_any (λ d. ltb 65535 d.value) (definitions_in p.definition) || not (have_room all p))
-    → past ≡ p.is_past_start → end ≡ ltb 65536 p.next
-    → first_of ((UnknownCpu, has_unknown_cpu (operation_in source)) ∷ (NoSuchForm, none) ∷ (Undefined, not known) ∷ (DefinedTwice, twice) ∷ (OutOfRange, out) ∷ (PastStart, past) ∷ (PastEnd, end) ∷ []) ≡ fault_of all s (Some source)
+pub fault_is : (all : List Definition) (p : Placed) (s : State) (source : SourceLine) (fit : Fit) → IsFit fit all p.next (fragments_in p.coded) → IsPlaced p s source → (none twice out past end : Bool)
+    → is_some p.coded ≡ not none → twice ≡ list_any (λ d. is_some (find_name d.name s.above)) (definitions_in p.definition)
+    → out ≡ (list_any (λ d. ltb 65535 d.value) (definitions_in p.definition) || not fit.has_room) → past ≡ p.is_past_start → end ≡ ltb 65536 p.next
+    → first_of ((UnknownCpu, has_unknown_cpu (operation_in source)) ∷ (NoSuchForm, none) ∷ (Undefined, not fit.is_known) ∷ (DefinedTwice, twice) ∷ (OutOfRange, out) ∷ (PastStart, past) ∷ (PastEnd, end) ∷ []) ≡ fault_of all s (Some source)
 unfolding fault_of has_no_form is_undefined is_twice is_out_of_range is_past_end
-fault_is all p s source h none known twice out past end a b c d f e =
+fault_is all p s source fit is h none twice out past end a c d f e =
     let none' : none ≡ not (is_some (coding s (operation_in source))) = flip (is_some p.coded) none a ∙ ap not (sym (is_some-map coded_of p.coded) ∙ ap is_some h.coded) in
     let fragments = fragments-placed p s source h in
-    let known' : known ≡ list_all (is_fragment_known all) (fragments_of s source) = b ∙ ap (list_all (is_fragment_known all)) fragments in
+    let known' : fit.is_known ≡ list_all (is_fragment_known all) (fragments_of s source) = is.known ∙ ap (list_all (is_fragment_known all)) fragments in
     let twice' : twice ≡ list_any (λ d. is_some (find_name d.name s.above)) (defined_by s.at source) =
     c ∙ ap (list_any (λ d. is_some (find_name d.name s.above))) h.definition ∙ any_named-held (λ w. is_some (find_name w s.above)) (defined_by s.at source) in
     let large : list_any (λ d. ltb 65535 d.value) (definitions_in p.definition) ≡ list_any (λ d. ltb 65535 d.value) (defined_by s.at source) =
     ap (list_any (λ d. ltb 65535 d.value)) h.definition ∙ any_large-held (defined_by s.at source) in
-    let room : have_room all p ≡ list_all (fragment_fits all (next_of s source)) (fragments_of s source) =
-    ap (λ (n : ℕ). list_all (fragment_fits all n) (fragments_in p.coded)) h.next ∙ ap (list_all (fragment_fits all (held (next_of s source)))) fragments ∙ all_fit-held all (next_of s source) (fragments_of s source) in
+    let room : fit.has_room ≡ list_all (fragment_fits all (next_of s source)) (fragments_of s source) = room-placed all p s source fit is h in
     let end' : end ≡ ltb 65536 (next_of s source) = e ∙ ap (ltb 65536) h.next ∙ past-held (next_of s source) in
     rw (none', known', twice', d, large, room, f ∙ h.past, end') refl
 
@@ -195,19 +195,23 @@ none_fits all s source h = grind arith
 pub small_same : (n limit : ℕ) → limit ≤ 65536 → ltb limit n ≡ false → held n ≡ n
 small_same n limit h e = omega (arith, ltb-false limit n e)
 
-bytes_exact : (all : List Definition) (p : Placed) (s : State) (source : SourceLine) (answer : Bool) (old new : List ℕ) → IsPlaced p s source → None ≡ fault_of all s (Some source)
-    → PutsAll answer all p.next (fragments_in p.coded) old new → new ≡ old ++ bytes_of all s (Some source)
+bytes_exact : (all : List Definition) (p : Placed) (s : State) (source : SourceLine) (fit : Fit) (old new : List ℕ) → IsPlaced p s source → None ≡ fault_of all s (Some source)
+    → PutsAll fit all p.next (fragments_in p.coded) old new → new ≡ old ++ bytes_of all s (Some source)
 unfolding bytes_of
-bytes_exact all p s source answer old new h none puts =
+bytes_exact all p s source fit old new h none puts =
     let fits = none_fits all s source none in
     let next : p.next ≡ next_of s source = h.next ∙ small_same (next_of s source) 65536 (omega arith) fits.past in
-    let puts' : PutsAll answer all (next_of s source) (fragments_of s source) old new = rw (next, fragments-placed p s source h) at puts in
-    rw (puts'.says ∙ fits.room) at puts'.adds
+    let puts' = rw (room-placed all p s source fit puts.fits h ∙ fits.room) at puts.adds in
+    rw (← fragments-placed p s source h, ← next) puts'
 
-pub codes : (all : List Definition) (p : Placed) (s : State) (source : SourceLine) (answer : Bool) (fault : Option AsmFaultKind) (old new : List ℕ) → IsPlaced p s source → fault ≡ fault_of all s (Some source)
-    → PutsAll answer all p.next (fragments_in p.coded) old new → Codes fault all s source old new
-codes all p s source answer None old new h e puts = record { finds = e; adds = bytes_exact all p s source answer old new h e puts }
-codes all p s source answer (Some k) old new h e puts = record { finds = e; adds = tt }
+pub codes : (all : List Definition) (p : Placed) (s : State) (source : SourceLine) (fit : Fit) (fault : Option AsmFaultKind) (old new : List ℕ) → IsPlaced p s source → fault ≡ fault_of all s (Some source)
+    → PutsAll fit all p.next (fragments_in p.coded) old new → Codes fault all s (Some source) old new
+codes all p s source fit None old new h e puts = record { finds = e; adds = bytes_exact all p s source fit old new h e puts }
+codes all p s source fit (Some k) old new h e puts = record { finds = e; adds = tt }
+
+-- where the values have no room the line has a fault
+pub missed : (all : List Definition) (p : Placed) (s : State) (source : SourceLine) (fit : Fit) → IsFit fit all p.next (fragments_in p.coded) → IsPlaced p s source → fit.has_room ≡ false → is_some (fault_of all s (Some source)) ≡ true
+missed all p s source fit is h e = by_option (fault_of all s (Some source)) (λ k f. rw f refl) (λ f. absurd (let room = sym (none_fits all s source (sym f)).room ∙ sym (room-placed all p s source fit is h) ∙ e in cc))
 
 -- ---- a state, held
 

@@ -1,14 +1,14 @@
 -- What a pass has done, line after line.
-use Rattle.std.proofs.Common.{◌≡◌, ℕ, true, ltb, ◌+◌, ◌≤◌, List, [], ◌∷◌, ◌++◌, length, take, drop, get_or, ◌<◌, arith, length-append, Option, Some, None, refl, sym, ap, ◌∙◌, append_assoc, subst}
-use Rattle.std.specs.Prelude.{Result, Ok, Err, is_some, IfNone}
+use Rattle.std.proofs.Common.{◌≡◌, ℕ, Bool, true, false, cond, ltb, ◌+◌, ◌≤◌, List, [], ◌∷◌, ◌++◌, length, take, drop, get_or, ◌<◌, arith, length-append, Option, Some, None, refl, sym, ap, ◌∙◌, append_assoc, subst}
+use Rattle.std.specs.Prelude.{◌||◌, Result, Ok, Err, OnOk, is_some}
 use Rattle.std.specs.List.{list_all, flat_map}
 use Rattle.std.proofs.lemmas.Bool.{and_parts}
 use Rattle.std.proofs.lemmas.List.{append-nil, drop-append-le, drop_all, drop_more, length-drop, take-append-le, take_all, take_at}
 use Rattle.std.specs.Str.{bytes_eq}
-use Rattle.stmt65.specs.Words.{AsmFault, AsmFaultKind, Codes, Definition, DifferenceValue, LessValue, Fill, Fixed, Fragment, GoesOn, IsIdle, IsOf, IsPassed, IsPlaced, IsSound, Language, Late, Layout, NameValue, NumberValue, Oversized, Pass, Placed, Source, SourceLine, State, Syntax, Takes, Value, Work, bytes_of, coded_late, defined_in, entry_in, fault_at, fault_of, fault_or, fault_past, find_name, fragment_bytes, fragment_fits, fragments_in, fragments_of, fronts, held, held_after, held_coded, held_final, initial, is_fragment_known, is_known, is_out_of_range, is_undefined, late_state, next_of, parts, reading_of, readings, source_meaning, source_of, source_readings, source_state, state_in, unless, value_in, with_front, word_in, work_of}
+use Rattle.stmt65.specs.Words.{AsmFault, AsmFaultKind, Codes, Definition, DifferenceValue, LessValue, Fill, Fit, Fixed, Fragment, GoesOn, IsFaulty, IsFit, IsIdle, IsLeft, IsOf, IsPassed, IsPlaced, IsSound, Language, Late, Layout, NameValue, NumberValue, Oversized, Pass, Placed, PutsAll, Settles, Source, SourceLine, State, Takes, Value, Work, bytes_of, coded_late, defined_in, entry_in, fault_of, find_name, fragment_bytes, fragment_fits, fragments_in, fragments_of, fronts, held, held_after, held_coded, held_final, initial, is_fragment_known, is_known, is_out_of_range, is_undefined, late_state, next_of, parts, reading_of, readings, said_of, source_meaning, source_readings, source_state, state_in, unless, value_in, with_front, word_in, work_of}
 use Rattle.text65.specs.Lines.{text_lines}
 use Rattle.stmt65.proofs.Cases.{by_option, by_test}
-use Rattle.stmt65.proofs.HeldLemmas.{fragments-placed, meaning_held, none_fits, past-held}
+use Rattle.stmt65.proofs.HeldLemmas.{codes, fragments-placed, meaning_held, none_fits, past-held}
 
 -- ---- names: those of the lines above, then those of the lines from here on
 
@@ -122,58 +122,47 @@ late_more all layout (l ∷ ls) settled bytes rest h = grind (arith, (late_more 
 
 -- one more of them
 late_push : {A : Type 0} (all : List Definition) (layout : Layout) (ls : List (Late A)) (l : Late A) (settled : List ℕ) (rest : Result (List ℕ) AsmFault) → fronts ls + l.front ≡ length settled
-    → coded_late all layout (ls ++ l ∷ []) settled rest ≡ coded_late all layout ls settled (unless l.number (fault_of all (late_state all layout l) (Some (source_of l.source))) (with_front (bytes_of all (late_state all layout l) (Some (source_of l.source))) rest))
+    → coded_late all layout (ls ++ l ∷ []) settled rest ≡ coded_late all layout ls settled (unless l.number (fault_of all (late_state all layout l) (said_of l)) (with_front (bytes_of all (late_state all layout l) (said_of l)) rest))
 unfolding coded_late fronts
 late_push all layout [] l settled rest h = grind (arith, take_all, drop_all, front-nil)
 late_push all layout (k ∷ ls) l settled rest h = grind (arith, (late_push all layout ls l (drop k.front settled) rest (omega (arith, length-drop k.front settled))), length-drop)
 
--- where a fault is below them, no bytes matter
-late_fault : {A : Type 0} (all : List Definition) (layout : Layout) (ls : List (Late A)) (fault : AsmFault) → (e : AsmFault) × ((settled : List ℕ) → coded_late all layout ls settled (Err fault) ≡ Err e)
-unfolding coded_late
-late_fault all layout [] fault = (fault, λ settled. refl)
-late_fault all layout (l ∷ ls) fault = by_fault (fault_of all (late_state all layout l) (Some (source_of l.source))) refl (late_fault all layout ls fault)
-  where
-    by_fault : (o : Option AsmFaultKind) → fault_of all (late_state all layout l) (Some (source_of l.source)) ≡ o → (e : AsmFault) × ((settled : List ℕ) → coded_late all layout ls settled (Err fault) ≡ Err e)
-        → (e : AsmFault) × ((settled : List ℕ) → coded_late all layout (l ∷ ls) settled (Err fault) ≡ Err e)
-    by_fault None f ih = (ih.0, λ settled. rw (f, ih.1 (drop l.front settled)) refl)
-    by_fault (Some k) f ih = (record { line = l.number; kind = k }, λ settled. rw f refl)
-
-late_hidden : {A : Type 0} (all : List Definition) (layout : Layout) (ls : List (Late A)) (fault : AsmFault) (a b : List ℕ) → coded_late all layout ls a (Err fault) ≡ coded_late all layout ls b (Err fault)
-late_hidden all layout ls fault a b = let h = late_fault all layout ls fault in h.1 a ∙ sym (h.1 b)
-
 -- ---- work
 
-if_none : {F P : Type 0} (o : Option F) → o ≡ None → IfNone o P → P
-if_none None e h = h
-if_none (Some f) e h = absurd cc
+pub on_ok : {T E P Q : Type 0} (r : Result T E) → OnOk r P → (P → Q) → OnOk r Q
+on_ok (Ok x) h f = f h
+on_ok (Err e) h f = tt
 
-none_if : {F P : Type 0} (o : Option F) → P → IfNone o P
-none_if None h = h
-none_if (Some f) h = tt
+faultless : {X : Type 0} (o : Option X) → is_some o ≡ false → o ≡ None
+faultless None h = refl
+faultless (Some x) h = absurd cc
 
-pub takes_none : {A : Type 0} (p : Work A) (n : ℕ) (s : State) (line : Option SourceLine) (f : AsmFault) → p.fault ≡ Some f → Takes p p n s line
-takes_none p n s line f e = record { sound = λ h. h; same = λ h all more rest g. rw e refl }
+takes_none : {A : Type 0} (p : Work A) (n : ℕ) (s : State) (line : Option SourceLine) → p.is_over ≡ true → Takes p p n s line
+takes_none p n s line e = record { sound = λ h. h; same = λ h all more rest g. rw e refl }
 
--- a fault by the names above is one by all names
-takes_fault : {A : Type 0} (p q : Work A) (n : ℕ) (s : State) (line : Option SourceLine) (kind : AsmFaultKind) → p.fault ≡ None → q.late ≡ p.late → q.fault ≡ fault_at n (Some kind)
-    → ((all more : List Definition) → all ≡ s.above ++ more → fault_of all s line ≡ Some kind) → Takes p q n s line
-takes_fault p q n s line kind e late f h = grind (arith, late_hidden)
-
-takes_bytes : {A : Type 0} (p q : Work A) (n : ℕ) (s : State) (line : Option SourceLine) (bytes : List ℕ) → p.fault ≡ None → q.late ≡ p.late → q.mark ≡ p.mark → q.fault ≡ None → q.settled.items ≡ p.settled.items ++ bytes
+takes_bytes : {A : Type 0} (p q : Work A) (n : ℕ) (s : State) (line : Option SourceLine) (bytes : List ℕ) → p.is_over ≡ false → q.late ≡ p.late → q.mark ≡ p.mark → q.is_over ≡ false → q.settled.items ≡ p.settled.items ++ bytes
     → ((all more : List Definition) → all ≡ s.above ++ more → fault_of all s line ≡ None) → ((all more : List Definition) → all ≡ s.above ++ more → bytes_of all s line ≡ bytes) → Takes p q n s line
-takes_bytes p q n s line bytes e late mark f put h k = grind (arith, if_none, none_if, length-append, late_more)
+takes_bytes p q n s line bytes e late mark f put h k = grind (arith, length-append, late_more)
 
-pub takes_early : {A : Type 0} (p q : Work A) (n : ℕ) (s : State) (source : SourceLine) (placed : Placed) (kind : Option AsmFaultKind) → p.fault ≡ None → q.late ≡ p.late → q.mark ≡ p.mark → q.fault ≡ fault_at n kind
-    → IsPlaced placed s source → true ≡ list_all (is_fragment_known s.above) (fragments_in placed.coded) → Codes kind s.above s source p.settled.items q.settled.items → Takes p q n s (Some source)
-takes_early p q n s source placed kind e late mark f is known codes = go kind f codes
-  where
-    all_known : list_all (is_fragment_known s.above) (fragments_of s source) ≡ true
-    all_known = ap (list_all (is_fragment_known s.above)) (sym (fragments-placed placed s source is)) ∙ sym known
+pub settles_over : {A : Type 0} (p : Work A) (s : State) (line : Option SourceLine) → p.is_over ≡ true → Settles p p s line None
+settles_over p s line e = record { takes = λ n. takes_none p n s line e; leaves = tt; faulty = tt }
 
-    go : (kind : Option AsmFaultKind) → q.fault ≡ fault_at n kind → Codes kind s.above s source p.settled.items q.settled.items → Takes p q n s (Some source)
-    go None f codes =
-        takes_bytes p q n s (Some source) (bytes_of s.above s (Some source)) e late mark f codes.adds (λ all more x. fault_early all more s source x all_known ∙ sym codes.finds) (λ all more x. bytes_early all more s source x all_known)
-    go (Some k) f codes = takes_fault p q n s (Some source) k e late f (λ all more x. fault_early all more s source x all_known ∙ sym codes.finds)
+all_known : (all : List Definition) (p : Placed) (s : State) (source : SourceLine) (fit : Fit) → IsFit fit all p.next (fragments_in p.coded) → IsPlaced p s source → fit.is_known ≡ true → list_all (is_fragment_known all) (fragments_of s source) ≡ true
+all_known all p s source fit is h e = ap (list_all (is_fragment_known all)) (sym (fragments-placed p s source h)) ∙ sym is.known ∙ e
+
+pub settles_now : {A : Type 0} (p q : Work A) (s : State) (source : SourceLine) (placed : Placed) (fit : Fit) (ds : List Definition) → s.above ≡ ds → p.is_over ≡ false → q.late ≡ p.late → q.mark ≡ p.mark → q.is_over ≡ p.is_over → IsPlaced placed s source
+    → PutsAll fit ds placed.next (fragments_in placed.coded) p.settled.items q.settled.items → is_some (fault_of ds s (Some source)) ≡ false → Settles p q s (Some source) None
+unfolding fault_of is_undefined
+settles_now p q s source placed fit ds same e late mark over is puts none =
+    let none' : None ≡ fault_of s.above s (Some source) = sym (faultless _ none) ∙ sym (ap (λ (d : List Definition). fault_of d s (Some source)) same) in
+    let known : list_all (is_fragment_known s.above) (fragments_of s source) ≡ true = grind arith in
+    let put = codes s.above placed s source fit None p.settled.items q.settled.items is none' (rw same puts) in
+    record {
+      takes = λ n. takes_bytes p q n s (Some source) (bytes_of s.above s (Some source)) e late mark (over ∙ e) put.adds
+          (λ all more x. fault_early all more s source x known ∙ sym none') (λ all more x. bytes_early all more s source x known);
+      leaves = tt;
+      faulty = tt;
+    }
 
 -- a line that ends past $10000 has a fault by whatever names
 past_end : (all : List Definition) (s : State) (source : SourceLine) (next : ℕ) → next ≡ held (next_of s source) → ltb 65536 next ≡ true → is_some (fault_of all s (Some source)) ≡ true
@@ -185,14 +174,30 @@ unless_any : (n : ℕ) (fault : Option AsmFaultKind) (a b : Result (List ℕ) As
 unless_any n None a b h = absurd cc
 unless_any n (Some kind) a b h = refl
 
--- a line is kept; where it ends past $10000, what comes below it is hidden
-pub takes_late : {A : Type 0} (p q : Work A) (l : Late A) (s : State) (next : ℕ) → p.fault ≡ None → q.fault ≡ fault_past l.number next → q.settled ≡ p.settled → q.late.items ≡ p.late.items ++ l ∷ [] → q.mark ≡ length p.settled.items
-    → (p.mark ≤ length p.settled.items → p.mark + l.front ≡ length p.settled.items) → IsOf l s → next ≡ held (next_of s (source_of l.source)) → Takes p q l.number s (Some (source_of l.source))
-takes_late p q l s next e f same late mark front is end = grind (arith, if_none, none_if, fronts_push, take_at, late_push, unless_any, past_end)
+pub settles_later : {A : Type 0} (p q : Work A) (s : State) (source : SourceLine) (placed : Placed) (fit : Fit) (ds : List Definition) (mid : List ℕ) (is_faulty : Bool) → s.above ≡ ds → p.is_over ≡ false → q.late ≡ p.late → q.mark ≡ p.mark → q.is_over ≡ p.is_over → IsPlaced placed s source
+    → PutsAll fit ds placed.next (fragments_in placed.coded) p.settled.items mid → q.settled.items ≡ take (length p.settled.items) mid → is_some (fault_of ds s (Some source)) ≡ true → is_faulty ≡ (fit.is_known || ltb 65536 placed.next)
+    → Settles p q s (Some source) (Some is_faulty)
+settles_later p q s source placed fit ds mid is_faulty same e late mark over is puts cut some f =
+    let some' : is_some (fault_of s.above s (Some source)) ≡ true = ap (λ (d : List Definition). is_some (fault_of d s (Some source))) same ∙ some in
+    let fits : IsFit fit s.above placed.next (fragments_in placed.coded) = rw same puts.fits in
+    record {
+      takes = tt;
+      leaves = record { settled = cut ∙ puts.keeps; late = late; mark = mark; before = e; over = over ∙ e };
+      faulty = λ faulty all more x. by_test fit.is_known
+          (λ known. ap is_some (fault_early all more s source x (all_known s.above placed s source fit fits is known)) ∙ some')
+          (λ unknown. past_end all s source placed.next is.next (sym (rw unknown at f) ∙ faulty));
+    }
 
-pub takes_refused : {A : Type 0} (p q : Work A) (n : ℕ) (s : State) → p.fault ≡ None → q.late ≡ p.late → q.fault ≡ fault_at n (Some Syntax) → Takes p q n s None
-unfolding fault_of
-takes_refused p q n s e late f = takes_fault p q n s None Syntax e late f (λ all more x. refl)
+pub left_takes : {A : Type 0} (p left q : Work A) (n : ℕ) (s : State) (line : Option SourceLine) → IsLeft p left → Takes left q n s line → Takes p q n s line
+left_takes p left q n s line is takes = record {
+  sound = λ h. takes.sound (record { mark = is.mark ∙ h.mark ∙ ap (λ ls. fronts ls.items) (sym is.late); within = rw (is.mark, is.settled) h.within });
+  same = λ h all more rest x. takes.same (record { mark = is.mark ∙ h.mark ∙ ap (λ ls. fronts ls.items) (sym is.late); within = rw (is.mark, is.settled) h.within }) all more rest x ∙ rw (is.settled, is.late, is.over, is.before) refl;
+}
+
+-- a line is kept; where it has a fault, what comes below it is hidden
+pub takes_late : {A : Type 0} (p q : Work A) (l : Late A) (s : State) (is_faulty : Bool) → p.is_over ≡ false → q.is_over ≡ is_faulty → q.settled ≡ p.settled → q.late.items ≡ p.late.items ++ l ∷ [] → q.mark ≡ length p.settled.items
+    → (p.mark ≤ length p.settled.items → p.mark + l.front ≡ length p.settled.items) → IsOf l s → (is_faulty ≡ true → IsFaulty s (said_of l)) → Takes p q l.number s (said_of l)
+takes_late p q l s is_faulty e f same late mark front is faulty = grind (arith, fronts_push, take_at, late_push, unless_any)
 
 takes_so : {A : Type 0} (p q : Work A) (n : ℕ) (s : State) (line : Option SourceLine) (layout : Layout) (all more : List Definition) (rest : Result (List ℕ) AsmFault) → Takes p q n s line → IsSound p → s.layout ≡ layout → all ≡ s.above ++ more
     → work_of all layout q rest ≡ work_of all layout p (unless n (fault_of all s line) (with_front (bytes_of all s line) rest))
@@ -210,7 +215,7 @@ pub record AtLine {A L : Type 0} (l : Language) (end : State) (layout : Layout) 
 pub at_start : {A L : Type 0} (l : Language) (layout : Layout) (start : ℕ) (p : Pass A L) (text : List ℕ) → state_in p ≡ initial layout start → IsIdle p.work
     → AtLine l (held_final (initial layout start) (readings l text)) layout (held_coded (held_final (initial layout start) (readings l text)).above 1 (initial layout start) (readings l text)) 1 p text
 unfolding coded_late fronts
-at_start l layout start p text e idle = grind (arith, none_if, front-nil)
+at_start l layout start p text e idle = grind (arith, front-nil)
 
 pub at_next : {A L : Type 0} (l : Language) (end : State) (layout : Layout) (total : Result (List ℕ) AsmFault) (n : ℕ) (p q : Pass A L) (text line rest : List ℕ) → AtLine l end layout total n p text
     → text_lines text ≡ line ∷ text_lines rest → GoesOn p q n (reading_of l (parts l line)) → AtLine l end layout total (n + 1) q rest
@@ -248,30 +253,27 @@ means source p h small =
 -- at a late line, with the bytes before it
 late_at : {A : Type 0} (all : List Definition) (layout : Layout) (ls : List (Late A)) (i : ℕ) (l : Late A) (settled out : List ℕ) (rest total : Result (List ℕ) AsmFault) → i < length ls → l ≡ get_or ls i l
     → with_front out (coded_late all layout (drop i ls) settled rest) ≡ total
-    → with_front (out ++ take l.front settled) (unless l.number (fault_of all (late_state all layout l) (Some (source_of l.source))) (with_front (bytes_of all (late_state all layout l) (Some (source_of l.source))) (coded_late all layout (drop (i + 1) ls) (drop l.front settled) rest))) ≡ total
+    → with_front (out ++ take l.front settled) (unless l.number (fault_of all (late_state all layout l) (said_of l)) (with_front (bytes_of all (late_state all layout l) (said_of l)) (coded_late all layout (drop (i + 1) ls) (drop l.front settled) rest))) ≡ total
 unfolding coded_late
 late_at {A = A} all layout ls i l settled out rest total inside is h = grind (arith, drop_more, front-front)
 
 pub late_faulty : {A : Type 0} (all : List Definition) (layout : Layout) (ls : List (Late A)) (i : ℕ) (l : Late A) (settled out old new : List ℕ) (rest total : Result (List ℕ) AsmFault) (kind : AsmFaultKind) → i < length ls → l ≡ get_or ls i l
-    → with_front out (coded_late all layout (drop i ls) settled rest) ≡ total → Codes (Some kind) all (late_state all layout l) (source_of l.source) old new → total ≡ Err (record { line = l.number; kind = kind })
+    → with_front out (coded_late all layout (drop i ls) settled rest) ≡ total → Codes (Some kind) all (late_state all layout l) (said_of l) old new → total ≡ Err (record { line = l.number; kind = kind })
 late_faulty all layout ls i l settled out old new rest total kind inside is h codes = sym (rw (← codes.finds) at (late_at all layout ls i l settled out rest total inside is h))
 
 pub late_next : {A : Type 0} (all : List Definition) (layout : Layout) (ls : List (Late A)) (i : ℕ) (l : Late A) (settled out front put new more : List ℕ) (rest total : Result (List ℕ) AsmFault) → i < length ls → l ≡ get_or ls i l
-    → with_front out (coded_late all layout (drop i ls) settled rest) ≡ total → front ≡ take l.front settled → more ≡ drop l.front settled → put ≡ out ++ front → Codes None all (late_state all layout l) (source_of l.source) put new
+    → with_front out (coded_late all layout (drop i ls) settled rest) ≡ total → front ≡ take l.front settled → more ≡ drop l.front settled → put ≡ out ++ front → Codes None all (late_state all layout l) (said_of l) put new
     → with_front new (coded_late all layout (drop (i + 1) ls) more rest) ≡ total
 late_next all layout ls i l settled out front put new more rest total inside is h f g k codes =
     let so = rw (← codes.finds) at (late_at all layout ls i l settled out rest total inside is h) in
-    rw (codes.adds, k, f, g) (sym (front-front (out ++ take l.front settled) (bytes_of all (late_state all layout l) (Some (source_of l.source))) _) ∙ so)
+    rw (codes.adds, k, f, g) (sym (front-front (out ++ take l.front settled) (bytes_of all (late_state all layout l) (said_of l)) _) ∙ so)
 
 late_end : {A : Type 0} (all : List Definition) (layout : Layout) (ls : List (Late A)) (i : ℕ) (settled out : List ℕ) (rest total : Result (List ℕ) AsmFault) → length ls ≤ i
     → with_front out (coded_late all layout (drop i ls) settled rest) ≡ total → total ≡ with_front (out ++ settled) rest
 unfolding coded_late
 late_end all layout ls i settled out rest total past h = sym (rw (drop_all i ls past) at h) ∙ front-front out settled rest
 
-pub end_faulty : {A : Type 0} (all : List Definition) (layout : Layout) (ls : List (Late A)) (i : ℕ) (settled out : List ℕ) (fault : Option AsmFault) (f : AsmFault) (total : Result (List ℕ) AsmFault) → length ls ≤ i
-    → with_front out (coded_late all layout (drop i ls) settled (fault_or fault (Ok []))) ≡ total → fault ≡ Some f → total ≡ Err f
-end_faulty all layout ls i settled out fault f total past h e = rw e at (late_end all layout ls i settled out (fault_or fault (Ok [])) total past h)
-
-pub end_bytes : {A : Type 0} (all : List Definition) (layout : Layout) (ls : List (Late A)) (i : ℕ) (settled out new : List ℕ) (fault : Option AsmFault) (total : Result (List ℕ) AsmFault) → length ls ≤ i
-    → with_front out (coded_late all layout (drop i ls) settled (fault_or fault (Ok []))) ≡ total → fault ≡ None → new ≡ out ++ settled → total ≡ Ok new
-end_bytes all layout ls i settled out new fault total past h e f = rw e at (late_end all layout ls i settled out (fault_or fault (Ok [])) total past h) ∙ front-end (out ++ settled) ∙ ap (λ (l : List ℕ). Ok l) (sym f)
+pub end_bytes : {A : Type 0} (all : List Definition) (layout : Layout) (ls : List (Late A)) (i : ℕ) (settled out new : List ℕ) (over : Bool) (total : Result (List ℕ) AsmFault) → length ls ≤ i
+    → with_front out (coded_late all layout (drop i ls) settled (cond over (Ok []) (Ok []))) ≡ total → new ≡ out ++ settled → total ≡ Ok new
+end_bytes all layout ls i settled out new true total past h f = late_end all layout ls i settled out (Ok []) total past h ∙ front-end (out ++ settled) ∙ ap (λ (l : List ℕ). Ok l) (sym f)
+end_bytes all layout ls i settled out new false total past h f = late_end all layout ls i settled out (Ok []) total past h ∙ front-end (out ++ settled) ∙ ap (λ (l : List ℕ). Ok l) (sym f)

@@ -3,6 +3,7 @@ pub use Rattle.stmt65.specs.declared.assembling.about.Explained.{Explained}
 pub use Rattle.stmt65.specs.declared.assembling.coding.Coded.{Coded}
 pub use Rattle.stmt65.specs.declared.assembling.coding.Instruction.{Instruction}
 pub use Rattle.stmt65.specs.declared.assembling.coding.Operand.{Operand}
+pub use Rattle.stmt65.specs.declared.assembling.emit.Fit.{Fit}
 pub use Rattle.stmt65.specs.declared.assembling.fault.AsmFault.{AsmFault}
 pub use Rattle.stmt65.specs.declared.assembling.fault.AsmFaultKind.{AsmFaultKind}
 pub use Rattle.stmt65.specs.declared.assembling.fault.AsmFaultKind.TheVariants.{DefinedTwice, Memory, NoSuchForm, OutOfRange, PastEnd, PastStart, Syntax, Undefined, UnknownCpu}

@@ -1,14 +1,14 @@
 -- The words of clauses and proofs, here and in the crates above, from one place.
-pub use Rattle.stmt65.specs.Types.{ALL, Abs, Absindx, AbsoluteX, AbsoluteY, Absx, Absy, Acc, Addr, AddressSize, Asl, AsmFault, AsmFaultKind, Automatic, BigEndian, ByteOrder, Coded, Columns, Cpu, Dbyt, DefinedTwice, Direct, DirectX, DirectY, Directive, Dword, High, Imm, Immediate, Imp, Inc, Ind, Indirect, IndirectX, IndirectY, Indx, Indy, Language, Late, Listing, LittleEndian, Low, M6502, Memory, Minus, Mnemonic, Mode, NoSuchForm, OperandKind, OutOfRange, PastEnd, PastStart, Pattern, Placed, Plain, Rel, Repair, Ror, Row, Syntax, Undefined, UnknownCpu, Work, Zero, Zp, Zpind, Zprel, Zpx, Zpy}
+pub use Rattle.stmt65.specs.Types.{ALL, Abs, Absindx, AbsoluteX, AbsoluteY, Absx, Absy, Acc, Addr, AddressSize, Asl, AsmFault, AsmFaultKind, Automatic, BigEndian, ByteOrder, Coded, Columns, Cpu, Dbyt, DefinedTwice, Direct, DirectX, DirectY, Directive, Dword, Fit, High, Imm, Immediate, Imp, Inc, Ind, Indirect, IndirectX, IndirectY, Indx, Indy, Language, Late, Listing, LittleEndian, Low, M6502, Memory, Minus, Mnemonic, Mode, NoSuchForm, OperandKind, OutOfRange, PastEnd, PastStart, Pattern, Placed, Plain, Rel, Repair, Ror, Row, Syntax, Undefined, UnknownCpu, Work, Zero, Zp, Zpind, Zprel, Zpx, Zpy}
 pub use Rattle.stmt65.specs.Answer.{Assembles, IsExplained, out_of_memory}
-pub use Rattle.stmt65.specs.Code.CodingViews.{Adds, AddsAll, AddsOne, IsFirstOf, IsFirstWay, Puts, PutsAll, coded_of, data_fragments, entry_fragments, fragment_of, operand_of}
+pub use Rattle.stmt65.specs.Code.CodingViews.{Adds, AddsOne, Emits, IsFirstOf, IsFirstWay, IsFit, Puts, PutsAll, coded_of, data_fragments, entry_fragments, fragment_of, instruction_of, operand_of}
 pub use Rattle.stmt65.specs.Code.Found.{Gives, GivesIfOk, Reads}
 pub use Rattle.stmt65.specs.Code.Held.{held, held_value}
-pub use Rattle.stmt65.specs.Code.LateViews.{Codes, CodesEarly, Follows, GoesOn, IsIdle, IsOf, IsPassed, IsSound, Keeps, Takes, TakesEarly, fault_at, fault_or, fault_past, late_state, state_in, work_of}
+pub use Rattle.stmt65.specs.Code.LateViews.{Codes, Follows, GoesOn, IsFaulty, IsIdle, IsLeft, IsOf, IsPassed, IsSound, Keeps, PassesOver, Settles, Takes, late_state, said_of, state_in, work_of}
 unfoldable pub use Rattle.stmt65.specs.Code.LateViews.{coded_late, fronts, held_coded}
 pub use Rattle.stmt65.specs.Code.LineEnds.{ends_left}
 pub use Rattle.stmt65.specs.Code.LineViews.{Lists, Prints, len_with}
-pub use Rattle.stmt65.specs.Code.MeaningViews.{IsCoding, IsPlaced, defined_in, definitions_in, fragments_in, have_room, held_definition, held_definitions, line_operation, state_of}
+pub use Rattle.stmt65.specs.Code.MeaningViews.{IsCoding, IsPlaced, defined_in, definitions_in, fragments_in, held_definition, held_definitions, line_operation, state_of}
 unfoldable pub use Rattle.stmt65.specs.Code.MeaningViews.{held_after, held_final}
 pub use Rattle.stmt65.specs.Code.PartViews.{cut_by, part_of}
 pub use Rattle.stmt65.specs.Code.Shortens.{Shortens}
@@ -17,7 +17,7 @@ pub use Rattle.stmt65.specs.Code.StatementViews.{expr_seen, in_hex, operands_see
 pub use Rattle.stmt65.specs.Code.SymbolViews.{definition_of}
 unfoldable pub use Rattle.stmt65.specs.Code.SymbolViews.{first_at}
 pub use Rattle.stmt65.specs.Code.Widths.{AreBytes, AreWordWide, IsInWidth, IsWordWide}
-pub use Rattle.stmt65.specs.Coding.{Distance, Entry, Fill, Fixed, Fragment, HalfOf, Oversized, Single, State, Way, ZeroPage, are_known, byte_fragment, datum_fragments, distance, entry_bytes, entry_limit, first_way, fragment_len, gap, half_of, is_fragment_known, is_near, is_short, kind_fragment, low, modes_in, or_zero, way_in, word_operand, zero_page}
+pub use Rattle.stmt65.specs.Coding.{Distance, Entry, Fill, Fixed, Fragment, HalfOf, Oversized, Single, State, Way, ZeroPage, byte_fragment, datum_fragments, distance, entry_bytes, entry_limit, first_way, fragment_len, gap, half_of, is_fragment_known, is_near, is_short, kind_fragment, low, modes_in, or_zero, way_in, word_operand, zero_page}
 unfoldable pub use Rattle.stmt65.specs.Coding.{coding, coding_len, entry_in, fragment_bytes, fragment_fits, ways}
 pub use Rattle.stmt65.specs.Columns.{default_columns, fits_label}
 unfoldable pub use Rattle.stmt65.specs.Definitions.{definitions_of}

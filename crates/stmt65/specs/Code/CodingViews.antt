@@ -1,18 +1,18 @@
 -- What the fragments of a statement stand for.
-use Rattle.std.specs.Prelude.{◌≡◌, ℕ, Bool, List, [], ◌∷◌, ◌++◌, map, Option, Result, IfOk}
+use Rattle.std.specs.Prelude.{◌≡◌, ℕ, Bool, List, [], ◌∷◌, ◌++◌, length, map, take, Option, Result, IfOk}
 use Rattle.std.specs.declared.vec.Vec.{Vec}
 use Rattle.std.specs.Option.{option_map}
-use Rattle.std.specs.Bool.{OnTrue}
+use Rattle.std.specs.Bool.{OnTrue, OnFalse}
 use Rattle.std.specs.List.{flat_map, list_all}
 use Rattle.stmt65.specs.declared.assembling.coding.Fragment.{Fragment as CodeFragment}
 use Rattle.stmt65.specs.declared.assembling.coding.Fragment.TheVariants as code_fragment
 use Rattle.stmt65.specs.declared.assembling.coding.Coder.{Coder}
-use Rattle.stmt65.specs.Types.{Coded as CodeCoded, Directive, Instruction as CodeInstruction, Operand as CodeOperand}
+use Rattle.stmt65.specs.Types.{Coded as CodeCoded, Directive, Fit, Instruction as CodeInstruction, Operand as CodeOperand}
 use Rattle.stmt65.specs.declared.assembling.coding.Operand.TheVariants as code_operand
 use Rattle.stmt65.specs.declared.assembling.coding.Coded.TheVariants as code_coded
 use Rattle.stmt65.specs.declared.source_line.Value.{Value as CodeValue}
 use Rattle.stmt65.specs.declared.source_line.Datum.{Datum as CodeDatum}
-use Rattle.stmt65.specs.Coding.{Fragment, Fixed, Single, ZeroPage, Oversized, Entry, Distance, HalfOf, Fill, Way, datum_fragments, is_short, ways, first_way, fragment_fits, fragment_bytes}
+use Rattle.stmt65.specs.Coding.{Fragment, Fixed, Single, ZeroPage, Oversized, Entry, Distance, HalfOf, Fill, Way, are_known, datum_fragments, is_short, ways, first_way, fragment_fits, fragment_bytes}
 use Rattle.stmt65.specs.SourceLine.{Form}
 use Rattle.stmt65.specs.Symbols.{Definition}
 use Rattle.stmt65.specs.Code.SourceLineViews.{numeral_of, value_of, datum_of}
@@ -35,14 +35,6 @@ operand_of (code_operand.Two f g) = fragment_of f ∷ fragment_of g ∷ []
 abbrev pub instruction_of : CodeInstruction → List Fragment
 instruction_of i = Fixed i.opcode ∷ operand_of i.operand
 
--- the instruction is that of the first of these ways whose mode the mnemonic has on the CPU
-abbrev pub IsFirstWay : {A : Type 0} → Option CodeInstruction → Coder A → List Way → Type 0
-IsFirstWay found coder ws = option_map instruction_of found ≡ first_way coder.opcodes.now coder.mnemonic ws
-
--- the same of the ways of a form
-abbrev pub IsFirstOf : {A : Type 0} → Option CodeInstruction → Coder A → Form → Type 0
-IsFirstOf found coder form = IsFirstWay found coder (ways (is_short coder.above.now form) form)
-
 abbrev pub data_fragments : List CodeDatum → List Fragment
 data_fragments ds = flat_map datum_fragments (map datum_of ds)
 
@@ -56,21 +48,38 @@ coded_of (code_coded.Operand o) = operand_of o
 coded_of (code_coded.Data ds) = data_fragments ds.now
 coded_of (code_coded.Values d vs) = entry_fragments d vs.now
 
--- Bytes are added, if the values that they stand for have room; the answer says whether they have.
+-- the instruction is that of the first of these ways whose mode the mnemonic has on the CPU
+abbrev pub IsFirstWay : {A : Type 0} → Option CodeInstruction → Coder A → List Way → Type 0
+IsFirstWay found coder ws = option_map instruction_of found ≡ first_way coder.opcodes.now coder.mnemonic ws
+
+-- the same of the ways of a form
+abbrev pub IsFirstOf : {A : Type 0} → Option CodeInstruction → Coder A → Form → Type 0
+IsFirstOf found coder form = IsFirstWay found coder (ways (is_short coder.above.now form) form)
+
+-- Bytes are added, if the values that they stand for have room; the answer says whether they have. Else nothing is.
 pub record Puts (answer fits : Bool) (bytes old new : List ℕ) : Type 0 where
   pub says : answer ≡ fits
   pub adds : OnTrue answer (new ≡ old ++ bytes)
-
--- the same of the bytes of a coding, with the address after it
-abbrev pub PutsAll : Bool → List Definition → ℕ → List Fragment → List ℕ → List ℕ → Type 0
-PutsAll answer all next fs old new = Puts answer (list_all (fragment_fits all next) fs) (flat_map (fragment_bytes all next) fs) old new
+  pub leaves : OnFalse answer (new ≡ old)
 
 -- the same of what a function answers, unless it is out of memory
 abbrev pub Adds : {A E : Type 0} → Result Bool E → Bool → List ℕ → Vec ℕ A → Vec ℕ A → Type 0
 Adds result fits bytes old new = IfOk result (λ answer. Puts answer fits bytes old.items new.items)
 
+-- the same of a fragment, with the address after the statement
 abbrev pub AddsOne : {A E : Type 0} → Result Bool E → List Definition → ℕ → Fragment → Vec ℕ A → Vec ℕ A → Type 0
 AddsOne result all next f old new = Adds result (fragment_fits all next f) (fragment_bytes all next f) old new
 
-abbrev pub AddsAll : {A E : Type 0} → Result Bool E → List Definition → ℕ → List Fragment → Vec ℕ A → Vec ℕ A → Type 0
-AddsAll result all next fs old new = IfOk result (λ answer. PutsAll answer all next fs old.items new.items)
+-- whether the names of fragments have definitions, and their values room
+pub record IsFit (fit : Fit) (all : List Definition) (next : ℕ) (fs : List Fragment) : Type 0 where
+  pub known : fit.is_known ≡ are_known all fs
+  pub room : fit.has_room ≡ list_all (fragment_fits all next) fs
+
+-- The bytes of fragments are added if all of their values have room. What stood there before them is kept.
+pub record PutsAll (fit : Fit) (all : List Definition) (next : ℕ) (fs : List Fragment) (old new : List ℕ) : Type 0 where
+  pub fits : IsFit fit all next fs
+  pub adds : OnTrue fit.has_room (new ≡ old ++ flat_map (fragment_bytes all next) fs)
+  pub keeps : take (length old) new ≡ old
+
+abbrev pub Emits : {A E : Type 0} → Result Fit E → List Definition → ℕ → List Fragment → Vec ℕ A → Vec ℕ A → Type 0
+Emits result all next fs old new = IfOk result (λ fit. PutsAll fit all next fs old.items new.items)

@@ -1,7 +1,6 @@
 -- What the assembler's values stand for.
-use Rattle.std.specs.Prelude.{◌≡◌, Bool, ◌++◌, List, [], ◌∷◌, map, Option, Some, None, unwrap_or}
+use Rattle.std.specs.Prelude.{◌≡◌, ◌++◌, List, [], ◌∷◌, map, Option, Some, None, unwrap_or}
 use Rattle.std.specs.Option.{option_map, option_to_list}
-use Rattle.std.specs.List.{list_all}
 use Rattle.stmt65.specs.Types.{Coded as CodeCoded, Placed}
 use Rattle.stmt65.specs.declared.assembling.symbols.Definition.{Definition as CodeDefinition}
 use Rattle.stmt65.specs.declared.assembling.state.State.{State as CodeState}
@@ -10,7 +9,7 @@ use Rattle.stmt65.specs.SourceLine.{Operation, SourceLine}
 use Rattle.stmt65.specs.Symbols.{Definition}
 use Rattle.stmt65.specs.Code.SourceLineViews.{source_of}
 use Rattle.stmt65.specs.Code.SymbolViews.{definition_of}
-use Rattle.stmt65.specs.Coding.{State, Fragment, coding, fragment_fits}
+use Rattle.stmt65.specs.Coding.{State, Fragment, coding}
 use Rattle.stmt65.specs.Code.CodingViews.{coded_of}
 use Rattle.stmt65.specs.Code.Held.{held}
 use Rattle.stmt65.specs.Meaning.{next_of, cpu_after, operation_in, defined_by, is_past_start}
@@ -47,10 +46,6 @@ pub record IsPlaced (p : Placed) (s : State) (source : SourceLine) : Type 0 wher
   pub next : p.next ≡ held (next_of s source)
   pub definition : definitions_in p.definition ≡ held_definitions (defined_by s.at source)
   pub past : p.is_past_start ≡ is_past_start s (operation_in source)
-
--- whether what the bytes stand for has room for its values
-abbrev pub have_room : List Definition → Placed → Bool
-have_room all p = list_all (fragment_fits all p.next) (fragments_in p.coded)
 
 -- below a line, as the code holds it
 unfoldable pub held_after : State → Option SourceLine → State

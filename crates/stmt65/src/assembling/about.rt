@@ -8,7 +8,7 @@ use crate::assembling::layout::Layout;
 use crate::assembling::symbols::KnownNames;
 use crate::assembling::values::word_in;
 use crate::reading::numeral::Numeral;
-use crate::source_line::{Datum, Form, Minus, Notation, Operation, SourceLine, Value};
+use crate::source_line::{Datum, Form, Notation, Operation, SourceLine, Value};
 use isa65::{Cpu, Mode, OpcodeSet, Pattern};
 use std::alloc::{AllocError, Allocator};
 
@@ -55,10 +55,6 @@ impl<'a> From<Explained<'a>> for AsmFault {
     fn from(explained: Explained<'a>) -> Self {
         explained.fault
     }
-}
-
-fn alone(name: &[u8]) -> Value<'_> {
-    Value::Name(name, Numeral::zero(), Minus::Zero)
 }
 
 /// The expression at a place of an operation, from 0; 0 for an operand of `.byte` that is none; `None` past the last.
@@ -128,9 +124,8 @@ fn below_zero<'a, A: Allocator + Clone>(
     let Value::Difference(name, other) = value else {
         return None;
     };
-    let address = word_in(names, &alone(name))?;
-    let base = word_in(names, &alone(other))?;
-    match base.saturating_sub(address) {
+    let address = names.find(name)?.address()?;
+    match names.find(other)?.address()?.saturating_sub(address) {
         0 => None,
         below => Some(About::Below(below)),
     }
@@ -181,19 +176,7 @@ fn of_values<'a, A: Allocator + Clone, B: Allocator>(
     None
 }
 
-/// How far the address is past the start of the segment that an operation enters.
-fn past_start<'a, L: Allocator + Clone, B: Allocator>(
-    layout: &Layout<'_, L>,
-    at: u64,
-    operation: &Operation<'_, B>,
-) -> Option<About<'a>> {
-    let Operation::Segment(name) = operation else {
-        return None;
-    };
-    let start = layout.start_of(name)?;
-    Some(About::Past(at.saturating_sub(u64::from(start)), start))
-}
-
+/// What a fault of this kind of a line is about, if the text of the line does not say it.
 fn of_operation<'a, L: Allocator + Clone, A: Allocator + Clone, B: Allocator>(
     kind: AsmFaultKind,
     names: &KnownNames<'_, '_, A>,
@@ -208,21 +191,24 @@ fn of_operation<'a, L: Allocator + Clone, A: Allocator + Clone, B: Allocator>(
             None => of_values(kind, names, operation),
             found => found,
         },
-        (AsmFaultKind::PastStart, _) => past_start(layout, next, operation),
+        (AsmFaultKind::PastStart, Operation::Segment(name)) => {
+            let start = layout.start_of(name)?;
+            Some(About::Past(next.saturating_sub(u64::from(start)), start))
+        }
         _ => None,
     }
 }
 
 /// What a fault of a line is about, by names among which are all of the line that have a definition, and the address after the line.
 pub fn explain<'a, L: Allocator + Clone, A: Allocator + Clone, B: Allocator>(
-    kind: Option<AsmFaultKind>,
+    kind: AsmFaultKind,
     names: &KnownNames<'_, '_, A>,
     layout: &Layout<'_, L>,
     next: u64,
     source: &SourceLine<'a, B>,
 ) -> About<'a> {
-    match (kind, source) {
-        (Some(kind), SourceLine::Statement { operation, .. }) => {
+    match source {
+        SourceLine::Statement { operation, .. } => {
             of_operation(kind, names, layout, next, operation).unwrap_or(About::Line)
         }
         _ => About::Line,

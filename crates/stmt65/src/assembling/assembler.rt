@@ -1,13 +1,11 @@
 //! The assembler: a pass over the lines of a text, and one over those that wait for a name below them.
 
 ghost use Rattle.std.specs.Prelude.{◌≡◌, ◌<◌, ◌++◌, [], ◌∷◌, if◌then◌else◌, map, true, Some, Ok, IfOk, OnOk};
-ghost use Rattle.stmt65.specs.Words.{Assembles, GoesOn, IsExplained, IsIdle, IsPassed, TakesEarly, definitions_in, held, meaning, parts, reading_of, source_addresses, source_meaning, source_of, source_state, state_in, work_of};
+ghost use Rattle.stmt65.specs.Words.{Assembles, GoesOn, IsExplained, IsIdle, IsOf, IsPassed, PassesOver, definitions_in, held, meaning, parts, reading_of, source_addresses, source_meaning, source_of, source_state, state_in, work_of};
 
 use crate::assembling::about::Explained;
 use crate::assembling::fault::AsmFault;
-use crate::assembling::late::{
-    Late, Work, code_again, code_early, cut, explain_late, idle, keep, refuse,
-};
+use crate::assembling::late::{Late, Work, code_late, cut, idle, keep, settle};
 use crate::assembling::layout::Layout;
 use crate::assembling::line_ends::LineEnds;
 use crate::assembling::state::{State, advance, first_state, place};
@@ -50,46 +48,38 @@ fn define<'a, A: Allocator + Clone>(
     }
 }
 
-/// Goes on below a line, and returns whether it was coded.
+/// Goes on below a line, which is coded if it can be. If not, returns whether it has a fault whatever stands below it.
 #[tactic(auto, unfolding(crate::specs::Code::MeaningViews::held_after))]
 fn pass_over<'a, L: Allocator + Clone, A: Allocator + Clone, B: Allocator>(
     pass: &mut Pass<'a, '_, '_, A, L>,
-    number: usize,
     source: &SourceLine<'a, B>,
-) -> Result<bool, AllocError>
-    ensures { IfOk result (TakesEarly pass.old pass.new number (source_of source.now)) }
+) -> Result<Option<bool>, AllocError>
+    ensures { IfOk result (PassesOver pass.old pass.new (Some (source_of source.now))) }
 {
     let above = pass.names.all();
     let placed = place(&pass.state, &above, source);
-    let is_taken = code_early(&mut pass.work, number, &pass.state, &above, source, &placed)?;
+    let kept = settle(&mut pass.work, &above, source, &placed)?;
     define(&mut pass.names, placed.definition)?;
     advance(&mut pass.state, source, &placed);
-    Ok(is_taken)
+    Ok(kept)
 }
 
 /// Goes on below a line, which is coded or kept for later.
 fn pass_source<'a, L: Allocator + Clone, A: Allocator + Clone>(
     pass: &mut Pass<'a, '_, '_, A, L>,
-    number: usize,
+    late: Late<'a, A>,
     source: SourceLine<'a, A>,
 ) -> Result<(), AllocError>
-    ensures { OnOk result (GoesOn pass.old pass.new number (Some (source_of source.entry))) }
+    requires { IsOf late (state_in pass.now) }
+    ensures { OnOk result (GoesOn pass.old pass.new late.entry.number
+        (Some (source_of source.entry))) }
 {
-    let address = pass.state.address;
-    let cpu = pass.state.opcodes.cpu();
-    let count = pass.names.len();
-    if pass_over(pass, number, &source)? {
+    let Some(is_faulty) = pass_over(pass, &source)? else {
         return Ok(());
-    }
-    let late = Late {
-        source,
-        number,
-        address,
-        cpu,
-        count,
-        front: 0,
     };
-    keep(&mut pass.work, late, pass.state.address)
+    let mut late = late;
+    late.source = Some(source);
+    keep(&mut pass.work, late, is_faulty)
 }
 
 /// Goes on below a line, whatever is written there.
@@ -103,12 +93,18 @@ fn pass_line<'a, 'b, L: Allocator + Clone, A: Allocator>(
 ) -> Result<(), AllocError>
     ensures { OnOk result (GoesOn pass.old pass.new number (reading_of language (parts language line.now))) }
 {
+    let late = Late {
+        source: None,
+        number,
+        address: pass.state.address,
+        cpu: pass.state.opcodes.cpu(),
+        count: pass.names.len(),
+        front: 0,
+    };
     match read_line(alloc, language, line)? {
-        Some(source) => pass_source(pass, number, source),
-        None => {
-            refuse(&mut pass.work, number);
-            Ok(())
-        }
+        Some(source) => pass_source(pass, late, source),
+        None if pass.work.is_over => Ok(()),
+        None => keep(&mut pass.work, late, true),
     }
 }
 
@@ -181,22 +177,14 @@ pub fn second_pass<'a, L: Allocator + Clone, A: Allocator + Clone, C: Allocator 
     'late: for late in &work.late {
         let (front, more) = cut(rest, late.front);
         out.extend_from_slice(front)?;
-        if let Some(kind) = code_again(state, names, late, &mut out)? {
-            return Err(Explained {
-                fault: AsmFault {
-                    line: late.number,
-                    kind,
-                },
-                about: explain_late(state, names, late, kind),
-            });
+        if let Some((kind, about)) = code_late(state, names, late, &mut out)? {
+            let fault = AsmFault {
+                line: late.number,
+                kind,
+            };
+            return Err(Explained { fault, about });
         }
         rest = more;
-    }
-    if let Some(fault) = work.fault {
-        return Err(Explained {
-            fault,
-            about: work.about,
-        });
     }
     out.extend_from_slice(rest)?;
     Ok(out)

@@ -1,14 +1,12 @@
-//! The length of a coding, whether it can be emitted, and its bytes.
+//! The length of a coding, and its bytes.
 
-ghost use Rattle.std.specs.Prelude.{◌≡◌, [], ◌∷◌};
-ghost use Rattle.stmt65.specs.Words.{AddsAll, are_known, coded_of, coding_len, data_fragments, datum_fragments, datum_of, entry_fragments, fragment_len, fragment_of, held, operand_of};
-ghost use Rattle.stmt65.specs.Code.CodingViews.{instruction_of};
+ghost use Rattle.std.specs.Prelude.{◌≡◌, [], ◌∷◌, ◌&&◌};
+ghost use Rattle.stmt65.specs.Words.{Emits, coded_of, coding_len, data_fragments, datum_fragments, datum_of, entry_fragments, fragment_len, fragment_of, held, instruction_of, operand_of};
 
 use crate::assembling::coding::{Coded, Fragment, Instruction, Operand};
 use crate::assembling::entries::size;
 use crate::assembling::fragment_bytes::{is_fragment_known, put_fragment};
 use crate::assembling::symbols::KnownNames;
-use crate::assembling::values::is_known;
 use crate::directive::Directive;
 use crate::source_line::{Datum, Value};
 use std::alloc::{AllocError, Allocator};
@@ -28,9 +26,7 @@ fn fragment_len(fragment: Fragment) -> u64
     }
 }
 
-// ---- how many bytes
-
-#[tactic(auto, using(crate::proofs::CodingLemmas::datum_len), unfolding(crate::specs::Coding::coding_len))]
+#[tactic(auto, using(crate::proofs::CodingLemmas::text_len), unfolding(crate::specs::Coding::coding_len))]
 fn datum_len(datum: &Datum) -> u64
     ensures { result ≡ held (coding_len (datum_fragments (datum_of datum.now))) }
 {
@@ -40,7 +36,7 @@ fn datum_len(datum: &Datum) -> u64
     }
 }
 
-#[tactic(auto, using(crate::proofs::CodingLemmas::data_step))]
+#[tactic(auto, using(crate::proofs::CodingLemmas::data_step), unfolding(crate::specs::Coding::coding_len))]
 fn data_len(items: &[Datum]) -> u64
     ensures { result ≡ held (coding_len (data_fragments items.now)) }
 {
@@ -90,160 +86,126 @@ pub fn coded_len(coded: Coded) -> u64
     }
 }
 
-// ---- whether each name has a definition
+/// What a coding has in a table of names, in which its values may have no room.
+#[derive(Clone, Copy)]
+pub struct Fit {
+    /// Whether each of its names has a definition.
+    pub is_known: bool,
+    /// Whether each of its values has room.
+    pub has_room: bool,
+}
 
-fn is_datum_known<A: Allocator + Clone>(names: &KnownNames<'_, '_, A>, datum: &Datum) -> bool
-    ensures { result ≡ are_known names.now (datum_fragments (datum_of datum.now)) }
+/// That of no bytes.
+pub const FITS: Fit = Fit {
+    is_known: true,
+    has_room: true,
+};
+
+/// That of two codings together.
+fn both(one: Fit, other: Fit) -> Fit
+    ensures known { result.is_known ≡ (one.is_known && other.is_known) }
+    ensures room { result.has_room ≡ (one.has_room && other.has_room) }
 {
-    match datum {
-        Datum::Number(number) => is_known(names, &Value::Number(*number)),
-        Datum::String(_) => true,
-        Datum::Value(value) | Datum::Half(_, value) => is_known(names, value),
+    Fit {
+        is_known: one.is_known && other.is_known,
+        has_room: one.has_room && other.has_room,
     }
 }
 
-#[tactic(auto, using(crate::proofs::CodingLemmas::list_all_append))]
-fn are_data_known<A: Allocator + Clone>(names: &KnownNames<'_, '_, A>, items: &[Datum]) -> bool
-    ensures { result ≡ are_known names.now (data_fragments items.now) }
-{
-    'data: for datum in items {
-        if !is_datum_known(names, datum) {
-            return false;
-        }
-    }
-    true
-}
-
-fn are_values_known<A: Allocator + Clone>(
+#[tactic(auto, using(crate::proofs::CodingLemmas::fits_put, crate::proofs::CodingLemmas::misses_put))]
+fn put<A: Allocator + Clone, B: Allocator>(
+    out: &mut Vec<u8, B>,
     names: &KnownNames<'_, '_, A>,
-    directive: Directive,
-    values: &[Value],
-) -> bool
-    ensures { result ≡ are_known names.now (entry_fragments directive values.now) }
+    next: u64,
+    fragment: Fragment,
+) -> Result<Fit, AllocError>
+    ensures { Emits result names.now next (fragment_of fragment.entry ∷ []) out.old out.new }
 {
-    'values: for value in values {
-        if !is_fragment_known(names, Fragment::Entry(directive, value)) {
-            return false;
-        }
+    if put_fragment(out, names, next, fragment)? {
+        return Ok(FITS);
     }
-    true
+    Ok(Fit {
+        is_known: is_fragment_known(names, fragment),
+        has_room: false,
+    })
 }
 
-fn is_operand_known<A: Allocator + Clone>(names: &KnownNames<'_, '_, A>, operand: Operand) -> bool
-    ensures { result ≡ are_known names.now (operand_of operand.entry) }
-{
-    match operand {
-        Operand::None => true,
-        Operand::One(fragment) => is_fragment_known(names, fragment),
-        Operand::Two(first, second) => {
-            is_fragment_known(names, first) && is_fragment_known(names, second)
-        }
-    }
-}
-
-/// Whether each name in the coding has a definition.
-pub fn are_known<A: Allocator + Clone>(names: &KnownNames<'_, '_, A>, coded: Coded) -> bool
-    ensures { result ≡ are_known names.now (coded_of coded.entry) }
-{
-    match coded {
-        Coded::Nothing => true,
-        Coded::Instruction(instruction) => is_operand_known(names, instruction.operand),
-        Coded::Operand(operand) => is_operand_known(names, operand),
-        Coded::Data(data) => are_data_known(names, data),
-        Coded::Values(directive, values) => are_values_known(names, directive, values),
-    }
-}
-
-// ---- the bytes
-
-#[tactic(auto, using(crate::proofs::CodingLemmas::one_put, crate::proofs::CodingLemmas::string_put))]
+#[tactic(auto, using(crate::proofs::CodingLemmas::text_put))]
 fn put_datum<A: Allocator + Clone, B: Allocator>(
     out: &mut Vec<u8, B>,
     names: &KnownNames<'_, '_, A>,
     next: u64,
     datum: &Datum,
-) -> Result<bool, AllocError>
-    ensures { AddsAll result names.now next (datum_fragments (datum_of datum.now)) out.old out.new }
+) -> Result<Fit, AllocError>
+    ensures { Emits result names.now next (datum_fragments (datum_of datum.now)) out.old out.new }
 {
     match datum {
         Datum::Number(number) => {
             let value = Value::Number(*number);
-            put_fragment(out, names, next, Fragment::Single(&value))
+            put(out, names, next, Fragment::Single(&value))
         }
-        Datum::Value(value) => put_fragment(out, names, next, Fragment::Single(value)),
-        Datum::Half(half, value) => put_fragment(out, names, next, Fragment::Half(*half, value)),
+        Datum::Value(value) => put(out, names, next, Fragment::Single(value)),
+        Datum::Half(half, value) => put(out, names, next, Fragment::Half(*half, value)),
         Datum::String(bytes) => {
             out.extend_from_slice(bytes)?;
-            Ok(true)
+            Ok(FITS)
         }
     }
 }
 
-#[tactic(auto, using(crate::proofs::CodingLemmas::list_all_append))]
+#[tactic(auto, using(crate::proofs::CodingLemmas::data_put))]
 fn put_data<A: Allocator + Clone, B: Allocator>(
     out: &mut Vec<u8, B>,
     names: &KnownNames<'_, '_, A>,
     next: u64,
     items: &[Datum],
-) -> Result<bool, AllocError>
-    ensures { AddsAll result names.now next (data_fragments items.now) out.old out.new }
+) -> Result<Fit, AllocError>
+    ensures { Emits result names.now next (data_fragments items.now) out.old out.new }
 {
+    let mut fit = FITS;
     'data: for datum in items {
-        if !put_datum(out, names, next, datum)? {
-            return Ok(false);
-        }
+        fit = both(fit, put_datum(out, names, next, datum)?);
     }
-    Ok(true)
+    Ok(fit)
 }
 
+#[tactic(auto, using(crate::proofs::CodingLemmas::entries_put))]
 fn put_values<A: Allocator + Clone, B: Allocator>(
     out: &mut Vec<u8, B>,
     names: &KnownNames<'_, '_, A>,
     next: u64,
     directive: Directive,
     values: &[Value],
-) -> Result<bool, AllocError>
-    ensures { AddsAll result names.now next (entry_fragments directive values.now) out.old out.new }
+) -> Result<Fit, AllocError>
+    ensures { Emits result names.now next (entry_fragments directive values.now) out.old out.new }
 {
+    let mut fit = FITS;
     'values: for value in values {
-        if !put_fragment(out, names, next, Fragment::Entry(directive, value))? {
-            return Ok(false);
-        }
+        fit = both(
+            fit,
+            put(out, names, next, Fragment::Entry(directive, value))?,
+        );
     }
-    Ok(true)
+    Ok(fit)
 }
 
-#[tactic(auto, using(crate::proofs::CodingLemmas::one_put))]
+#[tactic(auto, using(crate::proofs::CodingLemmas::more_put, crate::proofs::CodingLemmas::nothing_put))]
 fn put_operand<A: Allocator + Clone, B: Allocator>(
     out: &mut Vec<u8, B>,
     names: &KnownNames<'_, '_, A>,
     next: u64,
     operand: Operand,
-) -> Result<bool, AllocError>
-    ensures { AddsAll result names.now next (operand_of operand.entry) out.old out.new }
+) -> Result<Fit, AllocError>
+    ensures { Emits result names.now next (operand_of operand.entry) out.old out.new }
 {
     match operand {
-        Operand::None => Ok(true),
-        Operand::One(fragment) => put_fragment(out, names, next, fragment),
-        Operand::Two(first, second) => put_two(out, names, next, first, second),
+        Operand::None => Ok(FITS),
+        Operand::One(fragment) => put(out, names, next, fragment),
+        Operand::Two(first, second) => {
+            let fit = put(out, names, next, first)?;
+            Ok(both(fit, put(out, names, next, second)?))
+        }
     }
-}
-
-#[tactic(auto, using(crate::proofs::CodingLemmas::two_put, crate::proofs::CodingLemmas::first_missed_put))]
-fn put_two<A: Allocator + Clone, B: Allocator>(
-    out: &mut Vec<u8, B>,
-    names: &KnownNames<'_, '_, A>,
-    next: u64,
-    first: Fragment,
-    second: Fragment,
-) -> Result<bool, AllocError>
-    ensures { AddsAll result names.now next
-        (fragment_of first.entry ∷ fragment_of second.entry ∷ []) out.old out.new }
-{
-    if !put_fragment(out, names, next, first)? {
-        return Ok(false);
-    }
-    put_fragment(out, names, next, second)
 }
 
 #[tactic(auto, using(crate::proofs::CodingLemmas::opcode_put))]
@@ -252,24 +214,25 @@ fn put_instruction<A: Allocator + Clone, B: Allocator>(
     names: &KnownNames<'_, '_, A>,
     next: u64,
     instruction: Instruction,
-) -> Result<bool, AllocError>
-    ensures { AddsAll result names.now next (instruction_of instruction.entry) out.old out.new }
+) -> Result<Fit, AllocError>
+    ensures { Emits result names.now next (instruction_of instruction.entry) out.old out.new }
 {
     out.push(instruction.opcode)?;
     put_operand(out, names, next, instruction.operand)
 }
 
-/// Adds the bytes of a coding if it has room for its values, and returns whether it has; `next` is the address after it.
+/// Adds the bytes of a coding, as far as they have room; `next` is the address after it.
+#[tactic(auto, using(crate::proofs::CodingLemmas::nothing_put))]
 pub fn put_coded<A: Allocator + Clone, B: Allocator>(
     out: &mut Vec<u8, B>,
     names: &KnownNames<'_, '_, A>,
     next: u64,
     coded: Coded,
-) -> Result<bool, AllocError>
-    ensures { AddsAll result names.now next (coded_of coded.entry) out.old out.new }
+) -> Result<Fit, AllocError>
+    ensures { Emits result names.now next (coded_of coded.entry) out.old out.new }
 {
     match coded {
-        Coded::Nothing => Ok(true),
+        Coded::Nothing => Ok(FITS),
         Coded::Instruction(instruction) => put_instruction(out, names, next, instruction),
         Coded::Operand(operand) => put_operand(out, names, next, operand),
         Coded::Data(data) => put_data(out, names, next, data),

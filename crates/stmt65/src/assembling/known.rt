@@ -55,7 +55,7 @@ fn follow<'a, L: Allocator + Clone, A: Allocator + Clone, B: Allocator, C: Alloc
 {
     let above = names.first(count);
     let placed = place(state, &above, &source);
-    if let Some(_) = code_placed(&names.all(), state, &above, &source, &placed, out)? {
+    if let Some(_) = code_placed(&names.all(), &above, &source, &placed, out)? {
         return Ok(None);
     }
     let Some(count) = count_after(names, count, placed.definition) else {

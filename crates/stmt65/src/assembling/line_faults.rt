@@ -1,10 +1,10 @@
 //! What is wrong with a line.
 
-ghost use Rattle.std.specs.Prelude.{◌≡◌, ◌||◌, not, is_some, Some};
+ghost use Rattle.std.specs.Prelude.{◌≡◌, ◌||◌, List, Some, is_some, not};
 ghost use Rattle.std.specs.List.{list_any};
-ghost use Rattle.stmt65.specs.Words.{IsPlaced, State, definitions_in, fault_of, find_name, first_of, fragments_in, has_large, has_unknown_cpu, have_room, are_known, line_operation, source_of};
+ghost use Rattle.stmt65.specs.Words.{Definition as ADefinition, IsFit, IsPlaced, State, definitions_in, fault_of, find_name, first_of, fragments_in, has_large, has_unknown_cpu, line_operation, source_of};
 
-use crate::assembling::emit::are_known;
+use crate::assembling::emit::Fit;
 use crate::assembling::fault::AsmFaultKind;
 use crate::assembling::state::{Placed, cpu_set};
 use crate::assembling::symbols::{Definition, KnownNames};
@@ -22,32 +22,6 @@ fn has_unknown_cpu<'a, B: Allocator>(source: &SourceLine<'a, B>) -> bool
         } => cpu_set(text).is_none(),
         _ => false,
     }
-}
-
-/// Whether each name in the coding has a definition.
-pub fn are_names_known<A: Allocator + Clone>(all: &KnownNames<'_, '_, A>, placed: &Placed) -> bool
-    ensures { result ≡ are_known all.now (fragments_in placed.now.coded) }
-{
-    match placed.coded {
-        Some(coded) => are_known(all, coded),
-        None => true,
-    }
-}
-
-/// Whether each name in the coding has a definition. It has if the values have room, and then none is looked up again.
-#[tactic(auto, using(crate::proofs::CodingLemmas::known_where_fit))]
-fn is_known<A: Allocator + Clone>(
-    all: &KnownNames<'_, '_, A>,
-    placed: &Placed,
-    has_room: bool,
-) -> bool
-    requires { has_room ≡ have_room all.now placed.now }
-    ensures { result ≡ are_known all.now (fragments_in placed.now.coded) }
-{
-    if has_room {
-        return true;
-    }
-    are_names_known(all, placed)
 }
 
 fn is_above<A: Allocator + Clone>(
@@ -89,30 +63,30 @@ fn first_of(tests: &[(AsmFaultKind, bool)]) -> Option<AsmFaultKind>
     None
 }
 
-/// The lowest fault of a line in its state; `all` are the definitions of the whole text, `above` those above the line.
+/// The lowest fault of a line in its state; `above` are the definitions above it.
 #[tactic(auto, using(crate::proofs::HeldLemmas::fault_is))]
 pub fn fault_of<'a, A: Allocator + Clone, B: Allocator>(
-    all: &KnownNames<'_, '_, A>,
     above: &KnownNames<'_, '_, A>,
     source: &SourceLine<'a, B>,
     placed: &Placed<'_, 'a>,
-    has_room: bool,
+    fit: Fit,
 ) -> Option<AsmFaultKind>
-    requires { has_room ≡ have_room all.now placed.now }
-    ensures { (s : State) → s.above ≡ above.now → IsPlaced placed.now s (source_of source.now)
-        → result ≡ fault_of all.now s (Some (source_of source.now)) }
+    ensures { (all : List ADefinition) (s : State)
+        → IsFit fit all placed.now.next (fragments_in placed.now.coded) → s.above ≡ above.now
+        → IsPlaced placed.now s (source_of source.now)
+        → result ≡ fault_of all s (Some (source_of source.now)) }
 {
     first_of(&[
         (AsmFaultKind::UnknownCpu, has_unknown_cpu(source)),
         (AsmFaultKind::NoSuchForm, placed.coded.is_none()),
-        (AsmFaultKind::Undefined, !is_known(all, placed, has_room)),
+        (AsmFaultKind::Undefined, !fit.is_known),
         (
             AsmFaultKind::DefinedTwice,
             is_above(above, placed.definition),
         ),
         (
             AsmFaultKind::OutOfRange,
-            is_out_of_range(placed.definition, has_room),
+            is_out_of_range(placed.definition, fit.has_room),
         ),
         (AsmFaultKind::PastStart, placed.is_past_start),
         (AsmFaultKind::PastEnd, placed.next > 65536),
