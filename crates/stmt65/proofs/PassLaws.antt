@@ -189,10 +189,12 @@ settles_later p q s source placed fit ds mid is_faulty same e late mark over is 
     }
 
 pub left_takes : {A : Type 0} (p left q : Work A) (n : ℕ) (s : State) (line : Option SourceLine) → IsLeft p left → Takes left q n s line → Takes p q n s line
-left_takes p left q n s line is takes = record {
-  sound = λ h. takes.sound (record { mark = is.mark ∙ h.mark ∙ ap (λ ls. fronts ls.items) (sym is.late); within = rw (is.mark, is.settled) h.within });
-  same = λ h all more rest x. takes.same (record { mark = is.mark ∙ h.mark ∙ ap (λ ls. fronts ls.items) (sym is.late); within = rw (is.mark, is.settled) h.within }) all more rest x ∙ rw (is.settled, is.late, is.over, is.before) refl;
-}
+left_takes p left q n s line is takes =
+    let sound : IsSound p → IsSound left = λ h. record { mark = is.mark ∙ h.mark ∙ ap (λ ls. fronts ls.items) (sym is.late); within = rw (is.mark, is.settled) h.within } in
+    record {
+      sound = λ h. takes.sound (sound h);
+      same = λ h all more rest x. takes.same (sound h) all more rest x ∙ rw (is.settled, is.late, is.over, is.before) refl;
+    }
 
 -- a line is kept; where it has a fault, what comes below it is hidden
 pub takes_late : {A : Type 0} (p q : Work A) (l : Late A) (s : State) (is_faulty : Bool) → p.is_over ≡ false → q.is_over ≡ is_faulty → q.settled ≡ p.settled → q.late.items ≡ p.late.items ++ l ∷ [] → q.mark ≡ length p.settled.items
