@@ -88,11 +88,14 @@ pub record HasNoDot (t : List ℕ) : Type 0 where
   pub segment : same t (codes ".segment") ≡ false
   pub code : same t (codes ".code") ≡ false
   pub set_cpu : same t (codes ".setcpu") ≡ false
+  pub low_bytes : same t (codes ".lobytes") ≡ false
+  pub high_bytes : same t (codes ".hibytes") ≡ false
+  pub reserve : same t (codes ".res") ≡ false
 
 pub no_dot : (m : Mnemonic) → HasNoDot (text_of m)
 unfolding directive_named
-no_dot Adc = record { directive = refl; byte = refl; segment = refl; code = refl; set_cpu = refl }
-no_dot _ = record { directive = refl; byte = refl; segment = refl; code = refl; set_cpu = refl }
+no_dot Adc = record { directive = refl; byte = refl; segment = refl; code = refl; set_cpu = refl; low_bytes = refl; high_bytes = refl; reserve = refl }
+no_dot _ = record { directive = refl; byte = refl; segment = refl; code = refl; set_cpu = refl; low_bytes = refl; high_bytes = refl; reserve = refl }
 
 -- a name is none of the operand words
 pub no_letter : (w : List ℕ) → is_name w ≡ true → (same w (codes "a") ≡ false) × (same w (codes "x") ≡ false) × (same w (codes "y") ≡ false)

@@ -4,13 +4,13 @@ use Rattle.std.proofs.lemmas.Option.{same_Some}
 use Rattle.stmt65.specs.Words.{IsSpelling, Listing, ReadsLines, ReadsSpellings, SpellsOne, parts, reading_of}
 use Rattle.stmt65.proofs.SpacingLemmas.{takes_parts}
 use Rattle.stmt65.proofs.ReadIsSpelled.{at, reading_read}
-use Rattle.stmt65.proofs.SpelledIsRead.{line_again}
+use Rattle.stmt65.proofs.SpelledIsRead.{listing_again}
 
 pub reads_spellings : ReadsSpellings
-reads_spellings ps r = (λ e. at (λ r. IsSpelling r ps) (reading_of Listing ps) r e (reading_read ps), λ h. line_again r ps h)
+reads_spellings ps r = (λ e. at (λ r. IsSpelling r ps) (reading_of Listing ps) r e (reading_read ps), λ h. listing_again r ps h)
 
 pub spells_one : SpellsOne
-spells_one ps r s h g = same_Some r s (sym (line_again r ps h) ∙ line_again s ps g)
+spells_one ps r s h g = same_Some r s (sym (listing_again r ps h) ∙ listing_again s ps g)
 
 pub reads_lines : ReadsLines
 reads_lines line r = (

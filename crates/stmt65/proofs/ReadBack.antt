@@ -19,7 +19,7 @@ use Rattle.stmt65.specs.declared.source_line.AddressSize.TheVariants.{Absolute}
 use Rattle.stmt65.specs.declared.source_line.Minus.TheVariants.{One as MinusOne}
 use Rattle.stmt65.specs.Views as view
 use Rattle.stmt65.proofs.ReadIsSpelled.{at_mark, at_value, at_define, last, word_front, name_front}
-use Rattle.stmt65.proofs.SpelledIsRead.{line_again}
+use Rattle.stmt65.proofs.SpelledIsRead.{listing_again}
 use Rattle.stmt65.proofs.Lexed.{Ends, IsWordText, all_as, begun, parts_word, parts_blanks, parts_mark, parts_define, parts_colon, parts_text, parts_hex2, parts_hex4, number_of-hex2, number_of-hex4, parts_digits, parts_decimal, number_of-decimal, OffsetParts, offset_parts}
 use Rattle.stmt65.proofs.PartLemmas.{parts_nil, parts_remark}
 use Rattle.stmt65.proofs.RemarkLemmas.{AreClosed, parts_then, spelled_closed}
@@ -414,4 +414,4 @@ pub reads_back : (c : Columns) (s : StatementView) (r : RemarksView) → IsPrint
 reads_back c s r p w n m l =
     let says = with_label r.label (source_line s) in
     let spelled = spelled_back c r.hexoffs r.label s p w n m l in
-    line_again says (parts Listing (line_of c s r)) (rw (line_parts c s r (spelled_closed says (parts Listing (plain_line c s r)) spelled)) spelled)
+    listing_again says (parts Listing (line_of c s r)) (rw (line_parts c s r (spelled_closed says (parts Listing (plain_line c s r)) spelled)) spelled)

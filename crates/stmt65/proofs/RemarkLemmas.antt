@@ -1,7 +1,7 @@
 -- A line that says something has the same parts where a blank and a remark follow it.
 use Rattle.std.proofs.lemmas.List.Sums.{prefix_len-le-length}
 use Rattle.std.proofs.Common.{◌∙◌, ◌≡◌, ℕ, zero, suc, Bool, true, false, eqb, ◌<◌, ◌≤◌, List, [], ◌∷◌, ◌++◌, length, drop, refl, ap, arith, inl, inr}
-use Rattle.std.specs.Prelude.{not, Some, None}
+use Rattle.std.specs.Prelude.{not, ◌||◌, Some, None}
 use Rattle.std.specs.List.{prefix_len, list_all}
 use Rattle.std.proofs.lemmas.Bool.{and_parts, eqb-true}
 use Rattle.std.proofs.lemmas.List.{take-append-le, drop-append-le, length-drop}
@@ -16,9 +16,9 @@ use Rattle.stmt65.proofs.SpacingLemmas.{taken}
 
 -- ---- a part that is no open string is the same before a blank
 
--- no `"` by itself
+-- none of `"`, `%` and an apostrophe by itself
 abbrev pub is_closed : Part → Bool
-is_closed (Mark b) = not (eqb b 34)
+is_closed (Mark b) = not (eqb b 34 || (eqb b 37 || eqb b 39))
 is_closed _ = true
 
 -- a run that a blank ends
@@ -110,7 +110,7 @@ list_closed Is each (x ∷ []) ps h = each x ps h
 list_closed Is each (x ∷ y ∷ xs) ps h = rw h.2 (both_closed h.0 (Mark 44 ∷ h.1) (each x h.0 h.3) (list_closed Is each (y ∷ xs) h.1 h.4))
 
 abbrev pub is_closed_item : Item → Bool
-is_closed_item (item.mark b) = not (eqb b 34)
+is_closed_item (item.mark b) = is_closed (Mark b)
 is_closed_item _ = true
 
 item_closed : (i : Item) (ps : List Part) → is_closed_item i ≡ true → IsItem i ps → AreClosed ps

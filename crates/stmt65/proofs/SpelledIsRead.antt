@@ -1,15 +1,15 @@
--- What is spelled so is read.
+-- What is spelled so is read, in either language; in a repair an instruction without an operand may work on the accumulator.
 use Rattle.std.proofs.Common.{◌≡◌, ℕ, zero, suc, true, false, eqb, List, [], ◌∷◌, ◌++◌, length, ◌≤◌, Option, Some, None, refl, sym, ap, ◌∙◌, arith, inl, inr, append_assoc}
 use Rattle.std.specs.Prelude.{codes}
 use Rattle.std.proofs.lemmas.List.{append-nil, length-append}
 use Rattle.isa65.specs.Words.{text_of}
-use Rattle.stmt65.specs.Words.{Accumulator, AddressSize, Assignment, Automatic, Code, Data, Datum, Define, DifferenceValue, LessValue, Direct, DirectX, DirectY, Directive, Empty, Form, HalfDatum, Immediate, Indirect, IndirectX, IndirectY, Instr, IsDatum, IsItem, IsList, IsMinus, IsPlus, IsSpelling, IsValue, Item, Listing, Mark, Minus, NameValue, Nothing, Number, NumberDatum, NumberValue, One, Operation, Part, PlaceAssignment, Reserve, Segment, SetCpu, SourceLine, Spells, Statement, StringDatum, Two, Value, ValueDatum, Values, Word, Zero, constant_of, data_list, data_of, define, directive_text, form_items, further_at, immediate_of, inner_at, is_absolute, is_define, is_mark, is_name, is_nil, is_word_here, joined, less_one, line_at, mark, mark_datum, name, named_at, next_datum, next_value, number, operation_at, operation_items, other_at, prefix_items, quoted_name, reading_of, same, segment_of, set_cpu_of, sized, string, tail_at, text_in, unwritten, value, value_list, values_of, whole, word, word_datum}
+use Rattle.stmt65.specs.Words.{Accumulator, AddressSize, Assignment, Automatic, Code, Data, Datum, Define, DifferenceValue, LessValue, Direct, DirectX, DirectY, Directive, Empty, Form, HalfDatum, High, Immediate, Indirect, IndirectX, IndirectY, Instr, Language, Mnemonic, Repair, IsDatum, IsItem, IsList, IsMinus, IsPlus, IsSpelling, IsValue, Item, Listing, Low, Mark, Minus, NameValue, Nothing, Number, NumberDatum, NumberValue, One, Operation, Part, PlaceAssignment, Reserve, Segment, SetCpu, SourceLine, Spells, Statement, StringDatum, Two, Value, ValueDatum, Values, Word, Zero, constant_of, data_list, data_of, define, directive_text, form_items, further_at, immediate_of, inner_at, is_absolute, is_define, is_difference, is_equals, is_mark, is_name, is_nil, is_word_here, joined, less_one, line_at, mark, mark_datum, name, named_at, next_address, next_datum, next_half, next_value, number, number_at, number_datum, operation_at, operand_in, operation_items, other_at, prefix_items, quoted_name, reading_of, reserve_of, same, segment_of, set_cpu_of, sized, string, tail_at, text_in, unwritten, value, value_list, values_of, whole, word, word_datum}
 use Rattle.stmt65.specs.declared.source_line.AddressSize.TheVariants.{Absolute}
 use Rattle.stmt65.specs.declared.source_line.Minus.TheVariants.{One as MinusOne}
 use Rattle.stmt65.specs.declared.source_line.Notation.TheVariants as notation
 use Rattle.stmt65.specs.Parts.{number_of}
 use Rattle.stmt65.specs.Reading.{form_of, operation_of}
-use Rattle.stmt65.proofs.Cases.{by_test, other, no_letter, no_dot, mnemonic_again, directive_again, no_directive, no_directives}
+use Rattle.stmt65.proofs.Cases.{by_test, HasNoDot, other, no_letter, no_dot, mnemonic_again, directive_again, no_directive, no_directives}
 
 -- ---- items in front
 
@@ -58,26 +58,38 @@ stops_nil = record { plus = refl; minus = refl }
 stops_mark : (b : ℕ) (ps : List Part) → eqb b 43 ≡ false → eqb b 45 ≡ false → Stops (Mark b ∷ ps)
 stops_mark b ps p m = record { plus = p; minus = m }
 
-less_again : (w : List ℕ) (n : ℕ) (less : Minus) (minus rest : List Part) → IsMinus less minus → Stops rest → less_one Listing w n (minus ++ rest) ≡ Some (NameValue w n less, rest)
+less_again : (l : Language) (w : List ℕ) (n : ℕ) (less : Minus) (minus rest : List Part) → IsMinus less minus → Stops rest → less_one l w n (minus ++ rest) ≡ Some (NameValue w n less, rest)
 unfolding less_one
-less_again w n MinusOne minus rest h stop = rw h refl
-less_again w n Zero minus rest h stop = rw h (rw stop.minus refl)
+less_again l w n MinusOne minus rest h stop = rw h refl
+less_again l w n Zero minus rest h stop = rw h (rw stop.minus refl)
 
 no_plus : (less : Minus) (minus rest : List Part) → IsMinus less minus → Stops rest → is_mark 43 (minus ++ rest) ≡ false
 no_plus MinusOne minus rest h stop = rw h refl
 no_plus Zero minus rest h stop = rw h stop.plus
 
-named_again : (w : List ℕ) (n : ℕ) (less : Minus) (plus minus rest : List Part) → IsPlus n plus → IsMinus less minus → Stops rest → named_at Listing w (plus ++ (minus ++ rest)) ≡ Some (NameValue w n less, rest)
+named_again : (l : Language) (w : List ℕ) (n : ℕ) (less : Minus) (plus minus rest : List Part) → IsPlus n plus → IsMinus less minus → Stops rest → named_at l w (plus ++ (minus ++ rest)) ≡ Some (NameValue w n less, rest)
 unfolding named_at
-named_again w n less plus minus rest (inl e) h stop = rw (e.0, e.1) (rw (no_plus less minus rest h stop) (less_again w 0 less minus rest h stop))
-named_again w n less plus minus rest (inr e) h stop = rw (e.2, ← e.1) (less_again w n less minus rest h stop)
+named_again l w n less plus minus rest (inl e) h stop = rw (e.0, e.1) (rw (no_plus less minus rest h stop) (less_again l w 0 less minus rest h stop))
+named_again l w n less plus minus rest (inr e) h stop = rw (e.2, ← e.1) (less_again Listing w n less minus rest h stop)
 
-pub value_again : (v : Value) (front rest : List Part) → IsValue v front → Stops rest → next_value Listing (front ++ rest) ≡ Some (v, rest)
+number_again : (l : Language) (n : ℕ) (rest : List Part) → Stops rest → (number_at l n rest ≡ Some (NumberValue n, rest)) × (number_datum l n rest ≡ Some (NumberDatum n, rest))
+number_again Listing n rest stop = (refl, refl)
+number_again Repair n rest stop = rw stop.plus (refl, refl)
+
+value_again : (l : Language) (v : Value) (front rest : List Part) → IsValue v front → Stops rest → next_value l (front ++ rest) ≡ Some (v, rest)
 unfolding next_value
-value_again (NumberValue n) front rest h stop = rw (h.2, ← h.1) refl
-value_again (NameValue w n less) front rest h stop = rw (h.2, append_assoc h.0 h.1 rest) (rw h.3 (named_again w n less h.0 h.1 rest h.4 h.5 stop))
-value_again (LessValue w n) front rest h stop = absurd h
-value_again (DifferenceValue w v) front rest h stop = absurd h
+value_again l (NumberValue n) front rest h stop = rw (h.2, h.1) (number_again l (number_of h.0) rest stop).0
+value_again l (NameValue w n less) front rest h stop = rw (h.2, append_assoc h.0 h.1 rest) (rw h.3 (named_again l w n less h.0 h.1 rest h.4 h.5 stop))
+value_again l (LessValue w n) front rest h stop = absurd h
+value_again l (DifferenceValue w v) front rest h stop = absurd h
+
+no_difference : (v : Value) (front : List Part) → IsValue v front → is_difference v ≡ false
+no_difference (DifferenceValue w v) front h = absurd h
+no_difference _ front h = refl
+
+address_again : (l : Language) (v : Value) (front rest : List Part) → IsValue v front → Stops rest → next_address l (front ++ rest) ≡ Some (v, rest)
+address_again Listing v front rest h stop = value_again Listing v front rest h stop
+address_again Repair v front rest h stop = rw (value_again Repair v front rest h stop, no_difference v front h) refl
 
 -- what begins with a value begins with no mark and no letter
 record Begins (ps : List Part) : Type 0 where
@@ -94,77 +106,78 @@ value_begins (LessValue w n) front rest h = absurd h
 value_begins (DifferenceValue w v) front rest h = absurd h
 
 -- a value that stands first in an operand
-first_value : (v : Value) (front rest : List Part) → IsValue v front → Stops rest → form_of Listing (front ++ rest) ≡ tail_at Listing Automatic v rest
+first_value : (l : Language) (v : Value) (front rest : List Part) → IsValue v front → Stops rest → form_of l (front ++ rest) ≡ tail_at l Automatic v rest
 unfolding form_of
-first_value v front rest h stop = grind (arith, value_begins, value_again)
+first_value l v front rest h stop = grind (arith, value_begins, address_again)
 
 -- ---- operands
 
 -- an operand that begins with a value, with or without `a:`
-direct : (size : AddressSize) (v : Value) (is : List Item) (ps : List Part) (f : Form)
+direct : (l : Language) (size : AddressSize) (v : Value) (is : List Item) (ps : List Part) (f : Form)
     → Spells (prefix_items (is_absolute size) ++ value v ∷ is) ps
-    → ((rest : List Part) → Spells is rest → Stops rest × (tail_at Listing size v rest ≡ Some f))
-    → form_of Listing ps ≡ Some f
+    → ((rest : List Part) → Spells is rest → Stops rest × (tail_at l size v rest ≡ Some f))
+    → form_of l ps ≡ Some f
 unfolding form_of
-direct Absolute v is ps f h k = grind (arith, un_word, un_mark, un_value, value_again)
-direct Automatic v is ps f h k = grind (arith, un_value, first_value)
+direct l Absolute v is ps f h k = grind (arith, un_word, un_mark, un_value, address_again)
+direct l Automatic v is ps f h k = grind (arith, un_value, first_value)
 
-direct_alone : (size : AddressSize) (v : Value) (ps : List Part) → Spells (prefix_items (is_absolute size) ++ value v ∷ []) ps → form_of Listing ps ≡ Some (One (sized size Direct) v)
+direct_alone : (l : Language) (size : AddressSize) (v : Value) (ps : List Part) → Spells (prefix_items (is_absolute size) ++ value v ∷ []) ps → form_of l ps ≡ Some (One (sized size Direct) v)
 unfolding tail_at
-direct_alone size v ps h = direct size v [] ps _ h (λ rest g. rw (nothing_left rest g) (stops_nil, refl))
+direct_alone l size v ps h = direct l size v [] ps _ h (λ rest g. rw (nothing_left rest g) (stops_nil, refl))
 
-direct_x : (size : AddressSize) (v : Value) (ps : List Part) → Spells (prefix_items (is_absolute size) ++ value v ∷ mark 44 ∷ word (codes "x") ∷ []) ps → form_of Listing ps ≡ Some (One (sized size DirectX) v)
+direct_x : (l : Language) (size : AddressSize) (v : Value) (ps : List Part) → Spells (prefix_items (is_absolute size) ++ value v ∷ mark 44 ∷ word (codes "x") ∷ []) ps → form_of l ps ≡ Some (One (sized size DirectX) v)
 unfolding tail_at
-direct_x size v ps h =
-    direct size v _ ps _ h (λ rest g. let c = un_mark 44 _ rest g in let x = un_word (codes "x") [] c.0 c.2 in
+direct_x l size v ps h =
+    direct l size v _ ps _ h (λ rest g. let c = un_mark 44 _ rest g in let x = un_word (codes "x") [] c.0 c.2 in
     rw (c.1, x.2, nothing_left x.1 x.4) (stops_mark 44 _ refl refl, rw x.3 refl))
 
-direct_y : (size : AddressSize) (v : Value) (ps : List Part) → Spells (prefix_items (is_absolute size) ++ value v ∷ mark 44 ∷ word (codes "y") ∷ []) ps → form_of Listing ps ≡ Some (One (sized size DirectY) v)
+direct_y : (l : Language) (size : AddressSize) (v : Value) (ps : List Part) → Spells (prefix_items (is_absolute size) ++ value v ∷ mark 44 ∷ word (codes "y") ∷ []) ps → form_of l ps ≡ Some (One (sized size DirectY) v)
 unfolding tail_at
-direct_y size v ps h =
-    direct size v _ ps _ h (λ rest g. let c = un_mark 44 _ rest g in let y = un_word (codes "y") [] c.0 c.2 in
+direct_y l size v ps h =
+    direct l size v _ ps _ h (λ rest g. let c = un_mark 44 _ rest g in let y = un_word (codes "y") [] c.0 c.2 in
     rw (c.1, y.2, nothing_left y.1 y.4) (stops_mark 44 _ refl refl, rw (other y.0 (codes "y") (codes "x") y.3 refl, y.3) refl))
 
 -- an operand that begins with `(` and a value
-bracketed : (v : Value) (is : List Item) (ps : List Part) (f : Form)
+bracketed : (l : Language) (v : Value) (is : List Item) (ps : List Part) (f : Form)
     → Spells (mark 40 ∷ value v ∷ is) ps
     → ((rest : List Part) → Spells is rest → Stops rest × (inner_at v rest ≡ Some f))
-    → form_of Listing ps ≡ Some f
+    → form_of l ps ≡ Some f
 unfolding form_of
-bracketed v is ps f h k = grind (arith, un_mark, un_value, value_again)
+bracketed l v is ps f h k = grind (arith, un_mark, un_value, address_again)
 
-pub form_again : (f : Form) (ps : List Part) → Spells (form_items f) ps → form_of Listing ps ≡ Some f
+form_again : (l : Language) (f : Form) (ps : List Part) → Spells (form_items f) ps → form_of l ps ≡ Some f
 unfolding form_of immediate_of tail_at inner_at
-form_again Empty ps h = rw (nothing_left ps h) refl
-form_again Accumulator ps h = let a = un_word (codes "a") [] ps h in rw (a.2, nothing_left a.1 a.4, a.3) refl
-form_again (One (notation.Plain Immediate) v) ps h = grind (arith, un_mark, un_value, nothing_left, value_again)
-form_again (One (notation.Half half) v) ps h = absurd (un_last unwritten ps h)
-form_again (One (notation.Plain Direct) v) ps h = direct_alone Automatic v ps h
-form_again (One (notation.Plain DirectX) v) ps h = direct_x Automatic v ps h
-form_again (One (notation.Plain DirectY) v) ps h = direct_y Automatic v ps h
-form_again (One notation.Absolute v) ps h = direct_alone Absolute v ps h
-form_again (One notation.AbsoluteX v) ps h = direct_x Absolute v ps h
-form_again (One notation.AbsoluteY v) ps h = direct_y Absolute v ps h
-form_again (Two v u) ps h =
-    direct Automatic v _ ps _ h (λ rest g. let c = un_mark 44 _ rest g in let e = un_value u [] c.0 c.2 in let b = value_begins u e.0 [] e.3 in
-    rw (c.1, e.2, nothing_left e.1 e.4) (stops_mark 44 _ refl refl, rw (b.x, b.y, value_again u e.0 [] e.3 stops_nil) refl))
-form_again (One (notation.Plain Indirect) v) ps h =
-    bracketed v _ ps _ h (λ rest g. let c = un_mark 41 [] rest g in rw (c.1, nothing_left c.0 c.2) (stops_mark 41 _ refl refl, refl))
-form_again (One (notation.Plain IndirectX) v) ps h =
-    bracketed v _ ps _ h (λ rest g. let c = un_mark 44 _ rest g in let x = un_word (codes "x") _ c.0 c.2 in let d = un_mark 41 [] x.1 x.4 in
+form_again l Empty ps h = rw (nothing_left ps h) refl
+form_again l Accumulator ps h = let a = un_word (codes "a") [] ps h in rw (a.2, nothing_left a.1 a.4, a.3) refl
+form_again Listing (One (notation.Plain Immediate) v) ps h = grind (arith, un_mark, un_value, nothing_left, value_again)
+form_again Repair (One (notation.Plain Immediate) v) ps h = grind (arith, un_mark, un_value, nothing_left, value_begins, value_again)
+form_again l (One (notation.Half half) v) ps h = absurd (un_last unwritten ps h)
+form_again l (One (notation.Plain Direct) v) ps h = direct_alone l Automatic v ps h
+form_again l (One (notation.Plain DirectX) v) ps h = direct_x l Automatic v ps h
+form_again l (One (notation.Plain DirectY) v) ps h = direct_y l Automatic v ps h
+form_again l (One notation.Absolute v) ps h = direct_alone l Absolute v ps h
+form_again l (One notation.AbsoluteX v) ps h = direct_x l Absolute v ps h
+form_again l (One notation.AbsoluteY v) ps h = direct_y l Absolute v ps h
+form_again l (Two v u) ps h =
+    direct l Automatic v _ ps _ h (λ rest g. let c = un_mark 44 _ rest g in let e = un_value u [] c.0 c.2 in let b = value_begins u e.0 [] e.3 in
+    rw (c.1, e.2, nothing_left e.1 e.4) (stops_mark 44 _ refl refl, rw (b.x, b.y, address_again l u e.0 [] e.3 stops_nil) refl))
+form_again l (One (notation.Plain Indirect) v) ps h =
+    bracketed l v _ ps _ h (λ rest g. let c = un_mark 41 [] rest g in rw (c.1, nothing_left c.0 c.2) (stops_mark 41 _ refl refl, refl))
+form_again l (One (notation.Plain IndirectX) v) ps h =
+    bracketed l v _ ps _ h (λ rest g. let c = un_mark 44 _ rest g in let x = un_word (codes "x") _ c.0 c.2 in let d = un_mark 41 [] x.1 x.4 in
     rw (c.1, x.2, d.1, nothing_left d.0 d.2) (stops_mark 44 _ refl refl, rw x.3 refl))
-form_again (One (notation.Plain IndirectY) v) ps h =
-    bracketed v _ ps _ h (λ rest g. let d = un_mark 41 _ rest g in let c = un_mark 44 _ d.0 d.2 in let y = un_word (codes "y") [] c.0 c.2 in
+form_again l (One (notation.Plain IndirectY) v) ps h =
+    bracketed l v _ ps _ h (λ rest g. let d = un_mark 41 _ rest g in let c = un_mark 44 _ d.0 d.2 in let y = un_word (codes "y") [] c.0 c.2 in
     rw (d.1, c.1, y.2, nothing_left y.1 y.4) (stops_mark 41 _ refl refl, rw y.3 refl))
 
 -- ---- lists
 
-datum_again : (x : Datum) (front rest : List Part) → IsDatum x front → Stops rest → next_datum Listing (front ++ rest) ≡ Some (x, rest)
+datum_again : (l : Language) (x : Datum) (front rest : List Part) → IsDatum x front → Stops rest → next_datum l (front ++ rest) ≡ Some (x, rest)
 unfolding next_datum
-datum_again (NumberDatum n) front rest h stop = rw (h.2, ← h.1) refl
-datum_again (StringDatum t) front rest h stop = rw h refl
-datum_again (ValueDatum v) front rest h stop = absurd h
-datum_again (HalfDatum half v) front rest h stop = absurd h
+datum_again l (NumberDatum n) front rest h stop = rw (h.2, h.1) (number_again l (number_of h.0) rest stop).1
+datum_again l (StringDatum t) front rest h stop = rw h refl
+datum_again l (ValueDatum v) front rest h stop = absurd h
+datum_again l (HalfDatum half v) front rest h stop = absurd h
 
 joined_again : {A : Type 0} (Is : A → List Part → Type 0) (read : List Part → Option (A × List Part))
     → ((x : A) (front rest : List Part) → Is x front → Stops rest → read (front ++ rest) ≡ Some (x, rest))
@@ -177,53 +190,96 @@ joined_again Is read again (x ∷ y ∷ ys) (suc most) ps h le = grind (arith, (
 
 -- ---- operations and lines
 
-operation_again : (o : Operation) (ps : List Part) → Spells (operation_items o) ps → operation_of Listing ps ≡ Some o
-unfolding operation_of operation_at other_at further_at text_in
-operation_again Nothing ps h = rw (nothing_left ps h) refl
-operation_again (Instr m f) ps h =
+-- an operation as it is read
+abbrev pub read_in : Language → Operation → Operation
+read_in l (Instr m f) = Instr m (operand_in l m f)
+read_in l o = o
+
+-- a mnemonic is an instruction in either language
+instruction_again : (l : Language) (w : List ℕ) (m : Mnemonic) (f : Form) (ps : List Part) → same w (text_of m) ≡ true → form_of l ps ≡ Some f → other_at l w ps ≡ Some (Instr m (operand_in l m f))
+unfolding other_at further_at
+instruction_again l w m f ps e g = go l g
+  where
+    d : HasNoDot (text_of m)
+    d = no_dot m
+
+    not : (t : List ℕ) → same (text_of m) t ≡ false → same w t ≡ false
+    not t h = other w (text_of m) t e h
+
+    go : (l : Language) → form_of l ps ≡ Some f → other_at l w ps ≡ Some (Instr m (operand_in l m f))
+    go Listing g = rw (not (codes ".byte") d.byte, not (codes ".segment") d.segment, not (codes ".code") d.code, not (codes ".setcpu") d.set_cpu, mnemonic_again w m e, g) refl
+    go Repair g = rw (not (codes ".byte") d.byte, not (codes ".segment") d.segment, not (codes ".code") d.code, not (codes ".setcpu") d.set_cpu, not (codes ".lobytes") d.low_bytes, not (codes ".hibytes") d.high_bytes, not (codes ".res") d.reserve, mnemonic_again w m e, g) refl
+
+operation_again : (l : Language) (o : Operation) (ps : List Part) → Spells (operation_items o) ps → operation_of l ps ≡ Some (read_in l o)
+unfolding operation_of operation_at other_at text_in
+operation_again l Nothing ps h = rw (nothing_left ps h) refl
+operation_again l (Instr m f) ps h =
     let w = un_word (text_of m) (form_items f) ps h in
-    let d = no_dot m in
-    let not = λ (t : List ℕ) (e : same (text_of m) t ≡ false). other w.0 (text_of m) t w.3 e in
-    rw w.2 (rw (no_directive w.0 (text_of m) w.3 d.directive, not _ d.byte, not _ d.segment, not _ d.code, not _ d.set_cpu, mnemonic_again w.0 m w.3, form_again f w.1 w.4) refl)
-operation_again (Data xs) ps h =
+    rw w.2 (rw (no_directive w.0 (text_of m) w.3 (no_dot m).directive) (instruction_again l w.0 m f w.1 w.3 (form_again l f w.1 w.4)))
+operation_again l (Data xs) ps h =
     let w = un_word (codes ".byte") (data_list xs ∷ []) ps h in
-    rw (w.2, no_directive w.0 _ w.3 no_directives.0, w.3, joined_again IsDatum (next_datum Listing) datum_again xs (length w.1) w.1 (un_last (data_list xs) w.1 w.4) (omega arith)) refl
-operation_again (Values d vs) ps h =
+    rw (w.2, no_directive w.0 _ w.3 no_directives.0, w.3, joined_again IsDatum (next_datum l) (datum_again l) xs (length w.1) w.1 (un_last (data_list xs) w.1 w.4) (omega arith)) refl
+operation_again l (Values d vs) ps h =
     let w = un_word (directive_text d) (value_list vs ∷ []) ps h in
-    rw (w.2, directive_again w.0 d w.3, joined_again IsValue (next_value Listing) value_again vs (length w.1) w.1 (un_last (value_list vs) w.1 w.4) (omega arith)) refl
-operation_again (Reserve n v) ps h = absurd (un_last unwritten ps h)
-operation_again (Segment t) ps h =
+    rw (w.2, directive_again w.0 d w.3, joined_again IsValue (next_value l) (value_again l) vs (length w.1) w.1 (un_last (value_list vs) w.1 w.4) (omega arith)) refl
+operation_again l (Reserve n v) ps h = absurd (un_last unwritten ps h)
+operation_again l (Segment t) ps h =
     let w = un_word (codes ".segment") (quoted_name t ∷ []) ps h in
     let q = un_last (quoted_name t) w.1 w.4 in
     rw (w.2, no_directive w.0 _ w.3 no_directives.1, other w.0 (codes ".segment") (codes ".byte") w.3 refl, w.3, q.1, q.0) refl
-operation_again Code ps h =
+operation_again l Code ps h =
     let w = un_word (codes ".code") [] ps h in
     rw (w.2, no_directive w.0 _ w.3 no_directives.2, other w.0 (codes ".code") (codes ".byte") w.3 refl, other w.0 (codes ".code") (codes ".segment") w.3 refl, w.3, nothing_left w.1 w.4) refl
-operation_again (SetCpu t) ps h =
+operation_again l (SetCpu t) ps h =
     let w = un_word (codes ".setcpu") (string t ∷ []) ps h in
     rw (w.2, no_directive w.0 _ w.3 no_directives.3, other w.0 (codes ".setcpu") (codes ".byte") w.3 refl, other w.0 (codes ".setcpu") (codes ".segment") w.3 refl, other w.0 (codes ".setcpu") (codes ".code") w.3 refl, w.3, un_last (string t) w.1 w.4) refl
 
 -- a word with which nothing can go on is no operation
-pub none_at : (w : List ℕ) (ps : List Part) → ((d : Directive) → values_of Listing d ps ≡ None) → data_of (next_datum Listing) ps ≡ None → segment_of ps ≡ None → whole Code ps ≡ None → set_cpu_of ps ≡ None → form_of Listing ps ≡ None → operation_at Listing w ps ≡ None
+none_at : (l : Language) (w : List ℕ) (ps : List Part) → ((d : Directive) → values_of l d ps ≡ None) → data_of (next_datum l) ps ≡ None → data_of (next_half Low) ps ≡ None → data_of (next_half High) ps ≡ None
+    → segment_of ps ≡ None → whole Code ps ≡ None → set_cpu_of ps ≡ None → reserve_of ps ≡ None → form_of l ps ≡ None → operation_at l w ps ≡ None
 unfolding operation_at other_at further_at
-none_at w ps values bytes segment code cpu form = grind arith
+none_at Listing w ps values bytes low high segment code cpu reserve form = grind arith
+none_at Repair w ps values bytes low high segment code cpu reserve form = grind arith
 
--- neither `:` nor `:=` stands after the word of an operation
-no_label : (w : List ℕ) (ps : List Part) (o : Operation) → operation_at Listing w ps ≡ Some o → (is_mark 58 ps ≡ false) × (is_define ps ≡ false)
-unfolding joined next_value next_datum word_datum mark_datum text_in form_of immediate_of
-no_label w (Mark b ∷ ps) o e = grind (arith, by_test, eqb, none_at)
-no_label w (Define ∷ ps) o e = absurd (let e' = rw (none_at w (Define ∷ ps) (λ d. refl) refl refl refl refl refl) at e in cc)
-no_label w _ o e = (refl, refl)
+-- none of `:`, `:=` and `=` stands after the word of an operation
+record IsNoLabel (l : Language) (ps : List Part) : Type 0 where
+  colon : is_mark 58 ps ≡ false
+  define : is_define ps ≡ false
+  equals : is_equals l ps ≡ false
 
-stated_again : (o : Operation) (ps : List Part) → operation_of Listing ps ≡ Some o → reading_of Listing ps ≡ Some (Statement None o)
+no_label : (l : Language) (w : List ℕ) (ps : List Part) (o : Operation) → operation_at l w ps ≡ Some o → IsNoLabel l ps
+unfolding joined next_value next_datum word_datum mark_datum text_in form_of immediate_of next_half
+no_label Listing w (Mark b ∷ ps) o e = grind (arith, by_test, eqb, none_at)
+no_label Repair w (Mark b ∷ ps) o e = grind (arith, by_test, eqb, none_at)
+no_label Listing w (Define ∷ ps) o e = absurd (let e' = rw (none_at Listing w (Define ∷ ps) (λ d. refl) refl refl refl refl refl refl refl refl) at e in cc)
+no_label Repair w (Define ∷ ps) o e = absurd (let e' = rw (none_at Repair w (Define ∷ ps) (λ d. refl) refl refl refl refl refl refl refl refl) at e in cc)
+no_label Listing w _ o e = record { colon = refl; define = refl; equals = refl }
+no_label Repair w _ o e = record { colon = refl; define = refl; equals = refl }
+
+stated_again : (l : Language) (o : Operation) (ps : List Part) → operation_of l ps ≡ Some o → reading_of l ps ≡ Some (Statement None o)
 unfolding reading_of line_at operation_of
-stated_again o [] e = cc
-stated_again o (Word w ∷ ps) e = let p = no_label w ps o e in rw (p.0, p.1, e) refl
-stated_again o _ e = absurd cc
+stated_again l o [] e = cc
+stated_again l o (Word w ∷ ps) e = let p = no_label l w ps o e in rw (p.colon, p.define, p.equals, e) refl
+stated_again l o _ e = absurd cc
 
-pub line_again : (r : SourceLine) (ps : List Part) → IsSpelling r ps → reading_of Listing ps ≡ Some r
+-- a line as it is read
+abbrev pub line_in : Language → SourceLine → SourceLine
+line_in l (Statement label o) = Statement label (read_in l o)
+line_in l r = r
+
+pub line_again : (l : Language) (r : SourceLine) (ps : List Part) → IsSpelling r ps → reading_of l ps ≡ Some (line_in l r)
 unfolding reading_of line_at constant_of
-line_again (Assignment w n) ps h = grind (arith, un_name, un_define, un_number)
-line_again (PlaceAssignment w n) ps h = grind (arith, un_name, un_define, un_mark, un_number)
-line_again (Statement None o) ps h = stated_again o ps (operation_again o ps h)
-line_again (Statement (Some w) o) ps h = grind (arith, un_name, un_mark, operation_again)
+line_again l (Assignment w n) ps h = grind (arith, un_name, un_define, un_number)
+line_again l (PlaceAssignment w n) ps h = grind (arith, un_name, un_define, un_mark, un_number)
+line_again l (Statement None o) ps h = stated_again l (read_in l o) ps (operation_again l o ps h)
+line_again l (Statement (Some w) o) ps h = grind (arith, un_name, un_mark, operation_again)
+
+operation_listed : (o : Operation) → read_in Listing o ≡ o
+operation_listed (Instr m f) = refl
+operation_listed _ = refl
+
+-- in a listing it is what it says
+pub listing_again : (r : SourceLine) (ps : List Part) → IsSpelling r ps → reading_of Listing ps ≡ Some r
+listing_again (Statement label o) ps h = line_again Listing (Statement label o) ps h ∙ ap (λ (o : Operation). Some (Statement label o)) (operation_listed o)
+listing_again (Assignment w n) ps h = line_again Listing (Assignment w n) ps h
+listing_again (PlaceAssignment w n) ps h = line_again Listing (PlaceAssignment w n) ps h
