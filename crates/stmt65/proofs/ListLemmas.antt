@@ -1,60 +1,57 @@
 -- Lists joined by commas, one after the other as a loop reads them.
-use Rattle.std.proofs.Common.{◌≡◌, ℕ, zero, suc, true, false, cond, ◌-◌, ◌<◌, ◌≤◌, List, [], ◌∷◌, ◌++◌, length, drop, Option, Some, None, refl, sym, ap, ◌∙◌, arith, append_assoc}
+use Rattle.std.proofs.Common.{◌≡◌, suc, true, false, ◌+◌, ◌-◌, ◌<◌, ◌≤◌, List, [], ◌∷◌, ◌++◌, length, drop, Option, Some, None, refl, sym, ap, ◌∙◌, arith, append_assoc}
 use Rattle.std.specs.Prelude.{map}
-use Rattle.std.proofs.lemmas.List.{length-drop, map-append}
-use Rattle.stmt65.specs.Words.{Part, Shortens, is_mark, is_nil, joined, list_of, whole, ◌>>=◌}
-use Rattle.stmt65.proofs.Cases.{by_list, by_option}
+use Rattle.std.proofs.lemmas.List.{length-append, map-append}
+use Rattle.stmt65.specs.Words.{Part, is_mark, is_nil, joined, list_of, ◌>>=◌}
+use Rattle.stmt65.proofs.Cases.{by_list, mark_is}
 
 -- the list, and others before it
 abbrev pub fronted : {A : Type 0} → List A → Option (List A) → Option (List A)
 fronted before None = None
 fronted before (Some xs) = Some (before ++ xs)
 
--- more fuel than parts changes nothing
-joined-same : {A : Type 0} (read : List Part → Option (A × List Part)) → Shortens read → (m n : ℕ) (ps : List Part) → length ps ≤ m → length ps ≤ n → joined read (suc m) ps ≡ joined read (suc n) ps
-unfolding joined
-joined-same read s zero n ps h g = by_option (read ps) (λ x e. absurd (omega (arith, s.shorter ps x e))) (λ e. rw e refl)
-joined-same read s (suc m) zero ps h g = by_option (read ps) (λ x e. absurd (omega (arith, s.shorter ps x e))) (λ e. rw e refl)
-joined-same {A = A} read s (suc m) (suc n) ps h g =
-    by_option (read ps)
-    (λ x e.
-    let lt = s.shorter ps x e in
-    let same = joined-same read s m n (drop 1 x.1) (omega (arith, length-drop 1 x.1)) (omega (arith, length-drop 1 x.1)) in
-    rw e (ap (λ (r : Option (List A)). cond (is_mark 44 x.1) (r >>= λ others. Some (x.0 ∷ others)) (whole (x.0 ∷ []) x.1)) same))
-    (λ e. rw e refl)
+-- the list that all of the parts are begins with what was found, and goes on with what is read of the parts that are left
+pub record IsFound {A : Type 0} (read : List Part → Option (A × List Part)) (found : List A) (left all : List Part) : Type 0 where
+  pub same : fronted found (joined read (suc (length all - length found)) left) ≡ list_of read all
+  pub room : length found + length left ≤ length all
+
+fronted-nothing : {A : Type 0} (o : Option (List A)) → fronted [] o ≡ o
+fronted-nothing None = refl
+fronted-nothing (Some xs) = refl
 
 fronted-step : {A : Type 0} (before : List A) (x : A) (o : Option (List A)) → fronted before (o >>= λ others. Some (x ∷ others)) ≡ fronted (before ++ x ∷ []) o
 fronted-step before x None = refl
 fronted-step {A = A} before x (Some xs) = ap (λ (k : List A). Some k) (sym (append_assoc before (x ∷ []) xs))
 
--- one, and a comma after it
-list_of-comma : {A : Type 0} (read : List Part → Option (A × List Part)) → Shortens read → (ps rest : List Part) (x : A) → read ps ≡ Some (x, rest) → is_mark 44 rest ≡ true → list_of read ps ≡ (list_of read (drop 1 rest) >>= λ others. Some (x ∷ others))
+pub list_begun : {A : Type 0} (read : List Part → Option (A × List Part)) (ps : List Part) → IsFound read [] ps ps
+list_begun read ps = let none : length ps - 0 ≡ length ps = omega arith in record { same = rw none (fronted-nothing (list_of read ps)); room = omega arith }
+
+pub list_next : {A B : Type 0} (f : A → B) (read : List Part → Option (B × List Part)) (before : List A) (all ps rest left : List Part) (x : A) → IsFound read (map f before) ps all
+    → read ps ≡ Some (f x, rest) → length rest ≤ length ps → is_mark 44 rest ≡ true → left ≡ drop 1 rest → IsFound read (map f (before ++ x ∷ [])) left all
 unfolding joined
-list_of-comma {A = A} read s ps rest x e h =
-    let lt = s.shorter ps (x, rest) e in
-    let some : length ps ≡ suc (length ps - 1) = omega arith in
-    let shorter = length-drop 1 rest in
-    rw (e, h, some) (ap (λ (r : Option (List A)). r >>= λ others. Some (x ∷ others)) (joined-same read s (length ps - 1) (length (drop 1 rest)) (drop 1 rest) (omega arith) (omega arith)))
+list_next f read before all ps rest left x h e fewer comma l =
+    let some : length rest ≡ suc (length (drop 1 rest)) = ap length (mark_is 44 rest comma) in
+    let long : length (map f before ++ f x ∷ []) ≡ suc (length (map f before)) = length-append (map f before) (f x ∷ []) ∙ omega arith in
+    let fuel : length all - length (map f before) ≡ suc (length all - length (map f before ++ f x ∷ [])) = omega (arith, h.room) in
+    let same : fronted (map f before ++ f x ∷ []) (joined read (suc (length all - length (map f before ++ f x ∷ []))) (drop 1 rest)) ≡ list_of read all =
+    sym (fronted-step (map f before) (f x) _) ∙ (rw (fuel, e, comma) at h.same) in
+    rw (l, map-append f before (x ∷ [])) (record { same = same; room = omega (arith, h.room) })
 
-pub list_next : {A B : Type 0} (f : A → B) (read : List Part → Option (B × List Part)) → Shortens read → (before : List A) (ps rest left : List Part) (x : A) → read ps ≡ Some (f x, rest) → is_mark 44 rest ≡ true → left ≡ drop 1 rest → fronted (map f before) (list_of read ps) ≡ fronted (map f (before ++ x ∷ [])) (list_of read left)
-list_next {B = B} f read s before ps rest left x e h l =
-    ap (λ (o : Option (List B)). fronted (map f before) o) (list_of-comma read s ps rest (f x) e h)
-    ∙ fronted-step (map f before) (f x) (list_of read (drop 1 rest))
-    ∙ rw (l, map-append f before (x ∷ [])) refl
-
-pub list_last : {A B : Type 0} (f : A → B) (read : List Part → Option (B × List Part)) (before : List A) (ps rest left : List Part) (x : A) → read ps ≡ Some (f x, rest) → is_mark 44 rest ≡ false → left ≡ rest → is_nil left ≡ true → fronted (map f before) (list_of read ps) ≡ Some (map f (before ++ x ∷ []))
+pub list_last : {A B : Type 0} (f : A → B) (read : List Part → Option (B × List Part)) (before : List A) (all ps rest left : List Part) (x : A) → IsFound read (map f before) ps all
+    → read ps ≡ Some (f x, rest) → is_mark 44 rest ≡ false → left ≡ rest → is_nil left ≡ true → list_of read all ≡ Some (map f (before ++ x ∷ []))
 unfolding joined
-list_last f read before ps rest left x e h l d = grind (arith, map-append, by_list)
+list_last f read before all ps rest left x h e comma l d = grind (arith, map-append, by_list)
 
-pub list_more : {A B : Type 0} (f : A → B) (read : List Part → Option (B × List Part)) (before : List A) (ps rest left : List Part) (x : A) → read ps ≡ Some (f x, rest) → is_mark 44 rest ≡ false → left ≡ rest → is_nil left ≡ false → fronted (map f before) (list_of read ps) ≡ None
+pub list_more : {A B : Type 0} (f : A → B) (read : List Part → Option (B × List Part)) (before : List A) (all ps rest left : List Part) (x : A) → IsFound read (map f before) ps all
+    → read ps ≡ Some (f x, rest) → is_mark 44 rest ≡ false → left ≡ rest → is_nil left ≡ false → list_of read all ≡ None
 unfolding joined
-list_more f read before ps rest left x e h l d = rw (e, h, ← l) (by_list left (λ n. let d' = rw n at d in absurd cc) (λ p ps n. rw n refl))
+list_more f read before all ps rest left x h e comma l d = grind (arith, by_list)
 
-pub list_none : {B : Type 0} (read : List Part → Option (B × List Part)) (before : List B) (ps : List Part) → read ps ≡ None → fronted before (list_of read ps) ≡ None
+pub list_none : {B : Type 0} (read : List Part → Option (B × List Part)) (before : List B) (all ps : List Part) → IsFound read before ps all → read ps ≡ None → list_of read all ≡ None
 unfolding joined
-list_none read before ps e = rw e refl
+list_none read before all ps h e = sym h.same ∙ rw e refl
 
-pub list_shorter : {B : Type 0} (read : List Part → Option (B × List Part)) → Shortens read → (ps rest left : List Part) (x : B) → read ps ≡ Some (x, rest) → left ≡ drop 1 rest → length left < length ps
-list_shorter read s ps rest left x e l = rw l (omega (arith, s.shorter ps (x, rest) e, length-drop 1 rest))
+pub list_shorter : (ps rest left : List Part) → length rest ≤ length ps → is_mark 44 rest ≡ true → left ≡ drop 1 rest → length left < length ps
+list_shorter ps rest left fewer comma l = rw l (omega (arith, ap length (mark_is 44 rest comma)))
 
-pub ruleset lists = (list_none, list_next, list_last, list_more, list_shorter)
+pub ruleset lists = (list_begun, list_none, list_last, list_shorter)

@@ -4,7 +4,6 @@ pub mod LineViews
 pub mod Widths
 pub mod PartViews
 pub mod Found
-pub mod Shortens
 pub mod Held
 pub mod SourceLineViews
 pub mod SymbolViews

@@ -11,7 +11,6 @@ pub use Rattle.stmt65.specs.Code.LineViews.{Lists, Prints, len_with}
 pub use Rattle.stmt65.specs.Code.MeaningViews.{IsCoding, IsPlaced, defined_in, definitions_in, fragments_in, held_definition, held_definitions, line_operation, state_of}
 unfoldable pub use Rattle.stmt65.specs.Code.MeaningViews.{held_after, held_final}
 pub use Rattle.stmt65.specs.Code.PartViews.{cut_by, part_of}
-pub use Rattle.stmt65.specs.Code.Shortens.{Shortens}
 pub use Rattle.stmt65.specs.Code.SourceLineViews.{datum_of, numeral_of, source_of, value_of}
 pub use Rattle.stmt65.specs.Code.StatementViews.{expr_seen, in_hex, operands_seen, remarks_seen, statement_seen, target_seen}
 pub use Rattle.stmt65.specs.Code.SymbolViews.{definition_of}

@@ -1,7 +1,7 @@
 //! Expressions: a number, the sum of two, a name with an optional number added and an optional `-1`, a name less a number, or the
 //! difference of two names; and what is an address or is halved.
 
-ghost use Rattle.std.specs.Prelude.{◌≡◌};
+ghost use Rattle.std.specs.Prelude.{◌≡◌, ◌≤◌, length};
 ghost use Rattle.stmt65.specs.Words.{Reads, bracketed_in, halved_in, is_difference, less_at, less_one, named_at, next_address, next_value, number_at, numeral_of, value_of};
 
 use crate::language::Language;
@@ -13,7 +13,8 @@ use crate::source_line::{Minus, Value};
 
 /// After a name and `-`: in a repair a number or another name.
 fn less_at<'a>(language: Language, name: &'a [u8], parts: &mut Parts<'a>) -> Option<Value<'a>>
-    ensures { Reads value_of result (less_at language name.now parts.old) parts.new }
+    ensures read { Reads value_of result (less_at language name.now parts.old) parts.new }
+    ensures fewer { length parts.new ≤ length parts.old }
 {
     if language == Language::Listing {
         return None;
@@ -33,7 +34,8 @@ fn less_one<'a>(
     plus: Numeral<'a>,
     parts: &mut Parts<'a>,
 ) -> Option<Value<'a>>
-    ensures { Reads value_of result (less_one language name.now (numeral_of plus.entry) parts.old) parts.new }
+    ensures read { Reads value_of result (less_one language name.now (numeral_of plus.entry) parts.old) parts.new }
+    ensures fewer { length parts.new ≤ length parts.old }
 {
     if !parts.eat(b'-') {
         return Some(Value::Name(name, plus, Minus::Zero));
@@ -47,7 +49,8 @@ fn less_one<'a>(
 /// After a name.
 #[tactic(auto, unfolding(crate::specs::Reading::named_at))]
 pub fn named_at<'a>(language: Language, name: &'a [u8], parts: &mut Parts<'a>) -> Option<Value<'a>>
-    ensures { Reads value_of result (named_at language name.now parts.old) parts.new }
+    ensures read { Reads value_of result (named_at language name.now parts.old) parts.new }
+    ensures fewer { length parts.new ≤ length parts.old }
 {
     if !parts.eat(b'+') {
         return less_one(language, name, Numeral::zero(), parts);
@@ -62,8 +65,9 @@ fn number_at<'a>(
     number: Numeral<'a>,
     parts: &mut Parts<'a>,
 ) -> Option<Value<'a>>
-    ensures { Reads value_of result
+    ensures read { Reads value_of result
         (number_at language (numeral_of number.entry) parts.old) parts.new }
+    ensures fewer { length parts.new ≤ length parts.old }
 {
     if language == Language::Listing || !parts.eat(b'+') {
         return Some(Value::Number(number));
@@ -75,16 +79,12 @@ fn number_at<'a>(
 /// The next expression.
 #[tactic(auto, unfolding(crate::specs::Reading::next_value))]
 pub fn next_value<'a>(language: Language, parts: &mut Parts<'a>) -> Option<Value<'a>>
-    ensures { Reads value_of result (next_value language parts.old) parts.new }
+    ensures read { Reads value_of result (next_value language parts.old) parts.new }
+    ensures fewer { length parts.new ≤ length parts.old }
 {
     match parts.next()? {
         Part::Number(text) => number_at(language, Numeral { text }, parts),
-        Part::Word(word) => {
-            if !is_name(word) {
-                return None;
-            }
-            named_at(language, word, parts)
-        }
+        Part::Word(word) if is_name(word) => named_at(language, word, parts),
         _ => None,
     }
 }
@@ -98,7 +98,8 @@ fn is_difference(value: &Value) -> bool
 
 /// The address in an operand.
 pub fn next_address<'a>(language: Language, parts: &mut Parts<'a>) -> Option<Value<'a>>
-    ensures { Reads value_of result (next_address language parts.old) parts.new }
+    ensures read { Reads value_of result (next_address language parts.old) parts.new }
+    ensures fewer { length parts.new ≤ length parts.old }
 {
     let value = next_value(language, parts)?;
     if language == Language::Repair && is_difference(&value) {
@@ -109,25 +110,22 @@ pub fn next_address<'a>(language: Language, parts: &mut Parts<'a>) -> Option<Val
 
 /// An expression and `)`.
 fn bracketed_in<'a>(parts: &mut Parts<'a>) -> Option<Value<'a>>
-    ensures { Reads value_of result (bracketed_in parts.old) parts.new }
+    ensures read { Reads value_of result (bracketed_in parts.old) parts.new }
+    ensures fewer { length parts.new ≤ length parts.old }
 {
     let value = next_value(Language::Repair, parts)?;
-    if parts.eat(b')') { Some(value) } else { None }
+    parts.eat(b')').then_some(value)
 }
 
 /// What `<` and `>` take: a number, a name, or an expression in parentheses.
 #[tactic(auto, unfolding(crate::specs::Reading::halved_in))]
 pub fn halved_in<'a>(parts: &mut Parts<'a>) -> Option<Value<'a>>
-    ensures { Reads value_of result (halved_in parts.old) parts.new }
+    ensures read { Reads value_of result (halved_in parts.old) parts.new }
+    ensures fewer { length parts.new ≤ length parts.old }
 {
     match parts.next()? {
         Part::Number(text) => Some(Value::Number(Numeral { text })),
-        Part::Word(word) => {
-            if !is_name(word) {
-                return None;
-            }
-            Some(Value::Name(word, Numeral::zero(), Minus::Zero))
-        }
+        Part::Word(word) if is_name(word) => Some(Value::Name(word, Numeral::zero(), Minus::Zero)),
         Part::Mark(b'(') => bracketed_in(parts),
         _ => None,
     }

@@ -15,7 +15,7 @@ use isa65::Pattern;
 fn whole<'a>(form: Form<'a>, parts: &Parts<'a>) -> Option<Form<'a>>
     ensures { Gives form_of_code result (whole (form_of_code form.entry) parts.now) }
 {
-    if parts.is_done() { Some(form) } else { None }
+    parts.is_done().then_some(form)
 }
 
 fn is_absolute(size: AddressSize) -> bool
@@ -76,13 +76,7 @@ fn inner_at<'a>(value: Value<'a>, parts: &mut Parts<'a>) -> Option<Form<'a>>
         }
         return whole(Form::One(Notation::Plain(Pattern::IndirectY), value), parts);
     }
-    if !parts.eat(b',') {
-        return None;
-    }
-    if !parts.eat_word(b"x") {
-        return None;
-    }
-    if !parts.eat(b')') {
+    if !parts.eat(b',') || !parts.eat_word(b"x") || !parts.eat(b')') {
         return None;
     }
     whole(Form::One(Notation::Plain(Pattern::IndirectX), value), parts)

@@ -1,7 +1,7 @@
 //! Operations: a mnemonic with its operand, or an operation of the assembler.
 
-ghost use Rattle.std.specs.Prelude.{◌≡◌, List, Option, map};
-ghost use Rattle.stmt65.specs.Words.{Gives, GivesIfOk, Part, Reads, Shortens, data_of, datum_of, further_at, half_datum, list_of, mark_datum, next_datum, next_half, number_datum, numeral_of, operand_in, operation_at, other_at, reserve_of, segment_of, takes_accumulator, text_in, word_datum};
+ghost use Rattle.std.specs.Prelude.{◌≡◌, ◌≤◌, List, Option, length, map};
+ghost use Rattle.stmt65.specs.Words.{Gives, GivesIfOk, Part, Reads, data_of, datum_of, further_at, half_datum, list_of, mark_datum, next_datum, next_half, number_datum, numeral_of, operand_in, operation_at, other_at, reserve_of, segment_of, takes_accumulator, text_in, word_datum};
 ghost use Rattle.stmt65.specs.Code.SourceLineViews.{form_of as form_of_code, operation_of as operation_of_code};
 ghost use Rattle.stmt65.specs.Reading.{instruction_of, operation_of};
 
@@ -26,27 +26,23 @@ trait Listed<'a, R>: Sized {
     ghost seen: { Self → Seen };
     /// The first of it in some parts, and the parts after it.
     ghost first_in: { R → List Part → Option (Seen × List Part) };
-    /// It takes a part at least.
-    ghost shortens: { (rule : R) → Shortens (first_in rule) };
 
     /// Takes the next of it.
     fn next_in(rule: R, parts: &mut Parts<'a>) -> Option<Self>
-        ensures { Reads seen result (first_in rule parts.old) parts.new };
+        ensures read { Reads seen result (first_in rule parts.old) parts.new }
+        ensures fewer { length parts.new ≤ length parts.old };
 }
 
 impl<'a> Listed<'a, Language> for Datum<'a> {
     ghost use Rattle.stmt65.specs.SourceLine.{Datum as ADatum};
     ghost use Rattle.stmt65.specs.Code.SourceLineViews.{datum_of};
     ghost use Rattle.stmt65.specs.Reading.{next_datum};
-    ghost use Rattle.stmt65.specs.Code.Shortens.{next_datum-Shortens};
 
     ghost Seen = { ADatum };
 
     ghost seen = { datum_of };
 
     ghost first_in = { next_datum };
-
-    ghost shortens = { next_datum-Shortens };
 
     #[tactic(auto, unfolding(crate::specs::Reading::next_datum))]
     fn next_in(language: Language, parts: &mut Parts<'a>) -> Option<Self> {
@@ -64,15 +60,12 @@ impl<'a> Listed<'a, Language> for Value<'a> {
     ghost use Rattle.stmt65.specs.SourceLine.{Value as AValue};
     ghost use Rattle.stmt65.specs.Code.SourceLineViews.{value_of};
     ghost use Rattle.stmt65.specs.Reading.{next_value};
-    ghost use Rattle.stmt65.specs.Code.Shortens.{next_value-Shortens};
 
     ghost Seen = { AValue };
 
     ghost seen = { value_of };
 
     ghost first_in = { next_value };
-
-    ghost shortens = { next_value-Shortens };
 
     fn next_in(language: Language, parts: &mut Parts<'a>) -> Option<Self> {
         next_value(language, parts)
@@ -83,15 +76,12 @@ impl<'a> Listed<'a, Half> for Datum<'a> {
     ghost use Rattle.stmt65.specs.SourceLine.{Datum as ADatum};
     ghost use Rattle.stmt65.specs.Code.SourceLineViews.{datum_of};
     ghost use Rattle.stmt65.specs.Reading.{next_half};
-    ghost use Rattle.stmt65.specs.Code.Shortens.{next_half-Shortens};
 
     ghost Seen = { ADatum };
 
     ghost seen = { datum_of };
 
     ghost first_in = { next_half };
-
-    ghost shortens = { next_half-Shortens };
 
     #[tactic(auto, unfolding(crate::specs::Reading::next_half))]
     fn next_in(half: Half, parts: &mut Parts<'a>) -> Option<Self> {
@@ -103,7 +93,8 @@ impl<'a> Listed<'a, Half> for Datum<'a> {
 /// After a word as an operand of `.byte`: in a repair an expression with this name.
 #[tactic(auto, unfolding(crate::specs::Reading::word_datum))]
 fn word_datum<'a>(language: Language, word: &'a [u8], parts: &mut Parts<'a>) -> Option<Datum<'a>>
-    ensures { Reads datum_of result (word_datum language word.now parts.old) parts.new }
+    ensures read { Reads datum_of result (word_datum language word.now parts.old) parts.new }
+    ensures fewer { length parts.new ≤ length parts.old }
 {
     if language == Language::Listing || !is_name(word) {
         return None;
@@ -114,7 +105,8 @@ fn word_datum<'a>(language: Language, word: &'a [u8], parts: &mut Parts<'a>) -> 
 
 /// After `<` or `>`.
 fn half_datum<'a>(half: Half, parts: &mut Parts<'a>) -> Option<Datum<'a>>
-    ensures { Reads datum_of result (half_datum half parts.old) parts.new }
+    ensures read { Reads datum_of result (half_datum half parts.old) parts.new }
+    ensures fewer { length parts.new ≤ length parts.old }
 {
     let value = halved_in(parts)?;
     Some(Datum::Half(half, value))
@@ -123,7 +115,8 @@ fn half_datum<'a>(half: Half, parts: &mut Parts<'a>) -> Option<Datum<'a>>
 /// After a byte by itself as an operand of `.byte`: in a repair a half.
 #[tactic(auto, unfolding(crate::specs::Reading::mark_datum))]
 fn mark_datum<'a>(language: Language, mark: u8, parts: &mut Parts<'a>) -> Option<Datum<'a>>
-    ensures { Reads datum_of result (mark_datum language mark parts.old) parts.new }
+    ensures read { Reads datum_of result (mark_datum language mark parts.old) parts.new }
+    ensures fewer { length parts.new ≤ length parts.old }
 {
     if language == Language::Listing {
         return None;
@@ -141,8 +134,9 @@ fn number_datum<'a>(
     number: Numeral<'a>,
     parts: &mut Parts<'a>,
 ) -> Option<Datum<'a>>
-    ensures { Reads datum_of result
+    ensures read { Reads datum_of result
         (number_datum language (numeral_of number.entry) parts.old) parts.new }
+    ensures fewer { length parts.new ≤ length parts.old }
 {
     if language == Language::Listing || !parts.eat(b'+') {
         return Some(Datum::Number(number));
@@ -192,11 +186,7 @@ fn segment<'a, A: Allocator>(parts: &mut Parts<'a>) -> Option<Operation<'a, A>>
     ensures { Gives operation_of_code result (segment_of parts.old) }
 {
     let name = text_in(parts)?;
-    if has_name_form(name) {
-        Some(Operation::Segment(name))
-    } else {
-        None
-    }
+    has_name_form(name).then_some(Operation::Segment(name))
 }
 
 /// An instruction that can work on the accumulator.
@@ -236,34 +226,6 @@ fn instruction<'a, A: Allocator>(
     Some(Operation::Instr(mnemonic, operand_in(language, mnemonic, form)))
 }
 
-/// A list of data.
-fn data<'a, A: Allocator>(
-    alloc: A,
-    language: Language,
-    parts: &mut Parts<'a>,
-) -> Result<Option<Operation<'a, A>>, AllocError>
-    ensures { GivesIfOk operation_of_code result (data_of (next_datum language) parts.old) }
-{
-    match list_in(alloc, language, parts)? {
-        Some(data) => Ok(Some(Operation::Data(data))),
-        None => Ok(None),
-    }
-}
-
-/// A list of halves.
-fn halves<'a, A: Allocator>(
-    alloc: A,
-    half: Half,
-    parts: &mut Parts<'a>,
-) -> Result<Option<Operation<'a, A>>, AllocError>
-    ensures { GivesIfOk operation_of_code result (data_of (next_half half) parts.old) }
-{
-    match list_in(alloc, half, parts)? {
-        Some(data) => Ok(Some(Operation::Data(data))),
-        None => Ok(None),
-    }
-}
-
 /// A number of bytes, and after a comma their value.
 fn reserve<'a, A: Allocator>(parts: &mut Parts<'a>) -> Option<Operation<'a, A>>
     ensures { Gives operation_of_code result (reserve_of parts.old) }
@@ -274,11 +236,7 @@ fn reserve<'a, A: Allocator>(parts: &mut Parts<'a>) -> Option<Operation<'a, A>>
     } else {
         Numeral::zero()
     };
-    if parts.is_done() {
-        Some(Operation::Reserve(count, value))
-    } else {
-        None
-    }
+    parts.is_done().then_some(Operation::Reserve(count, value))
 }
 
 /// A list of halves or reserved bytes in a repair, or an instruction.
@@ -295,10 +253,10 @@ fn further_at<'a, A: Allocator>(
         return Ok(instruction(Language::Listing, word, parts));
     }
     if is_word(word, b".lobytes") {
-        return halves(alloc, Half::Low, parts);
+        return Ok(list_in(alloc, Half::Low, parts)?.map(|data| Operation::Data(data)));
     }
     if is_word(word, b".hibytes") {
-        return halves(alloc, Half::High, parts);
+        return Ok(list_in(alloc, Half::High, parts)?.map(|data| Operation::Data(data)));
     }
     if is_word(word, b".res") {
         return Ok(reserve(parts));
@@ -317,23 +275,16 @@ fn other_at<'a, A: Allocator>(
     ensures { GivesIfOk operation_of_code result (other_at language word.now parts.old) }
 {
     if is_word(word, b".byte") {
-        return data(alloc, language, parts);
+        return Ok(list_in(alloc, language, parts)?.map(|data| Operation::Data(data)));
     }
     if is_word(word, b".segment") {
         return Ok(segment(parts));
     }
     if is_word(word, b".code") {
-        return Ok(if parts.is_done() {
-            Some(Operation::Code)
-        } else {
-            None
-        });
+        return Ok(parts.is_done().then_some(Operation::Code));
     }
     if is_word(word, b".setcpu") {
-        return match text_in(parts) {
-            Some(text) => Ok(Some(Operation::SetCpu(text))),
-            None => Ok(None),
-        };
+        return Ok(text_in(parts).map(|text| Operation::SetCpu(text)));
     }
     further_at(alloc, language, word, parts)
 }
@@ -349,10 +300,10 @@ pub fn operation_at<'a, A: Allocator>(
     ensures { GivesIfOk operation_of_code result (operation_at language word.now parts.old) }
 {
     match Directive::from_word(word) {
-        Some(directive) => match list_in(alloc, language, parts)? {
-            Some(values) => Ok(Some(Operation::Values(directive, values))),
-            None => Ok(None),
-        },
+        Some(directive) => {
+            let values = list_in(alloc, language, parts)?;
+            Ok(values.map(|values| Operation::Values(directive, values)))
+        }
         None => other_at(alloc, language, word, parts),
     }
 }

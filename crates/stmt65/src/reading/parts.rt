@@ -1,6 +1,6 @@
 //! A cursor over the parts of a line.
 
-ghost use Rattle.std.specs.Prelude.{◌≡◌, [], ◌∷◌, MatchOption, drop};
+ghost use Rattle.std.specs.Prelude.{◌≡◌, ◌≤◌, [], ◌∷◌, MatchOption, drop, length};
 ghost use Rattle.std.specs.Bool.{OnTrue, OnFalse};
 ghost use Rattle.stmt65.specs.Words.{Reads, is_define, is_mark, is_nil, is_number_here, is_word_here, number_in, numeral_of, part_of, parts};
 
@@ -48,8 +48,9 @@ impl<'a> Parts<'a> {
 
     /// Takes the next part. At the end the answer is `None`, again and again.
     pub fn next(&mut self) -> Option<Part<'a>>
-        ensures { MatchOption result ((self.old ≡ []) × (self.new ≡ []))
+        ensures part { MatchOption result ((self.old ≡ []) × (self.new ≡ []))
             (λ part. self.old ≡ part_of part ∷ self.new) }
+        ensures fewer { length self.new ≤ length self.old }
     {
         let part = self.first?;
         self.pass();
@@ -58,11 +59,25 @@ impl<'a> Parts<'a> {
 
     /// Passes over the next part, if there is one.
     fn pass(&mut self)
-        ensures { self.new ≡ drop 1 self.old }
+        ensures left { self.new ≡ drop 1 self.old }
+        ensures fewer { length self.new ≤ length self.old }
     {
         if self.first.is_some() {
             *self = Parts::new(self.language, self.rest);
         }
+    }
+
+    /// Passes over the next part if it is the one that is looked for, and returns whether it is.
+    fn pass_if(&mut self, is_here: bool) -> bool
+        ensures value { result ≡ is_here }
+        ensures taken { OnTrue is_here (self.new ≡ drop 1 self.old) }
+        ensures left { OnFalse is_here (self.new ≡ self.old) }
+        ensures fewer { length self.new ≤ length self.old }
+    {
+        if is_here {
+            self.pass();
+        }
+        is_here
     }
 
     /// Takes the next part if it is this byte by itself.
@@ -70,14 +85,10 @@ impl<'a> Parts<'a> {
         ensures value { result ≡ is_mark mark self.old }
         ensures taken { OnTrue result (self.new ≡ drop 1 self.old) }
         ensures left { OnFalse result (self.new ≡ self.old) }
+        ensures fewer { length self.new ≤ length self.old }
     {
-        if let Some(Part::Mark(b)) = self.first {
-            if b == mark {
-                self.pass();
-                return true;
-            }
-        }
-        false
+        let is_here = matches!(self.first, Some(Part::Mark(b)) if b == mark);
+        self.pass_if(is_here)
     }
 
     /// Takes the next part if it is this word, in any letter case.
@@ -85,14 +96,10 @@ impl<'a> Parts<'a> {
         ensures value { result ≡ is_word_here word.now self.old }
         ensures taken { OnTrue result (self.new ≡ drop 1 self.old) }
         ensures left { OnFalse result (self.new ≡ self.old) }
+        ensures fewer { length self.new ≤ length self.old }
     {
-        if let Some(Part::Word(w)) = self.first {
-            if w.eq_ignore_ascii_case(word) {
-                self.pass();
-                return true;
-            }
-        }
-        false
+        let is_here = matches!(self.first, Some(Part::Word(w)) if w.eq_ignore_ascii_case(word));
+        self.pass_if(is_here)
     }
 
     /// Takes the next part if it is a number that is written so.
@@ -100,14 +107,13 @@ impl<'a> Parts<'a> {
         ensures value { result ≡ is_number_here text.now self.old }
         ensures taken { OnTrue result (self.new ≡ drop 1 self.old) }
         ensures left { OnFalse result (self.new ≡ self.old) }
+        ensures fewer { length self.new ≤ length self.old }
     {
-        if let Some(Part::Number(t)) = self.first {
-            if t == text {
-                self.pass();
-                return true;
-            }
-        }
-        false
+        let is_here = match self.first {
+            Some(Part::Number(t)) => t == text,
+            _ => false,
+        };
+        self.pass_if(is_here)
     }
 
     /// Takes the next part if it is `:=`.
@@ -115,22 +121,21 @@ impl<'a> Parts<'a> {
         ensures value { result ≡ is_define self.old }
         ensures taken { OnTrue result (self.new ≡ drop 1 self.old) }
         ensures left { OnFalse result (self.new ≡ self.old) }
+        ensures fewer { length self.new ≤ length self.old }
     {
-        if let Some(Part::Define) = self.first {
-            self.pass();
-            return true;
-        }
-        false
+        let is_here = matches!(self.first, Some(Part::Define));
+        self.pass_if(is_here)
     }
 
     /// Takes the next part if it is a number.
     pub fn number(&mut self) -> Option<Numeral<'a>>
-        ensures { Reads numeral_of result (number_in self.old) self.new }
+        ensures read { Reads numeral_of result (number_in self.old) self.new }
+        ensures fewer { length self.new ≤ length self.old }
     {
-        if let Some(Part::Number(text)) = self.next() {
-            return Some(Numeral { text });
+        match self.next()? {
+            Part::Number(text) => Some(Numeral { text }),
+            _ => None,
         }
-        None
     }
 
     /// Whether no part is left.
