@@ -1,6 +1,6 @@
 //! Numbers in hex digits and in decimal.
 
-ghost use Rattle.std.specs.Prelude.{◌≡◌, ◌+◌, ◌≤◌, decimal, true};
+ghost use Rattle.std.specs.Prelude.{◌≡◌, ◌+◌, ◌≤◌, decimal};
 ghost use Rattle.text65.specs.Digits.{digits4};
 ghost use Rattle.arrayvec.specs.ArrayVec.{Extends, array_vec_len};
 ghost use Rattle.stmt65.specs.Words.{digits2, distance_text, hex2, hex4, in_hex, offset_text};
@@ -83,20 +83,7 @@ fn put_decimal(out: &mut Line, number: u16)
     put(out, buffer.format(number).as_bytes());
 }
 
-/// Appends an offset in two hex digits if it has no more, else in four.
-fn put_hex_offset(out: &mut Line, offset: u16)
-    requires { array_vec_len out.old + 5 ≤ 512 }
-    ensures items { Extends out.old (offset_text true offset) out.new }
-    ensures len { array_vec_len out.new ≤ array_vec_len out.old + 5 }
-{
-    if offset < 256 {
-        put_hex2(out, offset as u8);
-    } else {
-        put_hex4(out, offset);
-    }
-}
-
-/// Appends what is added to a name.
+/// Appends what is added to a name: in hex digits two of them if it has no more, else four.
 pub(super) fn put_offset(out: &mut Line, offsets: Offsets, offset: u16)
     requires { array_vec_len out.old + 5 ≤ 512 }
     ensures items { Extends out.old (offset_text (in_hex offsets) offset) out.new }
@@ -104,7 +91,8 @@ pub(super) fn put_offset(out: &mut Line, offsets: Offsets, offset: u16)
 {
     match offsets {
         Offsets::Decimal => put_decimal(out, offset),
-        Offsets::Hexadecimal => put_hex_offset(out, offset),
+        Offsets::Hexadecimal if offset < 256 => put_hex2(out, offset as u8),
+        Offsets::Hexadecimal => put_hex4(out, offset),
     }
 }
 

@@ -3,7 +3,7 @@
 ghost use Rattle.std.specs.Prelude.{◌+◌, ◌≤◌, length};
 ghost use Rattle.arrayvec.specs.ArrayVec.{Extends, array_vec_len};
 ghost use Rattle.isa65.specs.Words.{row_text};
-ghost use Rattle.stmt65.specs.Words.{AreOperands, AreWordWide, IsLong, IsOperand, IsShort, IsWordWide, IsWrittenIn, expr_seen, in_hex, in_row, is_absolute, kind_text, long_text, named_text, none, one, operand_text, operands_seen, prefix_text, short_text, two};
+ghost use Rattle.stmt65.specs.Words.{AreOperands, AreWordWide, IsOperand, IsWordWide, IsWrittenIn, expr_seen, in_hex, in_row, is_absolute, kind_text, named_text, none, one, operand_text, operands_seen, prefix_text, two};
 
 use crate::printing::digits::{Offsets, put_hex2, put_hex4, put_offset};
 use crate::printing::fields::put;
@@ -25,35 +25,7 @@ pub(super) fn put_named(out: &mut Line, offsets: Offsets, name: &[u8], offset: u
     }
 }
 
-/// Appends an expression, a number in two digits.
-fn put_short(out: &mut Line, offsets: Offsets, expr: &Expr)
-    requires room { array_vec_len out.old ≤ 400 }
-    requires short { IsShort (expr_seen expr.now) }
-    ensures items { Extends out.old (short_text (in_hex offsets) (expr_seen expr.now)) out.new }
-    ensures len { array_vec_len out.new ≤ array_vec_len out.old + 86 }
-    ensures width { IsWordWide (expr_seen expr.now) }
-{
-    match *expr {
-        Expr::Number(number) => put_hex2(out, number as u8),
-        Expr::Name(name, offset) => put_named(out, offsets, name, offset),
-    }
-}
-
-/// Appends an expression, a number in four digits.
-fn put_long(out: &mut Line, offsets: Offsets, expr: &Expr)
-    requires room { array_vec_len out.old ≤ 400 }
-    requires long { IsLong (expr_seen expr.now) }
-    ensures items { Extends out.old (long_text (in_hex offsets) (expr_seen expr.now)) out.new }
-    ensures len { array_vec_len out.new ≤ array_vec_len out.old + 86 }
-    ensures width { IsWordWide (expr_seen expr.now) }
-{
-    match *expr {
-        Expr::Number(number) => put_hex4(out, number),
-        Expr::Name(name, offset) => put_named(out, offsets, name, offset),
-    }
-}
-
-/// Appends an operand of this kind.
+/// Appends an operand of this kind: a number in two digits or in four.
 fn put_kind(out: &mut Line, offsets: Offsets, kind: OperandKind, expr: &Expr)
     requires room { array_vec_len out.old ≤ 300 }
     requires operand { IsOperand kind (expr_seen expr.now) }
@@ -61,9 +33,12 @@ fn put_kind(out: &mut Line, offsets: Offsets, kind: OperandKind, expr: &Expr)
     ensures len { array_vec_len out.new ≤ array_vec_len out.old + 86 }
     ensures width { IsWordWide (expr_seen expr.now) }
 {
-    match kind {
-        OperandKind::Byte | OperandKind::ZeroPage => put_short(out, offsets, expr),
-        OperandKind::Word | OperandKind::Distance => put_long(out, offsets, expr),
+    match *expr {
+        Expr::Number(number) => match kind {
+            OperandKind::Byte | OperandKind::ZeroPage => put_hex2(out, number as u8),
+            OperandKind::Word | OperandKind::Distance => put_hex4(out, number),
+        },
+        Expr::Name(name, offset) => put_named(out, offsets, name, offset),
     }
 }
 

@@ -99,7 +99,7 @@ pub fn read_value<'a>(language: Language, bytes: &'a [u8]) -> Option<Value<'a>>
 {
     let mut parts = Parts::new(language, bytes);
     let value = next_value(language, &mut parts)?;
-    if parts.is_done() { Some(value) } else { None }
+    parts.is_done().then_some(value)
 }
 
 impl<'a> Places<'a> {
@@ -107,11 +107,8 @@ impl<'a> Places<'a> {
     pub fn new(language: Language, line: &'a [u8]) -> Self
         ensures { result ≡ record { language = language; line = line.now; at = 0 } }
     {
-        Places {
-            language,
-            line,
-            at: 0,
-        }
+        let at = 0;
+        Places { language, line, at }
     }
 
     /// A copy of them.
@@ -157,12 +154,9 @@ impl<'a> Places<'a> {
     {
         let from = self.begin();
         let (part, len) = part_here(self.language, &self.line[from..])?;
-        let to = from + len;
-        self.at = to;
-        Some(PlacedPart {
-            part,
-            span: Span { from, to },
-        })
+        self.at = from + len;
+        let span = Span { from, to: self.at };
+        Some(PlacedPart { part, span })
     }
 
     /// The next part and where it stands, if it is a word.
@@ -170,11 +164,8 @@ impl<'a> Places<'a> {
         ensures over { GoesOver self.old self.new }
         ensures text { IfSome result (StandsIn self.old.line) }
     {
-        let place = self.next()?;
-        match place.part {
-            Part::Word(_) => Some(place),
-            _ => None,
-        }
+        self.next()
+            .filter(|place| matches!(place.part, Part::Word(_)))
     }
 
     /// What stands before the operands.
@@ -186,37 +177,16 @@ impl<'a> Places<'a> {
     {
         let first = self.word();
         let mut ahead = self.copied();
-        match ahead.next() {
-            Some(
-                PlacedPart {
-                    part: Part::Mark(b':'),
-                    ..
-                },
-            ) => {
-                let operation = ahead.word();
-                *self = ahead;
-                Head {
-                    name: first,
-                    operation,
-                }
-            }
-            Some(
-                PlacedPart {
-                    part: Part::Define | Part::Mark(b'='),
-                    ..
-                },
-            ) => {
-                *self = ahead;
-                Head {
-                    name: first,
-                    operation: None,
-                }
-            }
-            _ => Head {
+        let (name, operation) = match ahead.next().map(|place| place.part) {
+            Some(Part::Mark(b':')) => (first, ahead.word()),
+            Some(Part::Define | Part::Mark(b'=')) => (first, None),
+            _ => return Head {
                 name: None,
                 operation: first,
             },
-        }
+        };
+        *self = ahead;
+        Head { name, operation }
     }
 
     /// Passes over what is added and subtracted after the first part of an expression, and returns where the expression ends.
@@ -224,26 +194,17 @@ impl<'a> Places<'a> {
         let mut to = to;
         for _ in 0..self.line.len() {
             let mut ahead = self.copied();
-            match (ahead.next(), ahead.next()) {
-                (
-                    Some(
-                        PlacedPart {
-                            part: Part::Mark(b'+' | b'-'),
-                            ..
-                        },
-                    ),
-                    Some(
-                        PlacedPart {
-                            part: Part::Number(_) | Part::Word(_),
-                            span,
-                        },
-                    ),
-                ) => {
-                    to = span.to;
-                    *self = ahead;
-                }
-                _ => break,
+            let Some(Part::Mark(b'+' | b'-')) = ahead.next().map(|place| place.part) else {
+                break;
+            };
+            let Some(term) = ahead.next() else {
+                break;
+            };
+            if !matches!(term.part, Part::Number(_) | Part::Word(_)) {
+                break;
             }
+            to = term.span.to;
+            *self = ahead;
         }
         to
     }
@@ -270,16 +231,11 @@ impl<'a> Places<'a> {
                     continue;
                 }
             }
-            let to = self.pass_terms(span.to);
-            return operand_at(
-                language,
-                line,
-                half,
-                Span {
-                    from: span.from,
-                    to,
-                },
-            );
+            let span = Span {
+                to: self.pass_terms(span.to),
+                ..span
+            };
+            return operand_at(language, line, half, span);
         }
         None
     }
@@ -296,13 +252,8 @@ impl<'a> Places<'a> {
             }
         }
         let from = self.begin();
-        match line.get(from) {
-            Some(b';') => Some(Span {
-                from,
-                to: line.len(),
-            }),
-            _ => None,
-        }
+        let to = line.len();
+        (line.get(from) == Some(&b';')).then_some(Span { from, to })
     }
 }
 

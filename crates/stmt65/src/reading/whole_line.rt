@@ -3,9 +3,8 @@
 ghost use Rattle.std.specs.Prelude.{◌≡◌, Some, None, drop};
 ghost use Rattle.std.specs.Bool.{OnTrue, OnFalse};
 ghost use Rattle.std.specs.Option.{option_copied, option_map};
-ghost use Rattle.stmt65.specs.Words.{Gives, GivesIfOk, constant_of, if_name, is_equals, line_at, number_of_name, operation_at, parts, reading_of, source_of, stated};
+ghost use Rattle.stmt65.specs.Words.{Gives, GivesIfOk, constant_of, is_equals, line_at, number_of_name, operation_at, parts, reading_of, source_of, stated};
 ghost use Rattle.stmt65.specs.Code.SourceLineViews.{operation_of};
-ghost use Rattle.stmt65.specs.Reading.{operation_of as operation_read};
 
 use crate::language::Language;
 use crate::reading::lexer::Part;
@@ -23,10 +22,9 @@ fn number_of_name<'a, A: Allocator>(
     ensures { Gives source_of result (number_of_name name.now parts.old) }
 {
     let value = parts.number()?;
-    if !parts.is_done() {
-        return None;
-    }
-    Some(SourceLine::Assignment(name, value))
+    parts
+        .is_done()
+        .then_some(SourceLine::Assignment(name, value))
 }
 
 /// After the name and `:=`.
@@ -39,10 +37,9 @@ fn constant_of<'a, A: Allocator>(name: &'a [u8], parts: &mut Parts<'a>) -> Optio
             return None;
         }
         let plus = parts.number()?;
-        if !parts.is_done() {
-            return None;
-        }
-        return Some(SourceLine::PlaceAssignment(name, plus));
+        return parts
+            .is_done()
+            .then_some(SourceLine::PlaceAssignment(name, plus));
     }
     number_of_name(name, parts)
 }
@@ -56,55 +53,6 @@ fn stated<'a, A: Allocator>(
 {
     let operation = operation?;
     Some(SourceLine::Statement { label, operation })
-}
-
-/// After a label and its colon.
-fn labelled<'a, A: Allocator>(
-    alloc: A,
-    language: Language,
-    word: &'a [u8],
-    parts: &mut Parts<'a>,
-) -> Result<Option<SourceLine<'a, A>>, AllocError>
-    ensures { GivesIfOk source_of result (if_name word.now (stated (Some word.now) (operation_read language parts.old))) }
-{
-    if !is_name(word) {
-        return Ok(None);
-    }
-    let operation = operation_of(alloc, language, parts)?;
-    Ok(stated(Some(word), operation))
-}
-
-/// After a name and `:=`, if it is one.
-fn defined<'a, A: Allocator>(word: &'a [u8], parts: &mut Parts<'a>) -> Option<SourceLine<'a, A>>
-    ensures { Gives source_of result (if_name word.now (constant_of word.now parts.old)) }
-{
-    if !is_name(word) {
-        return None;
-    }
-    constant_of(word, parts)
-}
-
-/// After a name and `=`, if it is one.
-fn equal<'a, A: Allocator>(word: &'a [u8], parts: &mut Parts<'a>) -> Option<SourceLine<'a, A>>
-    ensures { Gives source_of result (if_name word.now (number_of_name word.now parts.old)) }
-{
-    if !is_name(word) {
-        return None;
-    }
-    number_of_name(word, parts)
-}
-
-/// After the word of an operation without a label.
-fn unlabelled<'a, A: Allocator>(
-    alloc: A,
-    language: Language,
-    word: &'a [u8],
-    parts: &mut Parts<'a>,
-) -> Result<Option<SourceLine<'a, A>>, AllocError>
-    ensures { GivesIfOk source_of result (stated None (operation_at language word.now parts.old)) }
-{
-    let operation = operation_at(alloc, language, word, parts)?;
-    Ok(stated(None, operation))
 }
 
 /// Takes `=`, which in a repair is as good as `:=` before a number.
@@ -130,15 +78,26 @@ fn line_at<'a, A: Allocator>(
     ensures { GivesIfOk source_of result (line_at language word.now parts.old) }
 {
     if parts.eat(b':') {
-        return labelled(alloc, language, word, parts);
+        if !is_name(word) {
+            return Ok(None);
+        }
+        return Ok(stated(Some(word), operation_of(alloc, language, parts)?));
     }
     if parts.eat_define() {
-        return Ok(defined(word, parts));
+        return Ok(if is_name(word) {
+            constant_of(word, parts)
+        } else {
+            None
+        });
     }
     if eat_equals(language, parts) {
-        return Ok(equal(word, parts));
+        return Ok(if is_name(word) {
+            number_of_name(word, parts)
+        } else {
+            None
+        });
     }
-    unlabelled(alloc, language, word, parts)
+    Ok(stated(None, operation_at(alloc, language, word, parts)?))
 }
 
 /// What the parts say.
