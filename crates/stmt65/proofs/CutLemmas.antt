@@ -1,7 +1,7 @@
 -- The cutting of a text gives its bytes back, and there is no other.
 use Rattle.std.proofs.Common.{◌≡◌, ℕ, false, List, [], ◌∷◌, refl, ap, ◌∙◌, arith}
 use Rattle.std.specs.List.{flat_map}
-use Rattle.stmt65.specs.Words.{CutsTexts, Datum, EndsStretch, HalfDatum, IsCut, NumberDatum, StringDatum, ValueDatum, cut_text, datum_bytes, is_plain}
+use Rattle.stmt65.specs.Words.{CutsTexts, Datum, EndsStretch, IsCut, NumberDatum, StringDatum, cut_text, datum_bytes, is_plain}
 use Rattle.stmt65.proofs.Lexed.{begins}
 use Rattle.stmt65.proofs.TableLists.{cut_nil, cut_single, cut_case, cut_stretch}
 
@@ -23,15 +23,13 @@ no_stretch : (ds : List Datum) → EndsStretch ds → IsCut ds → begins is_pla
 no_stretch [] s h = refl
 no_stretch (NumberDatum b ∷ ds) s h = h.0
 no_stretch (StringDatum t ∷ ds) s h = absurd s
-no_stretch (ValueDatum v ∷ ds) s h = absurd h
-no_stretch (HalfDatum half v ∷ ds) s h = absurd h
+no_stretch (_ ∷ ds) s h = absurd h
 
 cut_again : (ds : List Datum) → IsCut ds → cut_text (flat_map datum_bytes ds) ≡ ds
 cut_again [] h = cut_nil
 cut_again (NumberDatum b ∷ ds) h = cut_single b (flat_map datum_bytes ds) h.0 ∙ ap (λ (l : List Datum). NumberDatum b ∷ l) (cut_again ds h.1)
-cut_again (ValueDatum v ∷ ds) h = absurd h
-cut_again (HalfDatum half v ∷ ds) h = absurd h
 cut_again (StringDatum t ∷ ds) h = cut_stretch t (flat_map datum_bytes ds) h.0 h.1 (no_stretch ds h.2 h.3) ∙ ap (λ (l : List Datum). StringDatum t ∷ l) (cut_again ds h.3)
+cut_again (_ ∷ ds) h = absurd h
 
 pub cuts_texts : CutsTexts
 cuts_texts bytes ds = grind (arith, cut_bytes, cut_is_cut, cut_again)

@@ -146,13 +146,8 @@ forced h e is rest s has ends t =
 row_spelled : (h : Bool) (r : Row) (os : OperandsView) → AreOperands r os → AreRead os → Spells (form_items (row_form r Automatic os)) (parts Listing (row_operands h r false os))
 row_spelled h row.Implied view.none w n = nothing
 row_spelled h row.Accumulator view.none w n = one_word 97 (refl, refl)
-row_spelled h (row.One pattern.Immediate k) (view.one e) w n = marked 35 _ (kind_text h k e ++ []) refl (kind_then h k e [] [] w n refl nothing)
-row_spelled h (row.One pattern.Direct k) (view.one e) w n = kind_then h k e [] [] w n refl nothing
-row_spelled h (row.One pattern.DirectX k) (view.one e) w n = kind_then h k e _ (codes ",x") w n refl comma_x
-row_spelled h (row.One pattern.DirectY k) (view.one e) w n = kind_then h k e _ (codes ",y") w n refl comma_y
-row_spelled h (row.One pattern.Indirect k) (view.one e) w n = marked 40 _ (kind_text h k e ++ codes ")") refl (kind_then h k e _ (codes ")") w n refl close)
-row_spelled h (row.One pattern.IndirectX k) (view.one e) w n = marked 40 _ (kind_text h k e ++ codes ",x)") refl (kind_then h k e _ (codes ",x)") w n refl x_close)
-row_spelled h (row.One pattern.IndirectY k) (view.one e) w n = marked 40 _ (kind_text h k e ++ codes "),y") refl (kind_then h k e _ (codes "),y") w n refl close_y)
+row_spelled h (row.One pattern.Immediate k) (view.one e) w n = grind (arith, kind_then, marked, comma_x, comma_y, close, close_y, x_close, nothing)
+row_spelled h (row.One _ k) (view.one e) w n = grind (arith, kind_then, marked, comma_x, comma_y, close, close_y, x_close, nothing)
 row_spelled h (row.Two k l) (view.two e f) w n = grind (arith, kind_then, marked, nothing)
 row_spelled h _ _ w n = absurd w
 

@@ -8,7 +8,7 @@ use Rattle.std.proofs.lemmas.List.{take-append-le, drop-append-le, length-drop}
 use Rattle.std.proofs.lemmas.Bool.Decides.{nat_tests}
 use Rattle.std.proofs.lemmas.List.Folds.{list_all-append, prefix_len-append}
 use Rattle.text65.specs.Names.{is_blank}
-use Rattle.stmt65.specs.Words.{Assignment, Datum, DifferenceValue, LessValue, Direct, Form, HalfDatum, Instr, IsDatum, IsItem, IsList, IsMinus, IsPlus, IsSpelling, IsValue, Item, Listing, Mark, Minus, NameValue, Nothing, NumberDatum, NumberValue, One, Operation, Part, PlaceAssignment, Plain, SourceLine, Spells, Statement, StringDatum, Value, ValueDatum, Zero, begins_with, form_items, is_text_byte, line_items, operation_items, part_at, parts, parts_after}
+use Rattle.stmt65.specs.Words.{Assignment, Datum, Direct, Form, Instr, IsDatum, IsItem, IsList, IsMinus, IsPlus, IsSpelling, IsValue, Item, Listing, Mark, Minus, NameValue, NumberDatum, NumberValue, One, Operation, Part, PlaceAssignment, Plain, SourceLine, Spells, Statement, StringDatum, Value, Zero, begins_with, form_items, is_text_byte, line_items, operation_items, part_at, parts, parts_after}
 use Rattle.stmt65.specs.Spelling as item
 use Rattle.stmt65.specs.declared.source_line.Minus.TheVariants.{One as MinusOne}
 use Rattle.stmt65.proofs.Cases.{by_test}
@@ -95,14 +95,12 @@ minus_closed Zero ps h = rw h refl
 value_closed : (v : Value) (ps : List Part) → IsValue v ps → AreClosed ps
 value_closed (NumberValue n) ps h = rw h.2 refl
 value_closed (NameValue w n less) ps h = rw h.2 (both_closed h.0 h.1 (plus_closed n h.0 h.4) (minus_closed less h.1 h.5))
-value_closed (LessValue w n) ps h = absurd h
-value_closed (DifferenceValue w v) ps h = absurd h
+value_closed _ ps h = absurd h
 
 datum_closed : (d : Datum) (ps : List Part) → IsDatum d ps → AreClosed ps
 datum_closed (NumberDatum n) ps h = rw h.2 refl
 datum_closed (StringDatum t) ps h = rw h refl
-datum_closed (ValueDatum v) ps h = absurd h
-datum_closed (HalfDatum half v) ps h = absurd h
+datum_closed _ ps h = absurd h
 
 list_closed : {A : Type 0} (Is : A → List Part → Type 0) → ((x : A) (ps : List Part) → Is x ps → AreClosed ps) → (xs : List A) (ps : List Part) → IsList Is xs ps → AreClosed ps
 list_closed Is each [] ps h = absurd h
@@ -139,7 +137,6 @@ form_closed _ = refl
 
 operation_closed : (o : Operation) → list_all is_closed_item (operation_items o) ≡ true
 operation_closed (Instr m f) = form_closed f
-operation_closed Nothing = refl
 operation_closed _ = refl
 
 line_closed : (r : SourceLine) → list_all is_closed_item (line_items r) ≡ true

@@ -3,7 +3,7 @@ use Rattle.std.proofs.Common.{◌≡◌, ℕ, zero, suc, true, false, eqb, List,
 use Rattle.std.specs.Prelude.{codes}
 use Rattle.std.proofs.lemmas.List.{append-nil, length-append}
 use Rattle.isa65.specs.Words.{text_of}
-use Rattle.stmt65.specs.Words.{Accumulator, AddressSize, Assignment, Automatic, Code, Data, Datum, Define, DifferenceValue, LessValue, Direct, DirectX, DirectY, Directive, Empty, Form, HalfDatum, High, Immediate, Indirect, IndirectX, IndirectY, Instr, Language, Mnemonic, Repair, IsDatum, IsItem, IsList, IsMinus, IsPlus, IsSpelling, IsValue, Item, Listing, Low, Mark, Minus, NameValue, Nothing, Number, NumberDatum, NumberValue, One, Operation, Part, PlaceAssignment, Reserve, Segment, SetCpu, SourceLine, Spells, Statement, StringDatum, Two, Value, ValueDatum, Values, Word, Zero, constant_of, data_list, data_of, define, directive_text, form_items, further_at, immediate_of, inner_at, is_absolute, is_define, is_difference, is_equals, is_mark, is_name, is_nil, is_word_here, joined, less_one, line_at, mark, mark_datum, name, named_at, next_address, next_datum, next_half, next_value, number, number_at, number_datum, operation_at, operand_in, operation_items, other_at, prefix_items, quoted_name, reading_of, reserve_of, same, segment_of, set_cpu_of, sized, string, tail_at, text_in, unwritten, value, value_list, values_of, whole, word, word_datum}
+use Rattle.stmt65.specs.Words.{Accumulator, AddressSize, Assignment, Automatic, Code, Data, Datum, Define, DifferenceValue, Direct, DirectX, DirectY, Directive, Empty, Form, High, Immediate, Indirect, IndirectX, IndirectY, Instr, Language, Mnemonic, Repair, IsDatum, IsItem, IsList, IsMinus, IsPlus, IsSpelling, IsValue, Item, Listing, Low, Mark, Minus, NameValue, Nothing, Number, NumberDatum, NumberValue, One, Operation, Part, PlaceAssignment, Reserve, Segment, SetCpu, SourceLine, Spells, Statement, StringDatum, Two, Value, Values, Word, Zero, constant_of, data_list, data_of, define, directive_text, form_items, further_at, immediate_of, inner_at, is_absolute, is_define, is_difference, is_equals, is_mark, is_name, is_nil, is_word_here, joined, less_one, line_at, mark, mark_datum, name, named_at, next_address, next_datum, next_half, next_value, number, number_at, number_datum, operation_at, operand_in, operation_items, other_at, prefix_items, quoted_name, reading_of, reserve_of, same, segment_of, set_cpu_of, sized, string, tail_at, text_in, unwritten, value, value_list, values_of, whole, word, word_datum}
 use Rattle.stmt65.specs.declared.source_line.AddressSize.TheVariants.{Absolute}
 use Rattle.stmt65.specs.declared.source_line.Minus.TheVariants.{One as MinusOne}
 use Rattle.stmt65.specs.declared.source_line.Notation.TheVariants as notation
@@ -80,8 +80,7 @@ value_again : (l : Language) (v : Value) (front rest : List Part) → IsValue v 
 unfolding next_value
 value_again l (NumberValue n) front rest h stop = rw (h.2, h.1) (number_again l (number_of h.0) rest stop).0
 value_again l (NameValue w n less) front rest h stop = rw (h.2, append_assoc h.0 h.1 rest) (rw h.3 (named_again l w n less h.0 h.1 rest h.4 h.5 stop))
-value_again l (LessValue w n) front rest h stop = absurd h
-value_again l (DifferenceValue w v) front rest h stop = absurd h
+value_again l _ front rest h stop = absurd h
 
 no_difference : (v : Value) (front : List Part) → IsValue v front → is_difference v ≡ false
 no_difference (DifferenceValue w v) front h = absurd h
@@ -102,8 +101,7 @@ record Begins (ps : List Part) : Type 0 where
 value_begins : (v : Value) (front rest : List Part) → IsValue v front → Begins (front ++ rest)
 value_begins (NumberValue n) front rest h = rw h.2 (record { mark = λ b. refl; a = refl; x = refl; y = refl; some = refl })
 value_begins (NameValue w n less) front rest h = let no = no_letter w h.3 in rw h.2 (record { mark = λ b. refl; a = no.0; x = no.1; y = no.2; some = refl })
-value_begins (LessValue w n) front rest h = absurd h
-value_begins (DifferenceValue w v) front rest h = absurd h
+value_begins _ front rest h = absurd h
 
 -- a value that stands first in an operand
 first_value : (l : Language) (v : Value) (front rest : List Part) → IsValue v front → Stops rest → form_of l (front ++ rest) ≡ tail_at l Automatic v rest
@@ -176,8 +174,7 @@ datum_again : (l : Language) (x : Datum) (front rest : List Part) → IsDatum x 
 unfolding next_datum
 datum_again l (NumberDatum n) front rest h stop = rw (h.2, h.1) (number_again l (number_of h.0) rest stop).1
 datum_again l (StringDatum t) front rest h stop = rw h refl
-datum_again l (ValueDatum v) front rest h stop = absurd h
-datum_again l (HalfDatum half v) front rest h stop = absurd h
+datum_again l _ front rest h stop = absurd h
 
 joined_again : {A : Type 0} (Is : A → List Part → Type 0) (read : List Part → Option (A × List Part))
     → ((x : A) (front rest : List Part) → Is x front → Stops rest → read (front ++ rest) ≡ Some (x, rest))
