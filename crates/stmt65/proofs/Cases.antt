@@ -1,14 +1,10 @@
 -- Going by what a test, an option or a list turns out to be; what stands in front; words in any case.
 use Rattle.std.proofs.Common.{arith, ◌≡◌, ℕ, Bool, true, false, List, [], ◌∷◌, drop, Option, Some, None, refl, sym, ap, ◌∙◌}
-use Rattle.std.specs.Prelude.{codes}
-use Rattle.std.specs.Str.{str_to_ascii_lowercase}
 use Rattle.std.proofs.lemmas.Bool.{and_parts, eqb-true, not-true, or_parts}
 use Rattle.std.proofs.lemmas.Slice.Eq.{bytes_eq-Decides}
-use Rattle.stmt65.specs.Words.{ALL, Adc, Define, Directive, Mark, Mnemonic, Number, Part, Word, directive_named, directive_text, is_define, is_mark, is_name, is_number_here, is_word_here, number_in, same}
-use Rattle.isa65.specs.Words.{mnemonic_named, text_of}
+use Rattle.stmt65.specs.Words.{ALL, Adc, Define, Directive, Mark, Mnemonic, Number, Part, Word, codes, directive_named, directive_text, is_define, is_mark, is_name, is_number_here, is_reserved_word, is_word_here, mnemonic_named, number_in, same, str_to_ascii_lowercase, text_of}
 use Rattle.isa65.proofs.MnemonicLaws.{lowercase-text_of, mnemonic_named-is}
 use Rattle.isa65.proofs.Finding.{find-passes}
-use Rattle.text65.specs.Names.{is_reserved_word}
 use Rattle.stmt65.specs.declared.directive.Directive.TheVariants as directive
 use Rattle.stmt65.specs.Parts.{number_of}
 

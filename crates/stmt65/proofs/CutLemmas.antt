@@ -1,7 +1,6 @@
 -- The cutting of a text gives its bytes back, and there is no other.
 use Rattle.std.proofs.Common.{◌≡◌, ℕ, false, List, [], ◌∷◌, refl, ap, ◌∙◌, arith}
-use Rattle.std.specs.List.{flat_map}
-use Rattle.stmt65.specs.Words.{CutsTexts, Datum, EndsStretch, IsCut, NumberDatum, StringDatum, cut_text, datum_bytes, is_plain}
+use Rattle.stmt65.specs.Words.{CutsTexts, Datum, EndsStretch, IsCut, NumberDatum, StringDatum, cut_text, datum_bytes, flat_map, is_plain}
 use Rattle.stmt65.proofs.Lexed.{begins}
 use Rattle.stmt65.proofs.TableLists.{cut_nil, cut_single, cut_case, cut_stretch}
 

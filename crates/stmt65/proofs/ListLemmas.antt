@@ -1,8 +1,7 @@
 -- Lists joined by commas, one after the other as a loop reads them.
 use Rattle.std.proofs.Common.{◌≡◌, suc, true, false, ◌+◌, ◌-◌, ◌<◌, ◌≤◌, List, [], ◌∷◌, ◌++◌, length, drop, Option, Some, None, refl, sym, ap, ◌∙◌, arith, append_assoc}
-use Rattle.std.specs.Prelude.{map}
 use Rattle.std.proofs.lemmas.List.{length-append, map-append}
-use Rattle.stmt65.specs.Words.{Part, is_mark, is_nil, joined, list_of, ◌>>=◌}
+use Rattle.stmt65.specs.Words.{◌>>=◌, Part, is_mark, is_nil, joined, list_of, map}
 use Rattle.stmt65.proofs.Cases.{by_list, mark_is}
 
 -- the list, and others before it

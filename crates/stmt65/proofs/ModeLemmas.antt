@@ -1,15 +1,10 @@
 -- The ways of a form are its modes, and which of them is taken.
 use Rattle.std.proofs.Common.{◌≡◌, ℕ, suc, Bool, true, false, List, [], ◌∷◌, map, Option, Some, None, refl, sym, ap, ◌∙◌}
-use Rattle.std.specs.Prelude.{◌&&◌, ◌||◌, not, is_some, if◌then◌else◌}
-use Rattle.std.specs.Bool.{Decides}
-use Rattle.std.specs.Str.{bytes_eq}
-use Rattle.std.specs.List.{list_any}
 use Rattle.std.proofs.lemmas.Bool.Decides.{Decides-and}
 use Rattle.std.proofs.lemmas.Slice.Eq.{bytes_eq-Decides}
 use denote.Enum.Bare.{sameb, same_true}
-use Rattle.stmt65.specs.Words.{Abs, Absindx, Absx, Absy, Acc, Cpu, Direct, EachWay, Fixed, Form, Fragment, HasMode, Imm, Imp, Ind, Indx, Indy, IsModeOf, IsWay, LacksForm, Mnemonic, Mode, ModesAreWays, NeedsMode, One, Plain, Rel, TakesMode, TakesModes, Way, WaysAreModes, Zp, Zpind, Zprel, Zpx, Zpy, coding, coding_len, first_way, form_text, has_prefix, is_short, is_way, mode_fragments, ways}
+use Rattle.stmt65.specs.Words.{◌&&◌, Abs, Absindx, Absx, Absy, Acc, Cpu, Decides, Direct, EachWay, Fixed, Form, Fragment, HasMode, Imm, Imp, Ind, Indx, Indy, IsModeOf, IsWay, LacksForm, Mnemonic, Mode, ModesAreWays, NeedsMode, One, Plain, Rel, TakesMode, TakesModes, Way, WaysAreModes, Zp, Zpind, Zprel, Zpx, Zpy, bytes_eq, coding, coding_len, encoded, first_way, form_text, has_prefix, if◌then◌else◌, is_short, is_some, is_way, len_of, list_any, mode_fragments, not, table_of, ways, written, zero_page_of, ◌||◌}
 use Rattle.isa65.specs.contracts.mode.Mode as mode
-use Rattle.isa65.specs.Words.{encoded, len_of, table_of, written, zero_page_of}
 use Rattle.stmt65.proofs.Cases.{by_option, by_test}
 use Rattle.std.proofs.Common.{arith}
 

@@ -2,19 +2,12 @@
 use Rattle.std.proofs.lemmas.List.Folds.{list_all-append}
 use Rattle.std.proofs.lemmas.Bool.{and_parts}
 use Rattle.std.proofs.Common.{◌≡◌, ℕ, zero, suc, Bool, true, false, eqb, ltb, ◌/◌, ◌%◌, ◌<◌, List, [], ◌∷◌, ◌++◌, reverse, replicate, Option, Some, None, refl, ◌∙◌, arith}
-use Rattle.std.specs.Prelude.{◌==◌, not, codes, map}
-use Rattle.std.specs.List.{list_all, flat_map}
-use Rattle.std.specs.Char.{is_ascii_digit}
-use Rattle.std.specs.Fmt.{decimal}
 use Rattle.std.proofs.lemmas.Bool.Decides.{nat_tests}
 use Rattle.std.proofs.lemmas.Fmt.{decimal_is_IsNumeral}
-use Rattle.isa65.specs.Words.{cpu_text, expression, text_of}
 use Rattle.isa65.proofs.CpuNames.{cpu_name}
-use Rattle.stmt65.specs.Words.{Adc, Columns, Datum, Directive, ExprView, Field, HasLabelName, HasNames, Imp, IsInWidth, IsPrintable, Mnemonic, Mode, OperandKind, OperandsView, RemarksView, Row, StatementView, bytes_text, character, comma_list, cut_text, datum_text, digits2, directive_text, distance_text, entries, entry_text, fields_of, filled, hex2, hex4, in_order, in_pattern, instr_fields, is_name, is_text_byte, kind_text, kind_texts, label_fields, level_fields, line_of, named_text, next_text, numbers_text, offset_text, operand_text, order_of, prefix_text, quoted, with_fields}
+use Rattle.stmt65.specs.Words.{◌==◌, Adc, Columns, Datum, Directive, ExprView, Field, HasLabelName, HasNames, Imp, IsInWidth, IsPrintable, Mnemonic, Mode, OperandKind, OperandsView, RemarksView, Row, StatementView, bytes_text, character, codes, comma_list, cpu_text, cut_text, datum_text, decimal, digits2, directive_text, distance_text, entries, entry_text, expression, fields_of, filled, flat_map, has_name_form, hex2, hex4, hex_digit, in_order, in_pattern, instr_fields, is_ascii_digit, is_name, is_text_byte, kind_text, kind_texts, label_fields, level_fields, line_of, list_all, map, named_text, next_text, not, numbers_text, offset_text, operand_text, order_of, prefix_text, quoted, text_of, with_fields}
 use Rattle.isa65.specs.declared.row.OperandKind.TheVariants as kind
 use Rattle.isa65.specs.declared.row.Row.TheVariants as row
-use Rattle.text65.specs.Digits.{hex_digit}
-use Rattle.text65.specs.Names.{has_name_form}
 use Rattle.stmt65.specs.declared.directive.Directive.TheVariants as directive
 use Rattle.stmt65.specs.SourceLine as source
 use Rattle.stmt65.specs.Views as view

@@ -1,12 +1,8 @@
 -- The parts of a line, step by step.
 use Rattle.std.proofs.Common.{◌≡◌, ◌≢◌, ℕ, zero, suc, true, false, ◌+◌, ◌-◌, ◌<◌, List, [], ◌∷◌, length, take, drop, get_or, eqb, refl, ap, ◌∙◌, arith, add-one}
-use Rattle.std.specs.Prelude.{nat_lt}
-use Rattle.std.specs.List.{prefix_len}
-use Rattle.std.specs.Char.{is_ascii_digit}
 use Rattle.std.proofs.lemmas.List.{take_rest}
 use Rattle.std.proofs.lemmas.Bool.{ne_eqb, lt-ltb}
-use Rattle.text65.specs.Names.{is_blank, is_word_byte}
-use Rattle.stmt65.specs.Words.{Language, Number, Part, Word, hex_len, is_word_start, part_at, parts, parts_after}
+use Rattle.stmt65.specs.Words.{Language, Number, Part, Word, hex_len, is_ascii_digit, is_blank, is_word_byte, is_word_start, nat_lt, part_at, parts, parts_after, prefix_len}
 
 pub parts_after-drop : (l : Language) (skip : ℕ) (bs : List ℕ) → parts_after l skip bs ≡ parts l (drop skip bs)
 unfolding parts_after

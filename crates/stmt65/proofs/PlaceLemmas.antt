@@ -1,13 +1,9 @@
 -- Where the parts of a line stand.
 use Rattle.std.proofs.Common.{◌≡◌, ◌≢◌, ℕ, zero, suc, true, false, ◌+◌, ◌-◌, ◌<◌, List, [], ◌∷◌, ◌++◌, length, take, drop, get_or, refl, sym, ap, ◌∙◌, arith, add-one}
-use Rattle.std.specs.Prelude.{◌&&◌, ◌==◌, nat_lt}
-use Rattle.std.specs.List.{prefix_len}
-use Rattle.std.specs.Char.{is_ascii_digit}
 use Rattle.std.proofs.lemmas.Bool.{and_parts, eqb-true}
 use Rattle.std.proofs.lemmas.List.{drop-drop, length-drop, take_rest}
-use Rattle.text65.specs.Names.{is_blank}
 use Rattle.stmt65.specs.Signs.{apostrophe, colon, dollar, equals, percent, quote}
-use Rattle.stmt65.specs.Words.{Language, Listing, Part, Repair, alone_at, begins_with, hex_len, is_binary_digit, is_character, is_text_byte, is_word_start, part_at, part_text, parts}
+use Rattle.stmt65.specs.Words.{◌&&◌, ◌==◌, Language, Listing, Part, Repair, alone_at, begins_with, hex_len, is_ascii_digit, is_binary_digit, is_blank, is_character, is_text_byte, is_word_start, nat_lt, part_at, part_text, parts, prefix_len}
 use Rattle.stmt65.proofs.Cases.{by_test}
 use Rattle.stmt65.proofs.PartLemmas.{parts_blank, parts_here}
 

@@ -1,13 +1,9 @@
 -- The lexer takes the parts that stand in the line.
 use Rattle.std.proofs.lemmas.List.Sums.{prefix_len-le-length}
 use Rattle.std.proofs.Common.{◌≡◌, ℕ, zero, suc, Bool, true, false, eqb, ◌+◌, ◌<◌, ◌≤◌, List, [], ◌∷◌, ◌++◌, length, take, drop, refl, sym, ap, subst, ◌∙◌, arith, inl, inr, append_assoc}
-use Rattle.std.specs.Prelude.{◌⊎◌, ◌&&◌, ◌||◌, nat_lt}
-use Rattle.std.specs.List.{prefix_len, list_all}
-use Rattle.std.specs.Char.{is_ascii_digit, is_ascii_hexdigit}
 use Rattle.std.proofs.lemmas.Bool.{and_parts, ltb-true, eqb-true, not-true, or_parts}
 use Rattle.std.proofs.lemmas.List.{take_at, drop_at, length-append, length-drop, length-take, length-take-le, take-append-drop}
-use Rattle.text65.specs.Names.{is_blank, is_word_byte}
-use Rattle.stmt65.specs.Words.{Define, IsDecimal, IsHex, IsSpacing, IsText, Listing, Mark, Number, Part, TakesParts, Text, Word, begins_with, hex_len, is_alone, is_text_byte, is_word_start, part_at, parts}
+use Rattle.stmt65.specs.Words.{◌&&◌, Define, IsDecimal, IsHex, IsSpacing, IsText, Listing, Mark, Number, Part, TakesParts, Text, Word, begins_with, hex_len, is_alone, is_ascii_digit, is_ascii_hexdigit, is_blank, is_text_byte, is_word_byte, is_word_start, list_all, nat_lt, part_at, parts, prefix_len, ◌||◌, ◌⊎◌}
 use Rattle.stmt65.proofs.PartLemmas.{parts_nil, parts_blank, parts_remark, parts_part}
 use Rattle.stmt65.proofs.Cases.{by_test}
 use Rattle.stmt65.proofs.Lexed.{digit_begins, digit_no_word, prefix_stop, word_begins}

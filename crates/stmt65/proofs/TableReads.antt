@@ -1,18 +1,13 @@
 -- The texts of tables are lists, joined by commas, of what the tables say.
 use Rattle.std.proofs.Common.{◌≡◌, ℕ, zero, suc, Bool, true, false, ltb, ◌+◌, ◌*◌, ◌/◌, ◌%◌, ◌<◌, ◌≤◌, List, [], ◌∷◌, ◌++◌, length, reverse, take, drop, refl, sym, ap, subst, ◌∙◌, arith, append_assoc}
-use Rattle.std.specs.Prelude.{map, ◌&&◌, ◌==◌, nat_lt}
-use Rattle.std.specs.Char.{is_ascii_hexdigit}
-use Rattle.std.specs.Str.Parse.{digits_value}
 use Rattle.std.proofs.Math.Nat.{suc-mul}
 use Rattle.std.proofs.lemmas.Int.Digits.{digits_value_push}
 use Rattle.std.proofs.lemmas.Grind.{flat_map-append}
 use Rattle.std.proofs.lemmas.List.Folds.{list_all-append}
-use Rattle.std.specs.List.{list_all, flat_map}
 use Rattle.std.proofs.lemmas.Bool.{and_parts, ltb-true, eqb-true, eq-eqb}
 use Rattle.std.proofs.lemmas.Bool.Decides.{nat_tests}
 use Rattle.std.proofs.lemmas.List.{append-nil, reverse-append, length-reverse, length-take-le, length-drop, map-id, take-append-drop}
-use Rattle.text65.specs.Digits.{hex_digit}
-use Rattle.stmt65.specs.Words.{AreBytes, BigEndian, ByteOrder, Datum, Directive, IsDatum, IsList, IsValue, Listing, LittleEndian, Number, NumberDatum, Part, StringDatum, bytes_text, comma_list, cut_text, data_text, datum_text, digits2, entries, entry_len, entry_text, entry_value, hex2, in_order, is_plain, is_text_byte, low_number, numbers_text, order_of, parts, pieces}
+use Rattle.stmt65.specs.Words.{◌&&◌, ◌==◌, AreBytes, BigEndian, ByteOrder, Datum, Directive, IsDatum, IsList, IsValue, Listing, LittleEndian, Number, NumberDatum, Part, StringDatum, bytes_text, comma_list, cut_text, data_text, datum_text, digits2, digits_value, entries, entry_len, entry_text, entry_value, flat_map, hex2, hex_digit, in_order, is_ascii_hexdigit, is_plain, is_text_byte, list_all, low_number, map, nat_lt, numbers_text, order_of, parts, pieces}
 use Rattle.stmt65.specs.declared.directive.Directive.TheVariants.{Word}
 use Rattle.stmt65.specs.Parts.{number_of}
 use Rattle.stmt65.proofs.Lexed.{Ends, parts_mark, parts_text, hex_is_digit, hex_value, below_16, parts_hex, parts_hex2, number_of-hex2}

@@ -2,8 +2,7 @@
 --
 -- A label stands on the line of its statement if its name has at most as many bytes as the label break and ends before the mnemonic
 -- column; any other label has a line of its own.
-use Rattle.std.specs.Prelude.{ℕ, ◌+◌, Bool, ◌&&◌, List, length, nat_le, nat_lt}
-use Rattle.stmt65.specs.Types.{Columns}
+use Rattle.stmt65.specs.Types.{◌&&◌, ◌+◌, Bool, Columns, List, length, nat_le, nat_lt, ℕ}
 
 -- those of a listing whose options say nothing of them
 abbrev pub default_columns : Columns

@@ -1,9 +1,6 @@
 -- What stands after a statement that has bytes, by the comment level: from level 2 on its address, from level 3 on its bytes in hex
 -- digits too, and at level 4 its bytes as characters.
-use Rattle.std.specs.Prelude.{ℕ, ◌&&◌, List, [], ◌∷◌, ◌++◌, codes, map, nat_lt, if◌then◌else◌}
-use Rattle.std.specs.List.{flat_map}
-use Rattle.text65.specs.Digits.{digits4}
-use Rattle.stmt65.specs.Types.{Columns}
+use Rattle.stmt65.specs.Types.{◌&&◌, ◌++◌, Columns, List, [], codes, digits4, flat_map, if◌then◌else◌, map, nat_lt, ℕ, ◌∷◌}
 use Rattle.stmt65.specs.Digits.{digits2}
 use Rattle.stmt65.specs.Statements.{Field, has_bytes}
 use Rattle.stmt65.specs.Views.{StatementView, RemarksView}

@@ -1,8 +1,5 @@
 -- What a caller of `put_line` keeps: the limits within which a line has at most 512 bytes and reads as its statement.
-use Rattle.std.specs.Prelude.{◌≡◌, ℕ, ◌%◌, ◌<◌, ◌≤◌, Bool, true, not, List, length, ◌==◌, Option, Some, None, IsSome}
-use Rattle.std.specs.List.{list_all}
-use Rattle.isa65.specs.Words.{row_of, zero_page_of}
-use Rattle.stmt65.specs.Types.{Byte, Columns, Directive, Implied, Mode, OperandKind, Row}
+use Rattle.stmt65.specs.Types.{◌%◌, ◌<◌, ◌==◌, Bool, Byte, Columns, Directive, Implied, IsSome, List, Mode, None, OperandKind, Option, Row, Some, length, list_all, not, row_of, true, zero_page_of, ℕ, ◌≡◌, ◌≤◌}
 use Rattle.isa65.specs.declared.row.OperandKind.TheVariants.{ZeroPage, Word, Distance}
 use Rattle.isa65.specs.declared.row.Row.TheVariants.{Accumulator, One, Two}
 use Rattle.stmt65.specs.Columns.{fits_label}

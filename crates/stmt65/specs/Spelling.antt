@@ -2,13 +2,9 @@
 --
 -- `(E),y`, say, is `(`, the expression, `)`, `,` and the word `y`. Words may be written in any letter case, names are exact,
 -- and numbers count by their value.
-use Rattle.std.specs.Prelude.{◌≡◌, ◌⊎◌, ℕ, Bool, true, false, List, [], ◌∷◌, ◌++◌, codes, ◌==◌, if◌then◌else◌, Some, None}
-use Rattle.std.specs.Char.{is_ascii_alphabetic}
-use Rattle.isa65.specs.Words.{expression, text_of}
-use Rattle.text65.specs.Names.{has_name_form}
 use Rattle.stmt65.specs.Signs.{star, plus, comma, minus, colon}
 use Rattle.stmt65.specs.declared.source_line.Notation.TheVariants.{Half}
-use Rattle.stmt65.specs.Types.{Minus, Zero}
+use Rattle.stmt65.specs.Types.{◌++◌, ◌==◌, Bool, List, Minus, None, Some, Zero, [], codes, expression, false, has_name_form, if◌then◌else◌, is_ascii_alphabetic, text_of, true, ℕ, ◌∷◌, ◌≡◌, ◌⊎◌}
 use Rattle.stmt65.specs.declared.source_line.Minus.TheVariants.{One as MinusOne}
 use Rattle.stmt65.specs.SourceLine.{Value, NumberValue, NameValue, LessValue, DifferenceValue, Form, One, Datum, NumberDatum, StringDatum, ValueDatum, HalfDatum, Operation, Nothing, Instr, Data, Values, Reserve, Segment, Code, SetCpu, SourceLine, Assignment, PlaceAssignment, Statement}
 use Rattle.stmt65.specs.Forms.{form_text, form_values, has_prefix}

@@ -4,10 +4,8 @@
 -- with its offset and `-1`, or `.word $FFFF` without a target. A definition is a name at column 1, and at the argument column `:=`
 -- with the value in four hex digits, or with `* + n` for a name that lies n bytes after the line. A label or a remark stands at
 -- column 1.
-use Rattle.std.specs.Prelude.{ℕ, Bool, true, false, List, [], ◌∷◌, ◌++◌, reverse, codes, decimal, if◌then◌else◌, Option, Some, None}
-use Rattle.std.specs.List.{flat_map}
-use Rattle.stmt65.specs.Types.{Columns, Directive, Imp, Mode, Op}
-use Rattle.isa65.specs.Words.{cpu_text, text_of}
+use Rattle.std.specs.Prelude.{decimal}
+use Rattle.stmt65.specs.Types.{◌++◌, Bool, Columns, Directive, Imp, List, Mode, None, Op, Option, Some, [], codes, cpu_text, false, flat_map, if◌then◌else◌, reverse, text_of, true, ℕ, ◌∷◌}
 use Rattle.stmt65.specs.Directives.{directive_text}
 use Rattle.stmt65.specs.Digits.{digits2, hex2, hex4}
 use Rattle.stmt65.specs.Operands.{named_text, operand_text}

@@ -1,7 +1,6 @@
 -- How the bytes of a table are printed: as numbers, or as text with single bytes between. What a directive codes says `Coding`.
-use Rattle.std.specs.Prelude.{ℕ, zero, suc, ◌+◌, ◌*◌, ◌/◌, Bool, ◌&&◌, not, List, [], ◌∷◌, length, reverse, take, drop, nat_lt, ◌==◌, if◌then◌else◌}
 use Rattle.stmt65.specs.SourceLine.{Datum, NumberDatum, StringDatum}
-use Rattle.stmt65.specs.Types.{Addr, BigEndian, ByteOrder, Dbyt, Directive, Dword, LittleEndian}
+use Rattle.stmt65.specs.Types.{◌&&◌, ◌*◌, ◌+◌, ◌/◌, ◌==◌, Addr, BigEndian, Bool, ByteOrder, Dbyt, Directive, Dword, List, LittleEndian, [], drop, if◌then◌else◌, length, nat_lt, not, reverse, suc, take, zero, ℕ, ◌∷◌}
 use Rattle.stmt65.specs.declared.directive.Directive.TheVariants.{Word}
 
 -- ---- numbers

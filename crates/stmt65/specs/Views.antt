@@ -1,6 +1,5 @@
 -- A statement as the rules speak of it: its texts are lists of bytes.
-use Rattle.std.specs.Prelude.{ℕ, Bool, List, Option}
-use Rattle.stmt65.specs.Types.{Cpu, Directive, Op}
+use Rattle.stmt65.specs.Types.{Bool, Cpu, Directive, List, Op, Option, ℕ}
 
 -- a number; or a name, and what is added to its value
 pub data ExprView : Type 0 where

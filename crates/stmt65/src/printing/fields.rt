@@ -1,8 +1,6 @@
 //! The fields of a line.
 
-ghost use Rattle.std.specs.Prelude.{◌≡◌, ◌+◌, ◌<◌, ◌≤◌, max, length, replicate};
-ghost use Rattle.arrayvec.specs.ArrayVec.{Extends, array_vec_len};
-ghost use Rattle.stmt65.specs.Words.{filled};
+ghost use Rattle.stmt65.specs.Words.{◌+◌, ◌<◌, Extends, array_vec_len, filled, length, max, replicate, ◌≡◌, ◌≤◌};
 
 use crate::printing::columns::Column;
 use crate::printing::line::Line;

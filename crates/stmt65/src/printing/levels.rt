@@ -1,9 +1,6 @@
 //! What stands after a statement that has bytes, by the comment level.
 
-ghost use Rattle.std.specs.Prelude.{◌≡◌, ◌+◌, ◌≤◌, length, map};
-ghost use Rattle.std.specs.List.{flat_map};
-ghost use Rattle.arrayvec.specs.ArrayVec.{Extends, array_vec_len};
-ghost use Rattle.stmt65.specs.Words.{Prints, character, fields_after, len_with, level_fields, remarks_seen, spaced_byte, statement_seen};
+ghost use Rattle.stmt65.specs.Words.{◌+◌, Extends, Prints, array_vec_len, character, fields_after, flat_map, len_with, length, level_fields, map, remarks_seen, spaced_byte, statement_seen, ◌≡◌, ◌≤◌};
 
 use crate::printing::columns::Columns;
 use crate::printing::digits::{put_digits2, put_digits4};

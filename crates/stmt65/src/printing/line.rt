@@ -1,10 +1,6 @@
 //! Printing a statement as a line.
 
-ghost use Rattle.std.specs.Prelude.{◌≡◌, ◌+◌, ◌<◌, ◌≤◌, [], ◌∷◌, ◌++◌, length, codes, IfSome};
-ghost use Rattle.std.specs.Option.{option_copied, option_map};
-ghost use Rattle.arrayvec.specs.ArrayVec.{Extends, array_vec_len};
-ghost use Rattle.isa65.specs.Words.{cpu_text};
-ghost use Rattle.stmt65.specs.Words.{AreBytes, AreWordWide, IsInWidth, IsNameLong, IsPrintable, IsTable, IsWrittenIn, MayBeLabelled, Prints, ReadsBack, bytes_text, cut_text, data_text, directive_text, fields_of, filled, has_operand, in_hex, instr_fields, is_absolute, label_fields, len_with, line_of, named_text, numbers_text, operands_seen, quoted, remark_fields, remarks_seen, return_text, statement_seen, target_seen, with_fields, with_operands};
+ghost use Rattle.stmt65.specs.Words.{◌+◌, ◌++◌, ◌<◌, AreBytes, AreWordWide, Extends, IfSome, IsInWidth, IsNameLong, IsPrintable, IsTable, IsWrittenIn, MayBeLabelled, Prints, ReadsBack, [], array_vec_len, bytes_text, codes, cpu_text, cut_text, data_text, directive_text, fields_of, filled, has_operand, in_hex, instr_fields, is_absolute, label_fields, len_with, length, line_of, named_text, numbers_text, operands_seen, option_copied, option_map, quoted, remark_fields, remarks_seen, return_text, statement_seen, target_seen, with_fields, with_operands, ◌∷◌, ◌≡◌, ◌≤◌};
 ghost use Rattle.stmt65.specs.Views as view;
 
 use crate::directive::Directive;

@@ -1,9 +1,6 @@
 //! The operands of an instruction.
 
-ghost use Rattle.std.specs.Prelude.{◌+◌, ◌≤◌, length};
-ghost use Rattle.arrayvec.specs.ArrayVec.{Extends, array_vec_len};
-ghost use Rattle.isa65.specs.Words.{row_text};
-ghost use Rattle.stmt65.specs.Words.{AreOperands, AreWordWide, IsOperand, IsWordWide, IsWrittenIn, expr_seen, in_hex, in_row, is_absolute, kind_text, named_text, none, one, operand_text, operands_seen, prefix_text, two};
+ghost use Rattle.stmt65.specs.Words.{◌+◌, AreOperands, AreWordWide, Extends, IsOperand, IsWordWide, IsWrittenIn, array_vec_len, expr_seen, in_hex, in_row, is_absolute, kind_text, length, named_text, none, one, operand_text, operands_seen, prefix_text, row_text, two, ◌≤◌};
 
 use crate::printing::digits::{Offsets, put_hex2, put_hex4, put_offset};
 use crate::printing::fields::put;

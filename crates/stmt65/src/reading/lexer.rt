@@ -1,10 +1,6 @@
 //! The parts of a line, each taken as long as it can be.
 
-ghost use Rattle.std.specs.Prelude.{◌≡◌, ◌<◌, ◌≤◌, [], ◌∷◌, length, MatchOption, slice_index, false, true};
-ghost use Rattle.std.specs.List.{prefix_len};
-ghost use Rattle.std.specs.Char.{is_ascii_digit, is_ascii_hexdigit};
-ghost use Rattle.text65.specs.Names.{is_blank, is_word_byte};
-ghost use Rattle.stmt65.specs.Words.{Language, alone_at, cut_by, hex_len, is_binary_digit, is_character, is_text_byte, is_word_start, part_at, part_of, parts};
+ghost use Rattle.stmt65.specs.Words.{◌<◌, Language, MatchOption, [], alone_at, cut_by, false, hex_len, is_ascii_digit, is_ascii_hexdigit, is_binary_digit, is_blank, is_character, is_text_byte, is_word_byte, is_word_start, length, part_at, part_of, parts, prefix_len, slice_index, true, ◌∷◌, ◌≡◌, ◌≤◌};
 
 use crate::language::Language;
 use text65::{is_blank, is_word_byte};

@@ -1,7 +1,6 @@
 //! The written forms of an operand.
 
-ghost use Rattle.std.specs.Prelude.{◌≡◌};
-ghost use Rattle.stmt65.specs.Words.{Gives, half_form, immediate_of, inner_at, is_absolute, sized, tail_at, value_of, whole};
+ghost use Rattle.stmt65.specs.Words.{Gives, half_form, immediate_of, inner_at, is_absolute, sized, tail_at, value_of, whole, ◌≡◌};
 ghost use Rattle.stmt65.specs.Code.SourceLineViews.{form_of as form_of_code};
 ghost use Rattle.stmt65.specs.Reading.{form_of};
 

@@ -1,9 +1,6 @@
 //! Where the parts of a line stand.
 
-ghost use Rattle.std.specs.Prelude.{◌≡◌, ◌<◌, ◌≤◌, [], ◌∷◌, MatchOption, IfSome, drop, false, get_or, length, take};
-ghost use Rattle.std.specs.List.{prefix_len};
-ghost use Rattle.text65.specs.Names.{is_blank};
-ghost use Rattle.stmt65.specs.Words.{Gives, GoesOver, IsAmong, IsRemarkOf, ReadsAs, StandsIn, bytes_in, datum_of, part_of, part_text, parts, parts_left, value_alone, value_of};
+ghost use Rattle.stmt65.specs.Words.{◌<◌, Gives, GoesOver, IfSome, IsAmong, IsRemarkOf, MatchOption, ReadsAs, StandsIn, [], bytes_in, datum_of, drop, false, get_or, is_blank, length, part_of, part_text, parts, parts_left, prefix_len, take, value_alone, value_of, ◌∷◌, ◌≡◌, ◌≤◌};
 
 use crate::language::Language;
 use crate::reading::expressions::next_value;

@@ -1,9 +1,6 @@
 //! What a line says.
 
-ghost use Rattle.std.specs.Prelude.{◌≡◌, Some, None, drop};
-ghost use Rattle.std.specs.Bool.{OnTrue, OnFalse};
-ghost use Rattle.std.specs.Option.{option_copied, option_map};
-ghost use Rattle.stmt65.specs.Words.{Gives, GivesIfOk, constant_of, is_equals, line_at, number_of_name, operation_at, parts, reading_of, source_of, stated};
+ghost use Rattle.stmt65.specs.Words.{Gives, GivesIfOk, None, OnFalse, OnTrue, Some, constant_of, drop, is_equals, line_at, number_of_name, operation_at, option_copied, option_map, parts, reading_of, source_of, stated, ◌≡◌};
 ghost use Rattle.stmt65.specs.Code.SourceLineViews.{operation_of};
 
 use crate::language::Language;

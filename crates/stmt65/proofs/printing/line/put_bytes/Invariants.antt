@@ -1,6 +1,5 @@
 use Rattle.std.proofs.Common.{◌≡◌, ◌+◌, ◌*◌, ◌++◌, length, take}
-use Rattle.std.specs.List.{flat_map}
-use Rattle.stmt65.specs.Words.{hex2, next_text}
+use Rattle.stmt65.specs.Words.{flat_map, hex2, next_text}
 use Rattle.stmt65.proofs.printing.line.put_bytes.Given as goal
 
 abbrev pub invariant-loop-byte : goal.invariant-loop-byte
