@@ -1,6 +1,6 @@
 //! Printing a statement as a line.
 
-ghost use Rattle.stmt65.specs.Words.{◌+◌, ◌++◌, ◌<◌, AreBytes, AreWordWide, Extends, IfSome, IsInWidth, IsNameLong, IsPrintable, IsTable, IsWrittenIn, MayBeLabelled, Prints, ReadsBack, [], array_vec_len, bytes_text, codes, cpu_text, cut_text, data_text, directive_text, fields_of, filled, has_operand, in_hex, instr_fields, is_absolute, label_fields, len_with, length, line_of, named_text, numbers_text, operands_seen, option_copied, option_map, quoted, remark_fields, remarks_seen, return_text, statement_seen, target_seen, with_fields, with_operands, ◌∷◌, ◌≡◌, ◌≤◌};
+ghost use Rattle.stmt65.specs.Words.{◌+◌, ◌++◌, ◌<◌, AreBytes, AreWordWide, Extends, IfSome, IsInWidth, IsNameLong, IsPrintable, IsTable, IsWrittenIn, MayBeLabelled, Prints, ReadsBack, [], array_vec_len, bytes_text, codes, cut_text, data_text, directive_text, fields_of, filled, in_hex, instr_fields, is_absolute, label_fields, len_with, length, line_of, named_text, numbers_text, operands_seen, option_copied, option_map, quoted, remark_fields, remarks_seen, return_text, statement_seen, target_seen, with_fields, with_operands, ◌∷◌, ◌≡◌, ◌≤◌};
 ghost use Rattle.stmt65.specs.Views as view;
 
 use crate::directive::Directive;
@@ -15,16 +15,10 @@ use crate::printing::tables::{put_entries, put_text};
 use crate::source_line::AddressSize;
 use crate::statement::{Operands, Statement, Target};
 use arrayvec::ArrayVec;
-use isa65::{Cpu, Mode, Op};
+use isa65::{Mode, Op};
 
 /// The bytes of a line, with its line feed.
 pub type Line = ArrayVec<u8, 512>;
-
-fn has_operand(mode: Mode) -> bool
-    ensures { result ≡ has_operand mode }
-{
-    !matches!(mode, Mode::Imp)
-}
 
 fn put_operation(out: &mut Line, columns: &Columns, operation: &[u8])
     requires room { array_vec_len out.old ≤ 82 }
@@ -70,7 +64,7 @@ fn put_instr(
 {
     start_field(out, columns.mnemonic);
     put_mnemonic(out, op.mnemonic.text());
-    if has_operand(op.mode) {
+    if !matches!(op.mode, Mode::Imp) {
         start_field(out, columns.argument);
         put_operands(out, offsets, op.mode, size, operands);
     }
@@ -150,15 +144,6 @@ fn put_string(out: &mut Line, columns: &Columns, operation: &[u8], text: &[u8])
     out.push(b'"');
 }
 
-#[tactic(auto, using(isa65::proofs::CpuNames::cpu_len))]
-fn put_set_cpu(out: &mut Line, columns: &Columns, cpu: Cpu)
-    requires room { array_vec_len out.old ≤ 82 }
-    ensures items { Prints out.old (with_operands columns.now (codes ".setcpu") (quoted (cpu_text cpu))) out.new }
-    ensures len { array_vec_len out.new ≤ 340 }
-{
-    put_string(out, columns, b".setcpu", cpu.text());
-}
-
 fn put_addr(out: &mut Line, columns: &Columns, offsets: Offsets, target: Target)
     requires room { array_vec_len out.old ≤ 82 }
     requires name { IsNameLong target.name.now }
@@ -172,23 +157,7 @@ fn put_addr(out: &mut Line, columns: &Columns, offsets: Offsets, target: Target)
     put_named(out, offsets, target.name, target.offset);
 }
 
-/// Appends the entry of a return table.
-fn put_return(out: &mut Line, offsets: Offsets, target: Option<Target>)
-    requires room { array_vec_len out.old ≤ 200 }
-    requires name { IsPrintable (view.rts (option_map target_seen target)) }
-    ensures items { Extends out.old (return_text (in_hex offsets) (option_map target_seen target.entry)) out.new }
-    ensures len { array_vec_len out.new ≤ array_vec_len out.old + 88 }
-    ensures width { IsInWidth (view.rts (option_map target_seen target.entry)) }
-{
-    match target {
-        Some(Target { name, offset }) => {
-            put_named(out, offsets, name, offset);
-            put(out, b"-1");
-        }
-        None => put(out, b"$FFFF"),
-    }
-}
-
+/// Appends an entry of a return table.
 fn put_rts(out: &mut Line, columns: &Columns, offsets: Offsets, target: Option<Target>)
     requires room { array_vec_len out.old ≤ 82 }
     requires name { IsPrintable (view.rts (option_map target_seen target)) }
@@ -199,7 +168,13 @@ fn put_rts(out: &mut Line, columns: &Columns, offsets: Offsets, target: Option<T
 {
     put_operation(out, columns, b".word");
     start_field(out, columns.argument);
-    put_return(out, offsets, target);
+    match target {
+        Some(Target { name, offset }) => {
+            put_named(out, offsets, name, offset);
+            put(out, b"-1");
+        }
+        None => put(out, b"$FFFF"),
+    }
 }
 
 fn put_remark(out: &mut Line, text: &[u8])
@@ -215,6 +190,7 @@ fn put_remark(out: &mut Line, text: &[u8])
 
 /// Appends the fields of the statement.
 #[inline(always)]
+#[tactic(auto, using(isa65::proofs::CpuNames::cpu_len))]
 fn put_fields(out: &mut Line, columns: &Columns, offsets: Offsets, statement: &Statement)
     requires room { array_vec_len out.old ≤ 82 }
     requires printable { IsPrintable (statement_seen statement.now) }
@@ -241,7 +217,7 @@ fn put_fields(out: &mut Line, columns: &Columns, offsets: Offsets, statement: &S
         Statement::Forward(name, distance) => put_forward(out, columns, offsets, name, distance),
         Statement::Segment(name) => put_string(out, columns, b".segment", name),
         Statement::Code => put_operation(out, columns, b".code"),
-        Statement::SetCpu(cpu) => put_set_cpu(out, columns, cpu),
+        Statement::SetCpu(cpu) => put_string(out, columns, b".setcpu", cpu.text()),
         Statement::Blank => {}
         Statement::Remark(text) => put_remark(out, text),
     }

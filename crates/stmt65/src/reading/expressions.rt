@@ -1,7 +1,7 @@
 //! Expressions: a number, the sum of two, a name with an optional number added and an optional `-1`, a name less a number, or the
 //! difference of two names; and what is an address or is halved.
 
-ghost use Rattle.stmt65.specs.Words.{Reads, bracketed_in, halved_in, is_difference, length, less_at, less_one, named_at, next_address, next_value, number_at, numeral_of, value_of, ◌≡◌, ◌≤◌};
+ghost use Rattle.stmt65.specs.Words.{Reads, bracketed_in, halved_in, length, less_at, less_one, named_at, next_address, next_value, number_at, numeral_of, value_of, ◌≡◌, ◌≤◌};
 
 use crate::language::Language;
 use crate::reading::lexer::Part;
@@ -88,20 +88,13 @@ pub fn next_value<'a>(language: Language, parts: &mut Parts<'a>) -> Option<Value
     }
 }
 
-/// Whether it is a difference of names.
-fn is_difference(value: &Value) -> bool
-    ensures { result ≡ is_difference (value_of value.now) }
-{
-    matches!(value, Value::Difference(_, _))
-}
-
-/// The address in an operand.
+/// The address in an operand: any expression but a difference of names.
 pub fn next_address<'a>(language: Language, parts: &mut Parts<'a>) -> Option<Value<'a>>
     ensures read { Reads value_of result (next_address language parts.old) parts.new }
     ensures fewer { length parts.new ≤ length parts.old }
 {
     let value = next_value(language, parts)?;
-    if language == Language::Repair && is_difference(&value) {
+    if language == Language::Repair && matches!(value, Value::Difference(_, _)) {
         return None;
     }
     Some(value)

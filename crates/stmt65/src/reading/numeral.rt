@@ -1,6 +1,6 @@
 //! Numbers as they are written.
 
-ghost use Rattle.stmt65.specs.Words.{◌<◌, digit_value, digits_value, get_or, held, min, numeral_of, ◌≡◌};
+ghost use Rattle.stmt65.specs.Words.{◌<◌, digit_value, digits_value, held, min, numeral_of, ◌≡◌};
 ghost use Rattle.stmt65.specs.Parts.{number_of};
 
 /// A number as it is written: decimal digits, `$` and hex digits, `%` and binary digits, or a character between apostrophes. It may be
@@ -28,19 +28,10 @@ impl<'a> Numeral<'a> {
         match self.text {
             [b'$', digits @ ..] => value_of_digits(16, digits),
             [b'%', digits @ ..] => value_of_digits(2, digits),
-            [b'\'', character @ ..] => u64::from(first_of(character)),
+            [b'\'', character, ..] => u64::from(*character),
+            [b'\''] => 0,
             _ => value_of_digits(10, self.text),
         }
-    }
-}
-
-/// The first byte, or 0 without one.
-fn first_of(bytes: &[u8]) -> u8
-    ensures { result ≡ get_or bytes.now 0 0 }
-{
-    match bytes {
-        [first, ..] => *first,
-        [] => 0,
     }
 }
 

@@ -1,6 +1,6 @@
 //! The written forms of an operand.
 
-ghost use Rattle.stmt65.specs.Words.{Gives, half_form, immediate_of, inner_at, is_absolute, sized, tail_at, value_of, whole, ◌≡◌};
+ghost use Rattle.stmt65.specs.Words.{Gives, half_form, immediate_of, inner_at, sized, tail_at, value_of, whole, ◌≡◌};
 ghost use Rattle.stmt65.specs.Code.SourceLineViews.{form_of as form_of_code};
 ghost use Rattle.stmt65.specs.Reading.{form_of};
 
@@ -15,12 +15,6 @@ fn whole<'a>(form: Form<'a>, parts: &Parts<'a>) -> Option<Form<'a>>
     ensures { Gives form_of_code result (whole (form_of_code form.entry) parts.now) }
 {
     parts.is_done().then_some(form)
-}
-
-fn is_absolute(size: AddressSize) -> bool
-    ensures { result ≡ is_absolute size }
-{
-    matches!(size, AddressSize::Absolute)
 }
 
 /// A pattern, after `a:` if the operand is absolute.
@@ -54,7 +48,7 @@ fn tail_at<'a>(
     if parts.eat_word(b"y") {
         return whole(Form::One(sized(size, Pattern::DirectY), value), parts);
     }
-    if is_absolute(size) {
+    if size == AddressSize::Absolute {
         return None;
     }
     let second = next_address(language, parts)?;
