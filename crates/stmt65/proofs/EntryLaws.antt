@@ -1,6 +1,5 @@
 -- What holds of the entries of tables.
-use Rattle.std.proofs.Common.{◌≡◌, ℕ, ◌+◌, ◌*◌, ◌/◌, ◌<◌, ◌≤◌, List, [], ◌∷◌, length, take, drop, refl, arith}
-use Rattle.std.proofs.lemmas.List.{length-reverse, length-drop}
+use Rattle.stmt65.proofs.Lemmas.{◌*◌, ◌+◌, ◌/◌, ◌<◌, List, [], arith, drop, length, length-drop, length-reverse, refl, take, ℕ, ◌∷◌, ◌≡◌, ◌≤◌}
 use Rattle.stmt65.specs.Words.{Addr, All, BigEndian, ByteOrder, Dbyt, Directive, Dword, LittleEndian, entries, entry_bytes, entry_len, entry_limit, entry_number, in_order, low, low_number, pieces}
 use Rattle.stmt65.specs.declared.directive.Directive.TheVariants.{Word}
 

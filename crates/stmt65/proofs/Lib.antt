@@ -1,3 +1,4 @@
+mod Lemmas
 mod PartLemmas
 mod NumberLemmas
 mod ListLemmas

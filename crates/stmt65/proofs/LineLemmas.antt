@@ -1,6 +1,5 @@
 -- A line is read as r exactly where it is a spelling of r.
-use Rattle.std.proofs.Common.{refl, sym, ◌∙◌}
-use Rattle.std.proofs.lemmas.Option.{same_Some}
+use Rattle.stmt65.proofs.Lemmas.{refl, same_Some, sym, ◌∙◌}
 use Rattle.stmt65.specs.Words.{IsSpelling, Listing, ReadsLines, ReadsSpellings, SpellsOne, parts, reading_of}
 use Rattle.stmt65.proofs.SpacingLemmas.{takes_parts}
 use Rattle.stmt65.proofs.ReadIsSpelled.{at, reading_read}

@@ -1,10 +1,5 @@
 -- A line that says something has the same parts where a blank and a remark follow it.
-use Rattle.std.proofs.lemmas.List.Sums.{prefix_len-le-length}
-use Rattle.std.proofs.Common.{◌∙◌, ◌≡◌, ℕ, zero, suc, Bool, true, false, eqb, ◌<◌, ◌≤◌, List, [], ◌∷◌, ◌++◌, length, drop, refl, ap, arith, inl, inr}
-use Rattle.std.proofs.lemmas.Bool.{and_parts, eqb-true}
-use Rattle.std.proofs.lemmas.List.{take-append-le, drop-append-le, length-drop}
-use Rattle.std.proofs.lemmas.Bool.Decides.{nat_tests}
-use Rattle.std.proofs.lemmas.List.Folds.{list_all-append, prefix_len-append}
+use Rattle.stmt65.proofs.Lemmas.{◌++◌, ◌<◌, Bool, List, [], and_parts, ap, arith, drop, drop-append-le, eqb, eqb-true, false, inl, inr, length, length-drop, list_all-append, nat_tests, prefix_len-append, prefix_len-le-length, refl, suc, take-append-le, true, zero, ℕ, ◌∙◌, ◌∷◌, ◌≡◌, ◌≤◌}
 use Rattle.stmt65.specs.Words.{Assignment, Datum, Direct, Form, Instr, IsDatum, IsItem, IsList, IsMinus, IsPlus, IsSpelling, IsValue, Item, Listing, Mark, Minus, NameValue, None, NumberDatum, NumberValue, One, Operation, Part, PlaceAssignment, Plain, Some, SourceLine, Spells, Statement, StringDatum, Value, Zero, begins_with, form_items, is_blank, is_text_byte, line_items, list_all, not, operation_items, part_at, parts, parts_after, prefix_len, ◌||◌}
 use Rattle.stmt65.specs.Spelling as item
 use Rattle.stmt65.specs.declared.source_line.Minus.TheVariants.{One as MinusOne}

@@ -1,8 +1,5 @@
 -- The lexer takes the parts that stand in the line.
-use Rattle.std.proofs.lemmas.List.Sums.{prefix_len-le-length}
-use Rattle.std.proofs.Common.{◌≡◌, ℕ, zero, suc, Bool, true, false, eqb, ◌+◌, ◌<◌, ◌≤◌, List, [], ◌∷◌, ◌++◌, length, take, drop, refl, sym, ap, subst, ◌∙◌, arith, inl, inr, append_assoc}
-use Rattle.std.proofs.lemmas.Bool.{and_parts, ltb-true, eqb-true, not-true, or_parts}
-use Rattle.std.proofs.lemmas.List.{take_at, drop_at, length-append, length-drop, length-take, length-take-le, take-append-drop}
+use Rattle.stmt65.proofs.Lemmas.{◌+◌, ◌++◌, ◌<◌, Bool, List, [], and_parts, ap, append_assoc, arith, drop, drop_at, eqb, eqb-true, false, inl, inr, length, length-drop, length-take, length-take-le, ltb-true, not-true, or_parts, prefix_len-le-length, refl, subst, suc, sym, take, take-append-drop, take_at, true, zero, ℕ, ◌∙◌, ◌∷◌, ◌≡◌, ◌≤◌, length-append}
 use Rattle.stmt65.specs.Words.{◌&&◌, Define, IsDecimal, IsHex, IsSpacing, IsText, Listing, Mark, Number, Part, TakesParts, Text, Word, begins_with, hex_len, is_alone, is_ascii_digit, is_ascii_hexdigit, is_blank, is_text_byte, is_word_byte, is_word_start, list_all, nat_lt, part_at, parts, prefix_len, ◌||◌, ◌⊎◌}
 use Rattle.stmt65.proofs.PartLemmas.{parts_nil, parts_blank, parts_remark, parts_part}
 use Rattle.stmt65.proofs.Cases.{by_test}

@@ -1,12 +1,5 @@
 -- The texts of tables are lists, joined by commas, of what the tables say.
-use Rattle.std.proofs.Common.{◌≡◌, ℕ, zero, suc, Bool, true, false, ltb, ◌+◌, ◌*◌, ◌/◌, ◌%◌, ◌<◌, ◌≤◌, List, [], ◌∷◌, ◌++◌, length, reverse, take, drop, refl, sym, ap, subst, ◌∙◌, arith, append_assoc}
-use Rattle.std.proofs.Math.Nat.{suc-mul}
-use Rattle.std.proofs.lemmas.Int.Digits.{digits_value_push}
-use Rattle.std.proofs.lemmas.Grind.{flat_map-append}
-use Rattle.std.proofs.lemmas.List.Folds.{list_all-append}
-use Rattle.std.proofs.lemmas.Bool.{and_parts, ltb-true, eqb-true, eq-eqb}
-use Rattle.std.proofs.lemmas.Bool.Decides.{nat_tests}
-use Rattle.std.proofs.lemmas.List.{append-nil, reverse-append, length-reverse, length-take-le, length-drop, map-id, take-append-drop}
+use Rattle.stmt65.proofs.Lemmas.{◌%◌, ◌*◌, ◌+◌, ◌++◌, ◌/◌, ◌<◌, Bool, List, [], and_parts, ap, append-nil, append_assoc, arith, digits_value_push, drop, eq-eqb, eqb-true, false, flat_map-append, length, length-drop, length-reverse, length-take-le, list_all-append, ltb, ltb-true, map-id, nat_tests, refl, reverse, reverse-append, subst, suc, suc-mul, sym, take, take-append-drop, true, zero, ℕ, ◌∙◌, ◌∷◌, ◌≡◌, ◌≤◌}
 use Rattle.stmt65.specs.Words.{◌&&◌, ◌==◌, AreBytes, BigEndian, ByteOrder, Datum, Directive, IsDatum, IsList, IsValue, Listing, LittleEndian, Number, NumberDatum, Part, StringDatum, bytes_text, comma_list, cut_text, data_text, datum_text, digits2, digits_value, entries, entry_len, entry_text, entry_value, flat_map, hex2, hex_digit, in_order, is_ascii_hexdigit, is_plain, is_text_byte, list_all, low_number, map, nat_lt, numbers_text, order_of, parts, pieces}
 use Rattle.stmt65.specs.declared.directive.Directive.TheVariants.{Word}
 use Rattle.stmt65.specs.Parts.{number_of}

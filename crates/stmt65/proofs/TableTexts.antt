@@ -1,7 +1,5 @@
 -- The texts of tables, from the front on.
-use Rattle.std.proofs.Common.{◌≡◌, ℕ, ◌<◌, ◌≤◌, List, [], ◌∷◌, ◌++◌, length, take, drop, get_or, refl, sym, ap, ◌∙◌, arith, append_assoc}
-use Rattle.std.proofs.lemmas.List.{append-nil, take-append-drop, length-take-le}
-use Rattle.std.proofs.lemmas.List.Sums.{prefix_len-le-length}
+use Rattle.stmt65.proofs.Lemmas.{◌++◌, ◌<◌, List, [], ap, append-nil, append_assoc, arith, drop, get_or, length, length-take-le, prefix_len-le-length, refl, sym, take, take-append-drop, ℕ, ◌∙◌, ◌∷◌, ◌≡◌, ◌≤◌}
 use Rattle.stmt65.specs.Words.{Directive, comma_list, cut_text, data_text, datum_text, entries, entry_len, entry_text, flat_map, hex2, is_plain, next_text, numbers_text, prefix_len, quoted}
 use Rattle.stmt65.proofs.Cases.{by_test}
 use Rattle.stmt65.proofs.SpacingLemmas.{run_passes}

@@ -1,6 +1,5 @@
 -- The bytes of a slice have 8 bits.
-use Rattle.std.proofs.Common.{ℕ, suc, ◌<◌, List, [], ◌∷◌, get_or, refl}
-use Rattle.std.proofs.lemmas.Bool.{lt-ltb}
+use Rattle.stmt65.proofs.Lemmas.{◌<◌, List, [], get_or, lt-ltb, refl, suc, ℕ, ◌∷◌}
 use Rattle.stmt65.specs.Words.{AreBytes}
 
 pub each_in_width : (xs : List ℕ) → ((i : ℕ) → get_or xs i 0 < 256) → AreBytes xs

@@ -1,5 +1,4 @@
-use Rattle.std.proofs.Common.{sym, ◌∙◌, arith}
-use Rattle.std.proofs.lemmas.List.{take_rest}
+use Rattle.stmt65.proofs.Lemmas.{arith, sym, take_rest, ◌∙◌}
 use Rattle.stmt65.proofs.TableTexts.{single_put, stretch_put}
 use Rattle.stmt65.proofs.printing.tables.put_first_datum.Goals as goal
 

@@ -1,5 +1,4 @@
-use Rattle.std.proofs.Common.{◌≡◌, ◌≤◌, length, sym, ◌∙◌, arith}
-use Rattle.std.proofs.lemmas.Bool.{eqb-true}
+use Rattle.stmt65.proofs.Lemmas.{arith, eqb-true, length, sym, ◌∙◌, ◌≡◌, ◌≤◌}
 use Rattle.stmt65.proofs.TableTexts.{text_step, text_end}
 use Rattle.stmt65.proofs.printing.tables.put_text.Goals as goal
 
