@@ -1,6 +1,6 @@
 -- A printed line has no line feed before its end.
 use Rattle.stmt65.proofs.Lemmas.{◌%◌, ◌++◌, ◌/◌, ◌<◌, Bool, List, None, Option, Some, [], and_parts, arith, cpu_name, decimal_is_IsNumeral, eqb, false, list_all-append, ltb, nat_tests, refl, replicate, reverse, suc, true, zero, ℕ, ◌∙◌, ◌∷◌, ◌≡◌}
-use Rattle.stmt65.specs.Words.{◌==◌, Adc, Columns, Datum, Directive, ExprView, Field, HasLabelName, HasNames, Imp, IsInWidth, IsPrintable, Mnemonic, Mode, OperandKind, OperandsView, RemarksView, Row, StatementView, bytes_text, character, codes, comma_list, cpu_text, cut_text, datum_text, decimal, digits2, directive_text, distance_text, entries, entry_text, expression, fields_of, filled, flat_map, has_name_form, hex2, hex4, hex_digit, in_order, in_pattern, instr_fields, is_ascii_digit, is_name, is_text_byte, kind_text, kind_texts, label_fields, level_fields, line_of, list_all, map, named_text, next_text, not, numbers_text, offset_text, operand_text, order_of, prefix_text, quoted, text_of, with_fields}
+use Rattle.stmt65.specs.Words.{◌==◌, Adc, Columns, Datum, Directive, ExprView, Field, HasLabelName, HasNames, Imp, IsInWidth, IsPrintable, Mnemonic, Mode, OperandKind, OperandsView, RemarksView, Row, StatementView, bytes_text, character, codes, comma_list, cpu_text, cut_text, datum_text, decimal, digits2, directive_text, distance_text, entries, entry_text, fields_of, filled, flat_map, has_name_form, hex2, hex4, hex_digit, in_order, in_pattern, instr_fields, is_ascii_digit, is_name, is_text_byte, kind_text, kind_texts, label_fields, level_fields, line_of, list_all, map, named_text, next_text, not, numbers_text, offset_text, operand_text, order_of, prefix_text, quoted, text_of, with_fields}
 use Rattle.isa65.specs.declared.row.OperandKind.TheVariants as kind
 use Rattle.isa65.specs.declared.row.Row.TheVariants as row
 use Rattle.stmt65.specs.declared.directive.Directive.TheVariants as directive
@@ -82,11 +82,7 @@ texts_line h _ _ n = tt
 pattern_line : (pattern : List ℕ) (texts : List (List ℕ)) → InLine pattern → AreInLine texts → InLine (in_pattern pattern texts)
 pattern_line [] texts h g = refl
 pattern_line (c ∷ pattern) [] h g = let a = and_parts (in_line c) (list_all in_line pattern) h in rw (a.0, pattern_line pattern [] a.1 g) refl
-pattern_line (c ∷ pattern) (t ∷ texts) h g =
-    let a = and_parts (in_line c) (list_all in_line pattern) h in
-    by_test (c == expression)
-    (λ e. rw e (joined t (in_pattern pattern texts) g.0 (pattern_line pattern texts a.1 g.1)))
-    (λ e. rw (e, a.0, pattern_line pattern (t ∷ texts) a.1 g) refl)
+pattern_line (c ∷ pattern) (t ∷ texts) h g = grind (arith, by_test, and_parts, joined, (pattern_line pattern texts), (pattern_line pattern (t ∷ texts)))
 
 operand_line : (h : Bool) (m : Mode) (a : Bool) (os : OperandsView) → AreRead os → InLine (operand_text h m a os)
 unfolding operand_text
@@ -96,9 +92,7 @@ operand_line h m a os n = grind (arith, joined, prefix_line, pattern_line, texts
 
 more_line : {A : Type 0} (text : A → List ℕ) (p : A → Bool) → ((x : A) → p x ≡ true → InLine (text x)) → (xs : List A) → list_all p xs ≡ true → InLine (flat_map (next_text text) xs)
 more_line text p each [] h = refl
-more_line text p each (x ∷ xs) h =
-    let a = and_parts (p x) (list_all p xs) h in
-    joined (next_text text x) (flat_map (next_text text) xs) (each x a.0) (more_line text p each xs a.1)
+more_line text p each (x ∷ xs) h = grind (arith, and_parts, joined, (more_line text p each xs))
 
 list_line : {A : Type 0} (text : A → List ℕ) (p : A → Bool) → ((x : A) → p x ≡ true → InLine (text x)) → (xs : List A) → list_all p xs ≡ true → InLine (comma_list text xs)
 unfolding comma_list

@@ -1,7 +1,7 @@
 -- A listing means in a repair what it means by itself.
 use Rattle.stmt65.proofs.Lemmas.{All-head, All-tail, List, None, Option, Some, [], and_parts, ap, arith, eqb, eqb-true, false, map, refl, suc, sym, true, zero, ℕ, ◌∙◌, ◌∷◌, ◌≡◌}
 use Rattle.isa65.specs.declared.cpu.Cpu.TheVariants.{M65C02, M65SC02}
-use Rattle.stmt65.specs.Words.{All, Asl, Cpu, Definition, Empty, Imp, Inc, Instr, IsFaultless, IsSpelling, KeepsListings, Language, Line, Listing, M6502, Mnemonic, Operation, Part, Repair, Ror, SourceLine, State, Statement, after, coding, encoded, fault_of, has_no_form, initial, is_blank, lines_below, list_all, meaning_in, meaning_of, names_of, part_at, parts, parts_after, reading_of, readings, table_of, takes_accumulator, text_lines, ways}
+use Rattle.stmt65.specs.Words.{All, Asl, Cpu, Definition, Empty, Imp, Inc, Instr, IsFaultless, IsSpelling, KeepsListings, Language, Line, Listing, M6502, Mnemonic, Operation, Repair, Ror, SourceLine, State, Statement, after, coding, encoded, fault_of, has_no_form, initial, lines_below, meaning_in, meaning_of, names_of, part_at, parts, parts_after, reading_of, readings, table_of, takes_accumulator, text_lines, ways}
 use Rattle.stmt65.specs.Types.{Dec, Lsr, Rol}
 use Rattle.stmt65.proofs.Cases.{by_test, by_option}
 use Rattle.stmt65.proofs.ReadIsSpelled.{at, reading_read}
@@ -24,14 +24,7 @@ parts_alike : (skip : ℕ) (bs : List ℕ) → AreClosed (parts_after Listing sk
 unfolding parts_after
 parts_alike skip [] h = refl
 parts_alike (suc skip) (b ∷ bs) h = parts_alike skip bs h
-parts_alike zero (b ∷ bs) h =
-    by_test (is_blank b)
-    (λ e. rw e (parts_alike 0 bs (rw e at h)))
-    (λ e. by_test (eqb b 59)
-    (λ s. rw (e, s) refl)
-    (λ s. let h' = rw (e, s) at h in
-    let two = and_parts (is_closed (part_at Listing b bs).0) (list_all is_closed (parts_after Listing (part_at Listing b bs).1 bs)) h' in
-    rw (e, s, part_alike b bs two.0) (ap (λ (ps : List Part). (part_at Listing b bs).0 ∷ ps) (parts_alike (part_at Listing b bs).1 bs two.1))))
+parts_alike zero (b ∷ bs) h = grind (arith, by_test, and_parts, part_alike, (parts_alike 0 bs), (parts_alike (part_at Listing b bs).1 bs))
 
 -- ---- lines without a fault
 

@@ -15,9 +15,7 @@ at_least p (x ∷ xs) ys h = let b = and_parts (p x) (list_all p xs) h in rw b.0
 pub run_passes : (p : ℕ → Bool) (n : ℕ) (xs : List ℕ) → n ≤ prefix_len p xs → list_all p (take n xs) ≡ true
 run_passes p zero xs le = refl
 run_passes p (suc n) [] le = refl
-run_passes p (suc n) (x ∷ xs) le = by_test (p x)
-    (λ t. let le : suc n ≤ 1 + prefix_len p xs = rw t at le in rw t (run_passes p n xs (omega arith)))
-    (λ t. let le : suc n ≤ 0 = rw t at le in absurd (omega arith))
+run_passes p (suc n) (x ∷ xs) le = grind (arith, by_test, (run_passes p n xs))
 
 -- ---- the part in front
 

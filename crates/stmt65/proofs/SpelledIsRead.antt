@@ -122,23 +122,13 @@ direct_alone l size v ps h = direct l size v [] ps _ h (λ rest g. rw (nothing_l
 
 direct_x : (l : Language) (size : AddressSize) (v : Value) (ps : List Part) → Spells (prefix_items (is_absolute size) ++ value v ∷ mark 44 ∷ word (codes "x") ∷ []) ps → form_of l ps ≡ Some (One (sized size DirectX) v)
 unfolding tail_at
-direct_x l size v ps h =
-    direct l size v _ ps _ h (λ rest g. let c = un_mark 44 _ rest g in let x = un_word (codes "x") [] c.0 c.2 in
-    rw (c.1, x.2, nothing_left x.1 x.4) (stops_mark 44 _ refl refl, rw x.3 refl))
+direct_x l size v ps h = direct l size v _ ps _ h (λ rest g. grind (arith, un_mark, un_word, nothing_left, stops_mark))
 
 direct_y : (l : Language) (size : AddressSize) (v : Value) (ps : List Part) → Spells (prefix_items (is_absolute size) ++ value v ∷ mark 44 ∷ word (codes "y") ∷ []) ps → form_of l ps ≡ Some (One (sized size DirectY) v)
 unfolding tail_at
 direct_y l size v ps h =
     direct l size v _ ps _ h (λ rest g. let c = un_mark 44 _ rest g in let y = un_word (codes "y") [] c.0 c.2 in
     rw (c.1, y.2, nothing_left y.1 y.4) (stops_mark 44 _ refl refl, rw (other y.0 (codes "y") (codes "x") y.3 refl, y.3) refl))
-
--- an operand that begins with `(` and a value
-bracketed : (l : Language) (v : Value) (is : List Item) (ps : List Part) (f : Form)
-    → Spells (mark 40 ∷ value v ∷ is) ps
-    → ((rest : List Part) → Spells is rest → Stops rest × (inner_at v rest ≡ Some f))
-    → form_of l ps ≡ Some f
-unfolding form_of
-bracketed l v is ps f h k = grind (arith, un_mark, un_value, address_again)
 
 form_again : (l : Language) (f : Form) (ps : List Part) → Spells (form_items f) ps → form_of l ps ≡ Some f
 unfolding form_of immediate_of tail_at inner_at
@@ -156,14 +146,9 @@ form_again l (One notation.AbsoluteY v) ps h = direct_y l Absolute v ps h
 form_again l (Two v u) ps h =
     direct l Automatic v _ ps _ h (λ rest g. let c = un_mark 44 _ rest g in let e = un_value u [] c.0 c.2 in let b = value_begins u e.0 [] e.3 in
     rw (c.1, e.2, nothing_left e.1 e.4) (stops_mark 44 _ refl refl, rw (b.x, b.y, address_again l u e.0 [] e.3 stops_nil) refl))
-form_again l (One (notation.Plain Indirect) v) ps h =
-    bracketed l v _ ps _ h (λ rest g. let c = un_mark 41 [] rest g in rw (c.1, nothing_left c.0 c.2) (stops_mark 41 _ refl refl, refl))
-form_again l (One (notation.Plain IndirectX) v) ps h =
-    bracketed l v _ ps _ h (λ rest g. let c = un_mark 44 _ rest g in let x = un_word (codes "x") _ c.0 c.2 in let d = un_mark 41 [] x.1 x.4 in
-    rw (c.1, x.2, d.1, nothing_left d.0 d.2) (stops_mark 44 _ refl refl, rw x.3 refl))
-form_again l (One (notation.Plain IndirectY) v) ps h =
-    bracketed l v _ ps _ h (λ rest g. let d = un_mark 41 _ rest g in let c = un_mark 44 _ d.0 d.2 in let y = un_word (codes "y") [] c.0 c.2 in
-    rw (d.1, c.1, y.2, nothing_left y.1 y.4) (stops_mark 41 _ refl refl, rw y.3 refl))
+form_again l (One (notation.Plain Indirect) v) ps h = grind (arith, un_mark, un_value, nothing_left, stops_mark, address_again)
+form_again l (One (notation.Plain IndirectX) v) ps h = grind (arith, un_mark, un_word, un_value, nothing_left, stops_mark, address_again)
+form_again l (One (notation.Plain IndirectY) v) ps h = grind (arith, un_mark, un_word, un_value, nothing_left, stops_mark, address_again)
 
 -- ---- lists
 
