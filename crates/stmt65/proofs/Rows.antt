@@ -1,7 +1,6 @@
 -- The definitions at lines of listings.
 use Rattle.std.proofs.Common.{◌≡◌, ℕ, Bool, true, false, List, [], ◌∷◌, ◌++◌, Option, Some, None, refl}
-use Rattle.std.specs.Prelude.{decimal}
-use Rattle.stmt65.specs.Words.{Abs, Absindx, Absx, Absy, Acc, Addr, Asl, Bbr0, Bne, Dbyt, Dword, ExprView, Imm, Imp, Ind, Indx, Indy, Jmp, Lda, Ldx, M6502, Mnemonic, Mode, OperandsView, Rel, RemarksView, Rts, Sta, StatementView, Zp, Zpind, Zprel, Zpx, Zpy, codes, comma_list, cut_text, default_columns, directive_text, entries, filled, line_of, map, numbers_text, offset_text, operand_text, pieces, replicate}
+use Rattle.stmt65.specs.Words.{Abs, Absindx, Absx, Absy, Acc, Addr, Asl, Bbr0, Bne, Dbyt, Dword, ExprView, Imm, Imp, Ind, Indx, Indy, Jmp, Lda, Ldx, M6502, Mnemonic, Mode, OperandsView, Rel, RemarksView, Rts, Sta, StatementView, Zp, Zpind, Zprel, Zpx, Zpy, codes, comma_list, cut_text, decimal, default_columns, directive_text, entries, filled, line_of, map, numbers_text, offset_text, operand_text, pieces, replicate}
 use Rattle.stmt65.specs.declared.directive.Directive.TheVariants.{Word}
 use Rattle.stmt65.specs.Views as view
 

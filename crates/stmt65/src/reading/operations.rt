@@ -33,9 +33,7 @@ trait Listed<'a, R>: Sized {
 }
 
 impl<'a> Listed<'a, Language> for Datum<'a> {
-    ghost use Rattle.stmt65.specs.SourceLine.{Datum as ADatum};
-    ghost use Rattle.stmt65.specs.Code.SourceLineViews.{datum_of};
-    ghost use Rattle.stmt65.specs.Reading.{next_datum};
+    ghost use Rattle.stmt65.specs.Words.{Datum as ADatum, datum_of, next_datum};
 
     ghost Seen = { ADatum };
 
@@ -56,9 +54,7 @@ impl<'a> Listed<'a, Language> for Datum<'a> {
 }
 
 impl<'a> Listed<'a, Language> for Value<'a> {
-    ghost use Rattle.stmt65.specs.SourceLine.{Value as AValue};
-    ghost use Rattle.stmt65.specs.Code.SourceLineViews.{value_of};
-    ghost use Rattle.stmt65.specs.Reading.{next_value};
+    ghost use Rattle.stmt65.specs.Words.{Value as AValue, value_of, next_value};
 
     ghost Seen = { AValue };
 
@@ -72,9 +68,7 @@ impl<'a> Listed<'a, Language> for Value<'a> {
 }
 
 impl<'a> Listed<'a, Half> for Datum<'a> {
-    ghost use Rattle.stmt65.specs.SourceLine.{Datum as ADatum};
-    ghost use Rattle.stmt65.specs.Code.SourceLineViews.{datum_of};
-    ghost use Rattle.stmt65.specs.Reading.{next_half};
+    ghost use Rattle.stmt65.specs.Words.{Datum as ADatum, datum_of, next_half};
 
     ghost Seen = { ADatum };
 

@@ -1,5 +1,4 @@
-use Rattle.std.proofs.Common.{◌≡◌, ◌+◌, ◌++◌, length, take, map}
-use Rattle.stmt65.specs.Words.{character}
+use Rattle.stmt65.specs.Words.{◌+◌, ◌++◌, character, length, map, take, ◌≡◌}
 use Rattle.stmt65.proofs.printing.levels.put_characters.Given as goal
 
 abbrev pub invariant-loop-byte : goal.invariant-loop-byte

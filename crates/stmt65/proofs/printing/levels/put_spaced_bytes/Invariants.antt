@@ -1,5 +1,4 @@
-use Rattle.std.proofs.Common.{◌≡◌, ◌+◌, ◌*◌, ◌++◌, length, take}
-use Rattle.stmt65.specs.Words.{flat_map, spaced_byte}
+use Rattle.stmt65.specs.Words.{◌*◌, ◌+◌, ◌++◌, flat_map, length, spaced_byte, take, ◌≡◌}
 use Rattle.stmt65.proofs.printing.levels.put_spaced_bytes.Given as goal
 
 abbrev pub invariant-loop-byte : goal.invariant-loop-byte

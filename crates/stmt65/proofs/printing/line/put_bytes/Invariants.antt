@@ -1,5 +1,4 @@
-use Rattle.std.proofs.Common.{◌≡◌, ◌+◌, ◌*◌, ◌++◌, length, take}
-use Rattle.stmt65.specs.Words.{flat_map, hex2, next_text}
+use Rattle.stmt65.specs.Words.{◌*◌, ◌+◌, ◌++◌, flat_map, hex2, length, next_text, take, ◌≡◌}
 use Rattle.stmt65.proofs.printing.line.put_bytes.Given as goal
 
 abbrev pub invariant-loop-byte : goal.invariant-loop-byte

@@ -1,5 +1,4 @@
-use Rattle.std.proofs.Common.{◌≡◌, ◌+◌, ◌*◌, ◌++◌, length, take}
-use Rattle.stmt65.specs.Words.{digits2, flat_map}
+use Rattle.stmt65.specs.Words.{◌*◌, ◌+◌, ◌++◌, digits2, flat_map, length, take, ◌≡◌}
 use Rattle.stmt65.proofs.printing.tables.put_all.Given as goal
 
 abbrev pub invariant-loop-byte : goal.invariant-loop-byte

@@ -1,5 +1,4 @@
-use Rattle.std.proofs.Common.{◌<◌, length}
-use Rattle.stmt65.specs.Words.{Lists, entries, entry_text, len_with}
+use Rattle.stmt65.specs.Words.{◌<◌, Lists, entries, entry_text, len_with, length}
 use Rattle.stmt65.proofs.printing.tables.put_entries.Given as goal
 
 abbrev pub invariant-entries : goal.invariant-entries

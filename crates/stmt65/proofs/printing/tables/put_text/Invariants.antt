@@ -1,5 +1,4 @@
-use Rattle.std.proofs.Common.{◌<◌, length}
-use Rattle.stmt65.specs.Words.{Lists, cut_text, datum_text, len_with}
+use Rattle.stmt65.specs.Words.{◌<◌, Lists, cut_text, datum_text, len_with, length}
 use Rattle.stmt65.proofs.printing.tables.put_text.Given as goal
 
 abbrev pub invariant-data : goal.invariant-data

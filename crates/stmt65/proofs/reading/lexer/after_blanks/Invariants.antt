@@ -1,5 +1,4 @@
-use Rattle.std.proofs.Common.{◌≡◌, drop}
-use Rattle.stmt65.specs.Words.{Language, parts}
+use Rattle.stmt65.specs.Words.{Language, drop, parts, ◌≡◌}
 use Rattle.stmt65.proofs.reading.lexer.after_blanks.Given as goal
 
 abbrev pub invariant-loop-i : goal.invariant-loop-i
