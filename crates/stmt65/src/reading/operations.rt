@@ -167,12 +167,10 @@ fn list_in<'a, R: Copy, T: Listed<'a, R> + Drop, A: Allocator>(
 fn text_in<'a>(parts: &mut Parts<'a>) -> Option<&'a [u8]>
     ensures { Gives (λ t. t.now) result (text_in parts.old) }
 {
-    if let Some(Part::Text(text)) = parts.next() {
-        if parts.is_done() {
-            return Some(text);
-        }
+    match parts.next()? {
+        Part::Text(text) => parts.is_done().then_some(text),
+        _ => None,
     }
-    None
 }
 
 fn segment<'a, A: Allocator>(parts: &mut Parts<'a>) -> Option<Operation<'a, A>>

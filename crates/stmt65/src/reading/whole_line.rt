@@ -1,6 +1,6 @@
 //! What a line says.
 
-ghost use Rattle.stmt65.specs.Words.{Gives, GivesIfOk, None, OnFalse, OnTrue, Some, constant_of, drop, is_equals, line_at, number_of_name, operation_at, option_copied, option_map, parts, reading_of, source_of, stated, ◌≡◌};
+ghost use Rattle.stmt65.specs.Words.{Gives, GivesIfOk, None, Some, constant_of, line_at, number_of_name, operation_at, option_copied, option_map, parts, reading_of, source_of, stated, ◌≡◌};
 ghost use Rattle.stmt65.specs.Code.SourceLineViews.{operation_of};
 
 use crate::language::Language;
@@ -52,19 +52,7 @@ fn stated<'a, A: Allocator>(
     Some(SourceLine::Statement { label, operation })
 }
 
-/// Takes `=`, which in a repair is as good as `:=` before a number.
-fn eat_equals(language: Language, parts: &mut Parts<'_>) -> bool
-    ensures value { result ≡ is_equals language parts.old }
-    ensures taken { OnTrue result (parts.new ≡ drop 1 parts.old) }
-    ensures left { OnFalse result (parts.new ≡ parts.old) }
-{
-    match language {
-        Language::Listing => false,
-        Language::Repair => parts.eat(b'='),
-    }
-}
-
-/// A line that begins with the word.
+/// A line that begins with the word. In a repair `=` is as good as `:=` before a number.
 #[tactic(auto, unfolding(crate::specs::Reading::line_at))]
 fn line_at<'a, A: Allocator>(
     alloc: A,
@@ -87,7 +75,7 @@ fn line_at<'a, A: Allocator>(
             None
         });
     }
-    if eat_equals(language, parts) {
+    if language == Language::Repair && parts.eat(b'=') {
         return Ok(if is_name(word) {
             number_of_name(word, parts)
         } else {
