@@ -8,7 +8,7 @@ import re
 from definitions import definitions, specs_file
 from source import ALL_CRATES, ROOT, imports
 
-USE = re.compile(r"( *)(?:ghost )?use (Rattle\.(\w+)\.specs\.[^;]+);?")
+USE = re.compile(r"( *)(?:ghost |(?:unfoldable )?pub )?use (Rattle\.(\w+)\.specs\.[^;]+);?")
 
 
 def handed_on(crate, name):
