@@ -1,14 +1,16 @@
 -- The text of the lines `#: ..`, line by line, and its groups, token by token.
-use Rattle.std.proofs.Common.{◌≡◌, ◌∙◌, ◌<◌, ◌+◌, ◌-◌, ℕ, zero, suc, Bool, true, false, List, [], ◌∷◌, ◌++◌, ap, append_assoc, arith, drop, get_or, length, refl, sym, take}
-use Rattle.std.specs.Prelude.{◌==◌, Result, Ok, Err}
+use Rattle.std.proofs.Common.{◌≡◌, ◌∙◌, ◌<◌, ◌+◌, ◌-◌, ℕ, zero, suc, Bool, true, false, List, [], ◌∷◌, ◌++◌, ap, append_assoc, append-nil, arith, drop, get_or, length, refl, sym, take}
+use Rattle.std.specs.Prelude.{◌==◌, ◌&&◌, Option, Some, None, Result, Ok, Err}
+use Rattle.std.specs.Option.{option_to_list}
 use Rattle.std.proofs.Math.ListN.{replicate}
 use Rattle.std.proofs.lemmas.Bool.{and_parts, eq-eqb, eqb-true, ne_eqb}
 use Rattle.std.proofs.lemmas.List.{drop_more, get_or-take, length-append, length-take-le, take-append-drop, take_rest}
 use Rattle.memchr.specs.Find.{NoneBefore, Nowhere, Passes, is_byte}
 use Rattle.info65.specs.Tags.{at_start, in_groups, in_other}
-use Rattle.info65.specs.Words.{InfoFault, IsLine, Next, Outcome, Spot, Steps, Stream, TokenView, Turns, done, ended, opens_groups, seen, spot_after, stepped, tag_end, tag_step, tagged_byte, tagged_from, tagged_text, tags_from, turn_of, with_token}
-use Rattle.info65.specs.declared.syntax.lexer.Next.TheVariants as next
+use Rattle.info65.specs.Types.{Tag, Token}
+use Rattle.info65.specs.Words.{Expected, InfoFault, IsLine, KindView, Outcome, Spot, StepsTo, Stream, TokenView, Turns, at_closed, at_outside, between, ended, fault, is_semicolon, opens_groups, refused, seen, semicolon, spot_after, stays, tag_end, tag_step, tagged_byte, tagged_from, tagged_text, tags_from, tags_read, wanted, with_closed, with_token}
 use Rattle.info65.specs.declared.tags.place.Stage.{Stage}
+use Rattle.info65.specs.declared.tags.place.Stage.TheVariants as place
 
 -- a line feed ends a line
 pub lines_apart : (p : Spot) (line rest : List ℕ) → tagged_from p (line ++ 10 ∷ rest) ≡ tagged_from p line ++ 10 ∷ tagged_text rest
@@ -92,18 +94,51 @@ line_added bytes left line after old cut so =
 pub after_line : (left line after : List ℕ) → left ≡ line ++ 10 ∷ after → length after < length left
 after_line left line after cut = let all : length left ≡ length line + suc (length after) = ap length cut ∙ length-append line (10 ∷ after) in omega (arith, all)
 
-token-turns : (p : Stage) (t : TokenView) (new : Stream) (r : Result Outcome InfoFault) → tag_step p t ≡ r → Turns p (with_token t new) (stepped r) new
-unfolding tags_from
-token-turns p t new (Ok o) is = (λ found. rw is refl, omega arith)
-token-turns p t new (Err e) is = λ found. rw is refl
+closed-too : (found : List Tag) (o : Option Tag) → found ++ option_to_list o ≡ with_closed found o
+closed-too found None = append-nil found
+closed-too found (Some t) = refl
 
-end-turns : (p : Stage) (line : ℕ) (new : Stream) (r : Result Bool InfoFault) → tag_end p line ≡ r → Turns p (ended line) (done r) new
+-- a token at a place
+pub token_turns : {X : Type 0} (p : Stage) (t : Token) (old new : Stream) (r : Result X InfoFault) (next : X → Outcome) → old ≡ with_token (seen t) new → StepsTo p t r next → Turns p old r next new
 unfolding tags_from
-end-turns p line new (Ok b) is = λ found. rw is refl
-end-turns p line new (Err e) is = λ found. rw is refl
+token_turns p t old new (Ok x) next is leads = rw is (λ found. rw leads (ap (λ l. tags_read (next x).place l new) (closed-too found (next x).closed)), omega arith)
+token_turns p t old new (Err e) next is leads = rw is (λ found. rw leads refl)
 
-pub turns : (p : Stage) (old new : Stream) (read : Result Next InfoFault) → Steps old read new → Turns p old (turn_of p read) new
+-- the end or a fault, where a token is due
+pub none_turns : (p : Stage) (old : Stream) (e : InfoFault) → ((line : ℕ) → tag_end p line ≡ Err (fault line Expected)) → (old.tokens ≡ []) × (wanted old.ending ≡ e) → (found : List Tag) → tags_read p found old ≡ Err e
 unfolding tags_from
-turns p old new (Ok (next.Token t)) is = rw is (token-turns p (seen t) new (tag_step p (seen t)) refl)
-turns p old new (Ok (next.End line)) is = rw is.0 (end-turns p line new (tag_end p line) refl)
-turns p old new (Err e) is = λ found. rw is.0 refl
+none_turns p old e due is found = by_ending old.tokens old.ending is.0 is.1
+  where
+    by_ending : (ts : List TokenView) (ending : Result ℕ InfoFault) → ts ≡ [] → wanted ending ≡ e → tags_from p found ts ending ≡ Err e
+    by_ending [] (Ok line) none so = (rw (due line) (ap (λ f. Err f) so))
+    by_ending [] (Err f) none so = ap (λ f. Err f) so
+    by_ending (t ∷ ts) ending none so = cc
+
+-- ---- between two groups
+
+pub between_end : (after : Bool) (found : List Tag) (old : Stream) (line : ℕ) → old ≡ ended line → tags_read (between after) found old ≡ Ok found
+unfolding tags_from tag_end
+between_end true found old line is = rw is refl
+between_end false found old line is = rw is refl
+
+pub between_fault : (after : Bool) (found : List Tag) (old : Stream) (e : InfoFault) → old ≡ refused e → tags_read (between after) found old ≡ Err e
+unfolding tags_from
+between_fault true found old e is = rw is refl
+between_fault false found old e is = rw is refl
+
+semicolon-closes : (k : KindView) (line : ℕ) (text : List ℕ) → is_semicolon k ≡ true → at_closed k line text ≡ Ok (stays place.Outside)
+semicolon-closes semicolon line text is = refl
+semicolon-closes _ line text is = absurd cc
+
+group-after : (k : KindView) (line : ℕ) (text : List ℕ) → is_semicolon k ≡ false → at_closed k line text ≡ at_outside k line text
+group-after semicolon line text isnt = absurd cc
+group-after _ line text isnt = refl
+
+pub between_separator : (found : List Tag) (t : TokenView) (old new : Stream) → old ≡ with_token t new → is_semicolon t.kind ≡ true → tags_read place.Closed found old ≡ tags_read place.Outside found new
+unfolding tags_from tag_step
+between_separator found t old new is mark = rw (is, semicolon-closes t.kind t.line t.text mark) (ap (λ l. tags_read place.Outside l new) (append-nil found))
+
+pub between_group : (after : Bool) (found : List Tag) (t : TokenView) (old new : Stream) → old ≡ with_token t new → (after && is_semicolon t.kind) ≡ false → tags_read (between after) found old ≡ tags_read place.Outside found (with_token t new)
+unfolding tags_from tag_step
+between_group true found t old new is other = rw (is, group-after t.kind t.line t.text other) refl
+between_group false found t old new is other = rw is refl

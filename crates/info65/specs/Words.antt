@@ -1,5 +1,5 @@
 -- The words of clauses and proofs, here and in the crates above, from one place.
-pub use Rattle.info65.specs.Types.{Address, Attribute, BadByte, BadInclude, BadName, BadNumber, BigEndian, Character, Class, Cpu, Expected, ValueForm, Given, GivenTwice, Group, GroupKind, InfoFault, InfoFaultKind, Instruction, LittleEndian, Missing, NameTwice, Next, Number, OpenString, OutOfRange, RangeSpec, RangeType, RangesOverlap, ReservedName, Return, SegmentSpec, SegmentsOverlap, Skipped, Span, Start, TokenKind, TooLarge, UnknownAttribute, UnknownGroup, Value}
+pub use Rattle.info65.specs.Types.{Address, Attribute, BadByte, BadInclude, BadName, BadNumber, BigEndian, Character, Class, Cpu, Expected, ValueForm, Given, GivenTwice, Group, GroupKind, InfoFault, InfoFaultKind, Instruction, LittleEndian, Missing, NameTwice, Number, OpenString, OutOfRange, RangeSpec, RangeType, RangesOverlap, ReservedName, Return, SegmentSpec, SegmentsOverlap, Skipped, Span, Start, TokenKind, TooLarge, UnknownAttribute, UnknownGroup, Value}
 unfoldable pub use Rattle.info65.specs.Attributes.{attribute_named, boolean_named, form_of, group_named, type_named}
 pub use Rattle.info65.specs.Closing.{label_fault, optional_name_fault, range_fault, segment_fault}
 unfoldable pub use Rattle.info65.specs.Closing.{closing_fault}
@@ -20,10 +20,10 @@ pub use Rattle.info65.specs.Code.Reading.{Advances, Leads, Moves, ReadsGroup, Ta
 pub use Rattle.info65.specs.Code.Results.{Adds, Fails, Gives, MayName, Sees}
 pub use Rattle.info65.specs.Code.SegmentTable.{AreFound, AreKeys, AreStarts, IsHolder, IsKeyAt, IsOrder, IsPlace, IsRest, IsSlotted, IsSplit, IsStart, blank_start, key_found, start_at}
 pub use Rattle.info65.specs.Code.Segments.{parts_seen, segment_seen, segments_seen}
-pub use Rattle.info65.specs.Code.Steps.{Steps, kind_seen, lexeme_seen, seen}
+pub use Rattle.info65.specs.Code.Steps.{kind_seen, lexeme_seen, seen}
 pub use Rattle.info65.specs.Code.Texts.{AddsText, StandsAlike, TextsView, texts_seen}
 unfoldable pub use Rattle.info65.specs.Code.Texts.{hash_from, slot_of}
-pub use Rattle.info65.specs.Code.Turns.{Turns, done, stepped, turn_of}
+pub use Rattle.info65.specs.Code.Turns.{StepsTo, Turns, after_name, assigns, between, closes, opens, stays, tags_read, with_closed}
 pub use Rattle.info65.specs.Comments.{unless_empty}
 unfoldable pub use Rattle.info65.specs.Comments.{comment_in, lacks_name}
 unfoldable pub use Rattle.info65.specs.Digits.{number_of_digits}
@@ -55,7 +55,7 @@ unfoldable pub use Rattle.info65.specs.Segments.{first_named, meets, segment_cov
 pub use Rattle.info65.specs.Settings.{info_of}
 unfoldable pub use Rattle.info65.specs.Settings.{settings_of}
 pub use Rattle.info65.specs.Standing.{Stand, TokensStand, feeds, is_gap, is_solid}
-pub use Rattle.info65.specs.Tags.{IsLine, Spot, at_assigned, at_closed, at_inside, at_opening, at_outside, at_valued, attributed, blank_tag, by_token, ended_at, is_backward, is_value, lacks, opens_groups, tagged_text, tags_in, with_value}
+pub use Rattle.info65.specs.Tags.{IsLine, Spot, at_closed, at_outside, blank_tag, is_backward, is_value, lacks, opens_groups, tagged_text, tags_in, with_value}
 unfoldable pub use Rattle.info65.specs.Tags.{spot_after, tag_attribute, tag_end, tag_named, tag_step, tagged_byte, tagged_from, tags_from, tags_of}
 pub use Rattle.info65.specs.Tokens.{Stream, TokenView, ended, found, is_blank, opens_comment, refused, stops, tokens_of, with_token}
 unfoldable pub use Rattle.info65.specs.Tokens.{tokens_after}

@@ -48,7 +48,7 @@ pub fn read_groups<'a, A: Allocator + Copy, B: Allocator>(
     }
 }
 
-fn is_semicolon(kind: TokenKind) -> bool
+pub(crate) fn is_semicolon(kind: TokenKind) -> bool
     ensures { result ≡ is_semicolon (kind_seen kind.entry) }
 {
     matches!(kind, TokenKind::Semicolon)
@@ -62,7 +62,7 @@ fn expected(line: u32) -> InfoFault
 
 // The token that is due.
 #[inline(always)]
-fn due<'a>(lexer: &mut Lexer<'a>) -> Result<Token<'a>, InfoFault>
+pub(crate) fn due<'a>(lexer: &mut Lexer<'a>) -> Result<Token<'a>, InfoFault>
     ensures shorter { length lexer.new.tokens ≤ length lexer.old.tokens }
     ensures ok { IfOk result (λ t. lexer.old ≡ with_token (seen t) lexer.new) }
     ensures err { IfErr result (λ e. (lexer.old.tokens ≡ []) × (wanted lexer.old.ending ≡ e)) }

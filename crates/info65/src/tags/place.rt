@@ -1,14 +1,16 @@
 //! Where the reader of the lines `#: ..` is, and where a token leads from there.
 
 ghost use Rattle.std.specs.Prelude.{◌≡◌};
-ghost use Rattle.info65.specs.Words.{at_assigned, at_closed, at_inside, at_opening, at_outside, at_valued, attributed, by_token, done, ended_at, kind_seen, seen, stepped, tag_end, tag_step, turn_of};
+ghost use Rattle.info65.specs.Words.{Expected, StepsTo, after_name, assigns, fault, opens, stays};
+ghost use Rattle.info65.specs.Types.{Tag, TagKind};
+ghost use Rattle.info65.specs.declared.tags.place.Stage.TheVariants.{Assigned, Inside, Opening, Outside, Valued};
 
 use crate::fault::{InfoFault, InfoFaultKind};
-use crate::syntax::lexer::Next;
 use crate::syntax::token::{Token, TokenKind};
 use crate::tags::tag::{Tag, TagAttribute, TagKind, is_value, tag_attribute, tag_named};
 
-/// Where the reader is: outside of groups, right after one, before its brace, inside it, before a value, and after one.
+/// Where the reader is: outside of groups, right after one, before its brace, inside it, before a value, and after one. The definition of
+/// what is read goes from one to the next. The reader itself keeps none, since it would copy a group with each token.
 #[derive(Clone, Copy)]
 pub(crate) enum Stage {
     Outside,
@@ -26,178 +28,89 @@ pub(crate) struct Outcome {
     pub(crate) closed: Option<Tag>,
 }
 
-/// A fault at a line.
-fn refused(line: u32, kind: InfoFaultKind) -> Result<Outcome, InfoFault>
-    ensures { result ≡ Err (record { line = line; kind = kind }) }
+/// Another token is due.
+fn expected<T>(line: u32) -> Result<T, InfoFault>
+    ensures { result ≡ Err (fault line Expected) }
 {
-    Err(InfoFault { line, kind })
+    Err(InfoFault::new(line, InfoFaultKind::Expected))
 }
 
-/// No group is closed.
-fn at(place: Stage) -> Result<Outcome, InfoFault>
-    ensures { result ≡ Ok (record { place = place; closed = None }) }
+/// The group of this name.
+#[tactic(auto, unfolding(crate::specs::Tags::tag_step))]
+pub(crate) fn kind_of(name: Token<'_>) -> Result<TagKind, InfoFault>
+    ensures { StepsTo Outside name.entry result (λ k. stays (Opening k)) }
 {
-    Ok(Outcome {
-        place,
-        closed: None,
-    })
-}
-
-fn outside(token: Token<'_>) -> Result<Outcome, InfoFault>
-    ensures { result ≡ by_token at_outside (seen token.entry) }
-{
-    if token.kind != TokenKind::Word {
-        return refused(token.line, InfoFaultKind::Expected);
+    if name.kind != TokenKind::Word {
+        return expected(name.line);
     }
-    match tag_named(token.text) {
-        Some(kind) => at(Stage::Opening(kind)),
-        None => refused(token.line, InfoFaultKind::UnknownGroup),
+    match tag_named(name.text) {
+        Some(kind) => Ok(kind),
+        None => Err(InfoFault::new(name.line, InfoFaultKind::UnknownGroup)),
     }
 }
 
-fn closed(token: Token<'_>) -> Result<Outcome, InfoFault>
-    ensures { result ≡ by_token at_closed (seen token.entry) }
+/// The line of the brace that opens a group.
+#[tactic(auto, unfolding(crate::specs::Tags::tag_step))]
+pub(crate) fn opening_line(brace: Token<'_>) -> Result<u32, InfoFault>
+    ensures { (k : TagKind) → StepsTo (Opening k) brace.entry result (opens k) }
+{
+    match brace.kind {
+        TokenKind::OpenBrace => Ok(brace.line),
+        _ => expected(brace.line),
+    }
+}
+
+/// The attribute that a token names in a group, or none at the end of the group.
+#[tactic(auto, unfolding(crate::specs::Tags::tag_step))]
+pub(crate) fn attribute_at(tag: Tag, token: Token<'_>) -> Result<Option<TagAttribute>, InfoFault>
+    ensures { StepsTo (Inside tag) token.entry result (after_name tag) }
 {
     match token.kind {
-        TokenKind::Semicolon => at(Stage::Outside),
-        _ => outside(token),
-    }
-}
-
-fn opening(kind: TagKind, token: Token<'_>) -> Result<Outcome, InfoFault>
-    ensures { result ≡ at_opening kind (kind_seen token.entry.kind) token.entry.line }
-{
-    match token.kind {
-        TokenKind::OpenBrace => at(Stage::Inside(Tag::new(kind, token.line))),
-        _ => refused(token.line, InfoFaultKind::Expected),
-    }
-}
-
-fn attributed(tag: Tag, line: u32, attribute: Option<TagAttribute>) -> Result<Outcome, InfoFault>
-    ensures { result ≡ attributed tag line attribute }
-{
-    match attribute {
-        Some(attribute) => {
-            if tag.value_at(attribute).is_some() {
-                return refused(line, InfoFaultKind::GivenTwice);
+        TokenKind::Word => match tag_attribute(tag.kind, token.text) {
+            Some(attribute) => {
+                if tag.value_at(attribute).is_some() {
+                    return Err(InfoFault::new(token.line, InfoFaultKind::GivenTwice));
+                }
+                Ok(Some(attribute))
             }
-            at(Stage::Valued(tag, attribute))
+            None => Err(InfoFault::new(token.line, InfoFaultKind::UnknownAttribute)),
+        },
+        TokenKind::CloseBrace => {
+            if tag.lacks() {
+                return Err(InfoFault::new(token.line, InfoFaultKind::Missing));
+            }
+            if tag.is_backward() {
+                return Err(InfoFault::new(token.line, InfoFaultKind::OutOfRange));
+            }
+            Ok(None)
         }
-        None => refused(line, InfoFaultKind::UnknownAttribute),
+        _ => expected(token.line),
     }
 }
 
-fn ended_at(tag: Tag, line: u32) -> Result<Outcome, InfoFault>
-    ensures { result ≡ ended_at tag line }
-{
-    if tag.lacks() {
-        return refused(line, InfoFaultKind::Missing);
-    }
-    if tag.is_backward() {
-        return refused(line, InfoFaultKind::OutOfRange);
-    }
-    Ok(Outcome {
-        place: Stage::Closed,
-        closed: Some(tag),
-    })
-}
-
-fn inside(tag: Tag, token: Token<'_>) -> Result<Outcome, InfoFault>
-    ensures { result ≡ by_token (at_inside tag) (seen token.entry) }
-{
-    match token.kind {
-        TokenKind::Word => attributed(tag, token.line, tag_attribute(tag.kind, token.text)),
-        TokenKind::CloseBrace => ended_at(tag, token.line),
-        _ => refused(token.line, InfoFaultKind::Expected),
-    }
-}
-
-fn valued(tag: Tag, attribute: TagAttribute, token: Token<'_>) -> Result<Outcome, InfoFault>
-    ensures { result ≡ at_valued tag attribute (kind_seen token.entry.kind) token.entry.line }
+/// The value that an attribute is given.
+#[tactic(auto, unfolding(crate::specs::Tags::tag_step))]
+pub(crate) fn value_of(attribute: TagAttribute, token: Token<'_>) -> Result<u16, InfoFault>
+    ensures { (t : Tag) → StepsTo (Valued t attribute) token.entry result (assigns t attribute) }
 {
     match token.kind {
         TokenKind::Number(number) => {
             if is_value(attribute, number) {
-                return at(Stage::Assigned(tag.with_value(attribute, number as u16)));
+                return Ok(number as u16);
             }
-            refused(token.line, InfoFaultKind::OutOfRange)
+            Err(InfoFault::new(token.line, InfoFaultKind::OutOfRange))
         }
-        _ => refused(token.line, InfoFaultKind::Expected),
+        _ => expected(token.line),
     }
 }
 
-fn assigned(tag: Tag, token: Token<'_>) -> Result<Outcome, InfoFault>
-    ensures { result ≡ at_assigned tag (kind_seen token.entry.kind) token.entry.line }
+/// What is given ends here.
+#[tactic(auto, unfolding(crate::specs::Tags::tag_step))]
+pub(crate) fn assigned(token: Token<'_>) -> Result<(), InfoFault>
+    ensures { (t : Tag) → StepsTo (Assigned t) token.entry result (λ _. stays (Inside t)) }
 {
     match token.kind {
-        TokenKind::Semicolon => at(Stage::Inside(tag)),
-        _ => refused(token.line, InfoFaultKind::Expected),
-    }
-}
-
-/// Where a token leads.
-#[tactic(auto, unfolding(crate::specs::Tags::tag_step))]
-pub(crate) fn step(place: Stage, token: Token<'_>) -> Result<Outcome, InfoFault>
-    ensures { result ≡ tag_step place (seen token.entry) }
-{
-    match place {
-        Stage::Outside => outside(token),
-        Stage::Closed => closed(token),
-        Stage::Opening(kind) => opening(kind, token),
-        Stage::Inside(tag) => inside(tag, token),
-        Stage::Valued(tag, attribute) => valued(tag, attribute, token),
-        Stage::Assigned(tag) => assigned(tag, token),
-    }
-}
-
-/// Whether the end may stand here.
-#[tactic(auto, unfolding(crate::specs::Tags::tag_end))]
-pub(crate) fn end(place: Stage, line: u32) -> Result<bool, InfoFault>
-    ensures { result ≡ tag_end place line }
-{
-    match place {
-        Stage::Outside | Stage::Closed => Ok(true),
-        _ => Err(InfoFault {
-            line,
-            kind: InfoFaultKind::Expected,
-        }),
-    }
-}
-
-/// What the reader does next: it goes on, or it is done.
-#[derive(Clone, Copy)]
-pub(crate) enum Turn {
-    Step(Outcome),
-    Done,
-}
-
-/// The turn of a token.
-fn stepped(outcome: Result<Outcome, InfoFault>) -> Result<Turn, InfoFault>
-    ensures { result ≡ stepped outcome }
-{
-    match outcome {
-        Ok(outcome) => Ok(Turn::Step(outcome)),
-        Err(fault) => Err(fault),
-    }
-}
-
-/// The turn of the end.
-fn done(end: Result<bool, InfoFault>) -> Result<Turn, InfoFault>
-    ensures { result ≡ done end }
-{
-    match end {
-        Ok(_) => Ok(Turn::Done),
-        Err(fault) => Err(fault),
-    }
-}
-
-/// What the reader does with what it has read.
-pub(crate) fn turn_of(place: Stage, read: Result<Next<'_>, InfoFault>) -> Result<Turn, InfoFault>
-    ensures { result ≡ turn_of place read.entry }
-{
-    match read {
-        Ok(Next::Token(token)) => stepped(step(place, token)),
-        Ok(Next::End(line)) => done(end(place, line)),
-        Err(fault) => Err(fault),
+        TokenKind::Semicolon => Ok(()),
+        _ => expected(token.line),
     }
 }

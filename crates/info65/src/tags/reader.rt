@@ -1,32 +1,69 @@
 //! Reads the groups of the lines `#: ..`.
 
-ghost use Rattle.std.specs.Prelude.{[], ◌≡◌, ◌++◌, ◌≤◌, length};
-ghost use Rattle.std.specs.Option.{option_to_list};
-ghost use Rattle.info65.specs.Words.{Adds, Gives, Turns, tags_in, tags_of};
+ghost use Rattle.std.specs.Prelude.{[], ◌≡◌, ◌≤◌, length};
+ghost use Rattle.info65.specs.Words.{Gives, Turns, after_name, assigns, closes, opens, seen, stays, tags_in, tags_of, with_token};
+ghost use Rattle.info65.specs.Types.{Tag, TagKind};
+ghost use Rattle.info65.specs.declared.tags.place.Stage.TheVariants.{Assigned, Inside, Opening, Outside, Valued};
 
 use crate::fault::InfoFault;
-use crate::syntax::lexer::Lexer;
-use crate::tags::place::{Stage, Turn, turn_of};
-use crate::tags::tag::Tag;
+use crate::syntax::lexer::{Lexer, Next};
+use crate::syntax::parser::{due, is_semicolon};
+use crate::syntax::token::Token;
+use crate::tags::place::{assigned, attribute_at, kind_of, opening_line, value_of};
+use crate::tags::tag::{Tag, TagAttribute};
 use crate::tags::tagged_text::tagged_text;
-use std::alloc::{AllocError, Allocator};
+use std::alloc::Allocator;
 
-/// Adds a group, if there is one.
-fn put<A: Allocator>(found: &mut Vec<Tag, A>, tag: Option<Tag>) -> Result<(), AllocError>
-    ensures { Adds result found.old found.new (option_to_list tag) }
+/// Reads the brace that opens a group, and returns its line.
+fn brace(lexer: &mut Lexer<'_>) -> Result<u32, InfoFault>
+    ensures { (k : TagKind) → Turns (Opening k) lexer.old result (opens k) lexer.new }
 {
-    if let Some(tag) = tag {
-        found.push(tag)?;
-    }
-    Ok(())
+    let token = due(lexer)?;
+    opening_line(token)
 }
 
-/// What the reader does next.
-#[tactic(auto, using(crate::proofs::TagLemmas::turns))]
-fn turn(lexer: &mut Lexer<'_>, place: Stage) -> Result<Turn, InfoFault>
-    ensures { Turns place lexer.old result lexer.new }
+/// Reads the name of an attribute of a group, or the end of the group.
+fn attribute(lexer: &mut Lexer<'_>, tag: Tag) -> Result<Option<TagAttribute>, InfoFault>
+    ensures { Turns (Inside tag) lexer.old result (after_name tag) lexer.new }
 {
-    turn_of(place, lexer.next())
+    let token = due(lexer)?;
+    attribute_at(tag, token)
+}
+
+/// Reads the value of an attribute.
+fn value(lexer: &mut Lexer<'_>, attribute: TagAttribute) -> Result<u16, InfoFault>
+    ensures { (t : Tag) →
+        Turns (Valued t attribute) lexer.old result (assigns t attribute) lexer.new }
+{
+    let token = due(lexer)?;
+    value_of(attribute, token)
+}
+
+/// Reads the `;` after a value.
+fn separator(lexer: &mut Lexer<'_>) -> Result<(), InfoFault>
+    ensures { (t : Tag) → Turns (Assigned t) lexer.old result (λ _. stays (Inside t)) lexer.new }
+{
+    let token = due(lexer)?;
+    assigned(token)
+}
+
+/// Reads the group of this name.
+fn group(lexer: &mut Lexer<'_>, name: Token<'_>) -> Result<Tag, InfoFault>
+    ensures { Turns Outside (with_token (seen name.entry) lexer.old) result closes lexer.new }
+{
+    let kind = kind_of(name)?;
+    let line = brace(lexer)?;
+    let mut tag = Tag::new(kind, line);
+    'attributes: loop {
+        match attribute(lexer, tag)? {
+            Some(attribute) => {
+                let value = value(lexer, attribute)?;
+                separator(lexer)?;
+                tag = tag.with_value(attribute, value);
+            }
+            None => return Ok(tag),
+        }
+    }
 }
 
 /// The groups of these tokens.
@@ -35,15 +72,19 @@ fn tags_in<A: Allocator>(alloc: A, tokens: Lexer<'_>) -> Result<Vec<Tag, A>, Inf
 {
     let mut found = Vec::new(alloc);
     let mut lexer = tokens;
-    let mut place = Stage::Outside;
-    'tokens: loop {
-        match turn(&mut lexer, place) {
-            Ok(Turn::Step(outcome)) => {
-                put(&mut found, outcome.closed)?;
-                place = outcome.place;
+    let mut after_group = false;
+    'groups: loop {
+        match lexer.next()? {
+            Next::End(_) => return Ok(found),
+            Next::Token(token) => {
+                if after_group && is_semicolon(token.kind) {
+                    after_group = false;
+                } else {
+                    let tag = group(&mut lexer, token)?;
+                    found.push(tag)?;
+                    after_group = true;
+                }
             }
-            Ok(Turn::Done) => return Ok(found),
-            Err(fault) => return Err(fault),
         }
     }
 }
