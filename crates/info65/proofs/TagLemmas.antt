@@ -104,6 +104,11 @@ unfolding tags_from
 token_turns p t old new (Ok x) next is leads = rw is (λ found. rw leads (ap (λ l. tags_read (next x).place l new) (closed-too found (next x).closed)), omega arith)
 token_turns p t old new (Err e) next is leads = rw is (λ found. rw leads refl)
 
+-- a `;` after a value
+pub semicolon_turns : (tag : Tag) (t : TokenView) (old new : Stream) → t.kind ≡ semicolon → old ≡ with_token t new → Turns (place.Assigned tag) old (Ok (tt {0})) (λ x. stays (place.Inside tag)) new
+unfolding tags_from tag_step
+semicolon_turns tag t old new mark is = rw is (λ found. rw mark (ap (λ l. tags_read (place.Inside tag) l new) (append-nil found)), omega arith)
+
 -- the end or a fault, where a token is due
 pub none_turns : (p : Stage) (old : Stream) (e : InfoFault) → ((line : ℕ) → tag_end p line ≡ Err (fault line Expected)) → (old.tokens ≡ []) × (wanted old.ending ≡ e) → (found : List Tag) → tags_read p found old ≡ Err e
 unfolding tags_from

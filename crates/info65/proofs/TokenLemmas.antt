@@ -1,7 +1,7 @@
 -- The tokens of what is left.
 use Rattle.std.proofs.Common.{add-one, ◌≡◌, ◌∙◌, ◌+◌, ◌<◌, ◌≤◌, ℕ, zero, suc, Bool, true, false, List, [], ◌∷◌, length, drop, get_or, refl, sym, arith}
 use Rattle.std.proofs.lemmas.Bool.{ne_eqb, or_parts}
-use Rattle.info65.specs.Words.{ended, found, is_blank, lexeme_at, opens_comment, stops, tokens_after, tokens_of}
+use Rattle.info65.specs.Words.{ended, found, is_blank, lexeme_at, opens_comment, semicolon, stops, tokens_after, tokens_of, with_token}
 
 -- the rest of a token is passed over
 pub passed : (skip line : ℕ) (bs : List ℕ) → tokens_after skip false line bs ≡ tokens_of line (drop skip bs)
@@ -17,6 +17,11 @@ pub at_token : (line : ℕ) (rest : List ℕ) → 0 < length rest → stops rest
 unfolding tokens_after
 at_token line [] some here = absurd (omega arith)
 at_token line (b ∷ bs) some here = grind (arith, or_parts, passed)
+
+-- a `;`
+pub at_semicolon : (line : ℕ) (bs : List ℕ) → tokens_of line (59 ∷ bs) ≡ with_token (record { kind = semicolon; text = 59 ∷ []; line = line }) (tokens_of line bs)
+unfolding tokens_after lexeme_at
+at_semicolon line bs = refl
 
 -- nothing is left
 pub at_end : (in_comment : Bool) (line : ℕ) (rest : List ℕ) → length rest ≡ 0 → tokens_after 0 in_comment line rest ≡ ended line

@@ -1,5 +1,5 @@
 -- What one call of the lexer does.
-use Rattle.std.specs.Prelude.{◌≡◌, Option, Some, None, Result, Ok, Err, [], IsOk}
+use Rattle.std.specs.Prelude.{◌≡◌, Bool, true, false, Option, Some, None, Result, Ok, Err, [], IsOk}
 use Rattle.info65.specs.Lexemes.{KindView, LexemeView, word, number, string, character, opening_brace, closing_brace, semicolon}
 use Rattle.info65.specs.Tokens.{Stream, TokenView, ended, refused, with_token}
 use Rattle.info65.specs.Types.{InfoFault, Lexeme, Next, Token, TokenKind}
@@ -26,6 +26,11 @@ abbrev pub Steps : Stream → Result Next InfoFault → Stream → Type 0
 Steps old (Ok (next.Token t)) new = old ≡ with_token (seen t) new
 Steps old (Ok (next.End line)) new = (old ≡ ended line) × (new ≡ old)
 Steps old (Err e) new = (old ≡ refused e) × (new ≡ old)
+
+-- a token of this kind is taken off, or nothing is
+abbrev pub Takes : KindView → Stream → Bool → Stream → Type 0
+Takes k old true new = (t : TokenView) × (t.kind ≡ k) × (old ≡ with_token t new)
+Takes k old false new = new ≡ old
 
 -- the first token is taken off and given; None comes at the end, which stays, and a fault stays
 abbrev pub Hands : Stream → Result (Option Token) InfoFault → Stream → Type 0

@@ -37,7 +37,8 @@ impl<'a> Model for Lexer<'a> {
 }
 
 impl<'a> Lexer<'a> {
-    ghost use Rattle.info65.specs.Code.Steps.{Hands, Steps};
+    ghost use Rattle.info65.specs.Code.Steps.{Hands, Steps, Takes};
+    ghost use Rattle.info65.specs.Lexemes.{semicolon};
 
     /// The tokens of these bytes, of which there are at most 1,048,576.
     pub fn new(bytes: &'a [u8]) -> Self
@@ -68,6 +69,22 @@ impl<'a> Lexer<'a> {
             text,
             line,
         }))
+    }
+
+    /// Takes a `;` that comes next, unless a blank or a comment stands before it, and returns whether it did. Most values have a `;` right
+    /// behind them, for which nothing else is tried then.
+    #[inline(always)]
+    #[tactic(auto, using(crate::proofs::TokenLemmas::at_semicolon))]
+    pub(crate) fn takes_semicolon(&mut self) -> bool
+        ensures { Takes semicolon self.old result self.new }
+    {
+        match self.bytes.split_first() {
+            Some((b';', after)) => {
+                self.bytes = after;
+                true
+            }
+            _ => false,
+        }
     }
 
     /// The next token, and None at the end.

@@ -115,7 +115,19 @@ fn brace(lexer: &mut Lexer) -> Result<(), InfoFault>
     }
 }
 
+// The `;` after a value.
 fn separator(lexer: &mut Lexer) -> Result<(), InfoFault>
+    ensures read { (k : GroupKind) (given : List AssignmentView) →
+        Advances (assigned k given) lexer.old result (inside k given) lexer.new }
+    ensures shorter { length lexer.new.tokens ≤ length lexer.old.tokens }
+{
+    if lexer.takes_semicolon() {
+        return Ok(());
+    }
+    due_separator(lexer)
+}
+
+fn due_separator(lexer: &mut Lexer) -> Result<(), InfoFault>
     ensures read { (k : GroupKind) (given : List AssignmentView) → Advances (assigned k given) lexer.old result (inside k given) lexer.new }
     ensures shorter { length lexer.new.tokens ≤ length lexer.old.tokens }
 {

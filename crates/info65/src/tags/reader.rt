@@ -43,6 +43,15 @@ fn value(lexer: &mut Lexer<'_>, attribute: TagAttribute) -> Result<u16, InfoFaul
 fn separator(lexer: &mut Lexer<'_>) -> Result<(), InfoFault>
     ensures { (t : Tag) → Turns (Assigned t) lexer.old result (λ _. stays (Inside t)) lexer.new }
 {
+    if lexer.takes_semicolon() {
+        return Ok(());
+    }
+    due_separator(lexer)
+}
+
+fn due_separator(lexer: &mut Lexer<'_>) -> Result<(), InfoFault>
+    ensures { (t : Tag) → Turns (Assigned t) lexer.old result (λ _. stays (Inside t)) lexer.new }
+{
     let token = due(lexer)?;
     assigned(token)
 }
