@@ -4,14 +4,13 @@ use crate::rules::Steps;
 use crate::rules::bytes::address;
 use crate::rules::declared::{addresses_of, declared_of};
 use crate::rules::entries::pointers_of;
-use crate::rules::halves::{may_begin, pairs_at};
+use crate::rules::halves::{Pair, put_pairs};
 use crate::rules::obstacles::{Obstacle, worst_of};
 use crate::rules::readers::Table;
 use crate::rules::search::{Least, Search};
 use crate::rules::words::DataWords;
 use map65::ADDRESSES;
 use std::alloc::AllocError;
-use std::mem;
 
 /// The least number of instructions of a sound beginning to which a table or a word of a row leads.
 pub const IN_TABLE: usize = 3;
@@ -26,35 +25,40 @@ const SCANS: usize = 8;
 const PIECES: usize = 8;
 
 /// An address that may begin code, and whether it is one right behind what is known.
-type Candidate = (u16, bool);
+pub type Candidate = (u16, bool);
 
 impl Search<'_> {
     /// Whether no reached instruction has the address: else what begins there would share a byte with that.
-    fn is_open(&self, address: u16) -> bool {
+    pub fn is_open(&self, address: u16) -> bool {
         !self.code.get(address) && !self.marks.get(address)
     }
 
-    /// Adds the addresses that a reached instruction gives: the one behind it and its text, and those that it begins to load in halves.
-    fn put_candidates_of(&self, found: &mut Vec<Candidate>, reason: u16) -> Result<(), AllocError> {
-        let Some(placed) = self.steps.marked(&self.marks, reason) else {
-            return Ok(());
-        };
-        if may_begin(placed.step.op) {
-            for pair in pairs_at(self.steps, &self.marks, placed) {
-                if let Some(pair) = pair
-                    && self.steps.image().start() <= pair.address
-                    && pair.is_plausible()
-                    && let Some(meant) = address(pair.meant())
-                    && self.is_open(meant)
-                {
-                    found.push((meant, false))?;
-                }
+    /// Adds the addresses that the instructions give that no rule has looked at: those right behind them and their texts, and those that they begin
+    /// to load in halves.
+    fn put_candidates(
+        &self,
+        found: &mut Vec<Candidate>,
+        pairs: &mut Vec<Pair>,
+    ) -> Result<(), AllocError> {
+        for &reason in self.joined.iter().skip(self.looked) {
+            let Some(placed) = self.steps.marked(&self.marks, reason) else {
+                continue;
+            };
+            put_pairs(pairs, self.steps, &self.marks, placed)?;
+            if let Some(end) = placed.step.end
+                && self.is_open(end)
+            {
+                found.push((end, true))?;
             }
         }
-        if let Some(end) = placed.step.end
-            && self.is_open(end)
-        {
-            found.push((end, true))?;
+        for &pair in pairs.as_slice() {
+            if self.steps.image().start() <= pair.address
+                && pair.is_plausible()
+                && let Some(meant) = address(pair.meant())
+                && self.is_open(meant)
+            {
+                found.push((meant, false))?;
+            }
         }
         Ok(())
     }
@@ -113,19 +117,10 @@ impl Search<'_> {
         Ok(())
     }
 
-    /// Lets the sound beginnings join that these reached instructions give, and those right behind rows, in the order of their addresses.
-    fn join_candidates(&mut self, reasons: &[u16], behind: &[u16]) -> Result<(), AllocError> {
-        let mut candidates = Vec::new(self.steps.alloc());
-        for &reason in reasons {
-            self.put_candidates_of(&mut candidates, reason)?;
-        }
-        for &address in behind {
-            if self.is_open(address) {
-                candidates.push((address, true))?;
-            }
-        }
+    /// Lets the sound beginnings join among these, in the order of their addresses.
+    fn join_candidates(&mut self, candidates: &mut Vec<Candidate>) -> Result<(), AllocError> {
         candidates.sort()?;
-        for &candidate in &candidates {
+        for &candidate in candidates.as_slice() {
             self.join_candidate(candidate)?;
         }
         Ok(())
@@ -134,12 +129,17 @@ impl Search<'_> {
     /// Lets sound beginnings join that what is newly reached gives, until there are no more. Each time but the last at least one address
     /// joins, so there are fewer times than addresses.
     fn grow(&mut self) -> Result<(), AllocError> {
+        let mut candidates = Vec::new(self.steps.alloc());
+        let mut pairs = Vec::new(self.steps.alloc());
         for _round in 0..ADDRESSES {
-            let reasons = mem::replace(&mut self.joined, Vec::new(self.steps.alloc()));
-            if reasons.is_empty() {
+            if self.looked == self.joined.len() {
                 break;
             }
-            self.join_candidates(&reasons, &[])?;
+            candidates.clear();
+            pairs.clear();
+            self.put_candidates(&mut candidates, &mut pairs)?;
+            self.looked = self.joined.len();
+            self.join_candidates(&mut candidates)?;
         }
         Ok(())
     }
@@ -219,9 +219,8 @@ pub fn follow(steps: &Steps<'_>, entries: &[u16]) -> Result<Followed, AllocError
         search.join_tables()?;
         words.join_rows(&mut search)?;
         search.join_jumps()?;
-        let behind = words.behind_rows(&search)?;
-        search.join_candidates(&[], &behind)?;
-        if search.joined.is_empty() {
+        search.join_candidates(&mut words.behind_rows(&search)?)?;
+        if search.looked == search.joined.len() {
             break;
         }
         search.grow()?;

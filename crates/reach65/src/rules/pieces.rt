@@ -64,20 +64,20 @@ fn begins_backward(alloc: Global, ground: &Ground<'_>) -> Result<Vec<Begins>, Al
             1
         };
         after = here;
-        let Some(byte) = here else {
-            tails = [Chars::none(); 3];
-            found.push(Begins::Nothing)?;
-            continue;
+        let text = match here {
+            Some(byte) if run < FILLER && matches!(byte, 0x20..=0x7E | 0xA0..=0xFE) => {
+                longest_with(&mut tails, byte)
+            }
+            _ => {
+                tails = [Chars::none(); 3];
+                0
+            }
         };
-        if FILLER <= run {
-            tails = [Chars::none(); 3];
-            found.push(Begins::Filler)?;
-        } else {
-            found.push(match longest_with(&mut tails, byte) {
-                0 => Begins::Nothing,
-                count => Begins::Text(count),
-            })?;
-        }
+        found.push(match text {
+            _ if here.is_some() && FILLER <= run => Begins::Filler,
+            0 => Begins::Nothing,
+            count => Begins::Text(count),
+        })?;
     }
     found.reverse();
     Ok(found)

@@ -18,19 +18,14 @@ const LOOKED: usize = 16;
 /// Whether a text begins at the address: it is one up to the 16th character, and no character stands before it.
 fn begins_text(ground: &Ground<'_>, at: usize) -> bool {
     let image = ground.image;
-    let before = byte(image, at.saturating_sub(1));
-    let Some(here) = byte(image, at) else {
-        return false;
-    };
-    for alphabet in ALPHABETS {
-        if alphabet.is_char(here)
-            && !before.is_some_and(|before| alphabet.is_char(before))
-            && 0 < alphabet.text_len(bytes_at(image, at, LOOKED))
-        {
-            return true;
-        }
-    }
-    false
+    let bytes = bytes_at(image, at, LOOKED);
+    // No alphabet has a byte 0.
+    let before = byte(image, at.saturating_sub(1)).unwrap_or(0);
+    bytes.first().is_some_and(|&here| {
+        ALPHABETS.iter().any(|alphabet| {
+            alphabet.is_char(here) && !alphabet.is_char(before) && 0 < alphabet.text_len(bytes)
+        })
+    })
 }
 
 /// Marks of where texts begin, and whether there are any.

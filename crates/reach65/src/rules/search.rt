@@ -39,8 +39,10 @@ pub struct Search<'a> {
     pub marks: Marks,
     /// What the instructions have that have joined.
     pub code: Marks,
-    /// Where the instructions begin that have joined and that no rule has looked at.
+    /// Where the instructions begin that have joined.
     pub joined: Vec<u16>,
+    /// How many of those rules have looked at.
+    pub looked: usize,
     /// Those that have joined and read tables.
     pub readers: Readers,
     todo: Vec<u16>,
@@ -83,6 +85,7 @@ impl<'a> Search<'a> {
             marks: Marks::none(alloc)?,
             code: Marks::none(alloc)?,
             joined: Vec::new(alloc),
+            looked: 0,
             readers: Readers::none(alloc)?,
             todo: Vec::new(alloc),
             added: Vec::new(alloc),

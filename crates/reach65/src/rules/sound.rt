@@ -80,22 +80,19 @@ fn hides(steps: &Steps<'_>, outer: u16, inner: u16) -> bool {
     })
 }
 
-/// Whether the instruction of the first address has the second one, behind it, where another one begins: both are marked, and the second one is
-/// not hidden in a `bit`.
-fn clashes(steps: &Steps<'_>, marks: &Marks, outer: u16, inner: u16) -> bool {
-    let distance = inner.saturating_sub(outer);
-    marks.get(outer)
+/// Whether the instruction of the address has the one so far behind it, where another one begins: that is marked, and not hidden in a `bit`.
+fn clashes(steps: &Steps<'_>, marks: &Marks, outer: u16, distance: u16) -> bool {
+    let inner = outer.saturating_add(distance);
+    usize::from(distance) < steps.len_at(outer)
         && marks.get(inner)
-        && usize::from(distance) < steps.len_at(outer)
         && !(distance == 1 && hides(steps, outer, inner))
 }
 
 /// Returns whether the instruction of the address, which is marked, shares no byte with another one, but for one in the operand of a `bit`.
 pub fn is_apart(steps: &Steps<'_>, marks: &Marks, address: u16) -> bool {
     [1u16, 2].iter().all(|&distance| {
-        let inner = address.checked_add(distance);
-        let outer = address.checked_sub(distance);
-        !inner.is_some_and(|inner| clashes(steps, marks, address, inner))
-            && !outer.is_some_and(|outer| clashes(steps, marks, outer, address))
+        let outer = address.wrapping_sub(distance);
+        !clashes(steps, marks, address, distance)
+            && !(outer < address && marks.get(outer) && clashes(steps, marks, outer, distance))
     })
 }

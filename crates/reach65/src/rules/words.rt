@@ -1,8 +1,8 @@
 //! Words that stand in rows and lead to code.
 
 use crate::flow::is_last;
-use crate::rules::bytes::{addresses, ends, word};
-use crate::rules::growth::IN_TABLE;
+use crate::rules::bytes::{address, addresses, ends, word};
+use crate::rules::growth::{Candidate, IN_TABLE};
 use crate::rules::search::{Least, Search};
 use crate::rules::{Step, Steps};
 use isa65::Mnemonic;
@@ -22,15 +22,14 @@ pub struct DataWords<'i> {
     worth: Vec<u16>,
 }
 
-/// Whether the word at the address and the one behind it differ, and both may lead to code, themselves or as one less.
-fn is_worth(image: &Image, hopeful: &Marks, at: usize) -> bool {
-    let (Some(one), Some(two)) = (word(image, at), word(image, at.saturating_add(2))) else {
-        return false;
-    };
-    let (to, then) = (usize::from(one), usize::from(two));
+/// Whether the two words of these bytes differ, and both may lead to code, themselves or as one less.
+fn is_worth(hopeful: &Marks, bytes: [u8; 4]) -> bool {
+    let [low, high, next_low, next_high] = bytes;
+    let one = usize::from(u16::from_le_bytes([low, high]));
+    let two = usize::from(u16::from_le_bytes([next_low, next_high]));
     one != two
-        && (hopeful.get_at(to) && hopeful.get_at(then)
-            || hopeful.get_at(to + 1) && hopeful.get_at(then + 1))
+        && (hopeful.get_at(one) && hopeful.get_at(two)
+            || hopeful.get_at(one + 1) && hopeful.get_at(two + 1))
 }
 
 /// Whether code may go on at a later address, if there is one: an earlier one is not known yet.
@@ -92,10 +91,12 @@ impl<'i> DataWords<'i> {
             }
         }
         let mut worth = Vec::new(alloc);
-        for at in addresses(image) {
-            if !reached.get(at)
-                && !search.code.get(at)
-                && is_worth(image, &hopeful, usize::from(at))
+        let (start, end) = ends(image);
+        for (at, &bytes) in (start..end).zip(image.bytes().array_windows::<4>()) {
+            if !reached.get_at(at)
+                && !search.code.get_at(at)
+                && is_worth(&hopeful, bytes)
+                && let Some(at) = address(at)
             {
                 worth.push(at)?;
             }
@@ -187,7 +188,7 @@ impl<'i> DataWords<'i> {
     }
 
     /// Returns the addresses right behind rows of words that lead to reached code. Fails only if an allocation failed.
-    pub fn behind_rows(&self, search: &Search<'_>) -> Result<Vec<u16>, AllocError> {
+    pub fn behind_rows(&self, search: &Search<'_>) -> Result<Vec<Candidate>, AllocError> {
         let mut found = Vec::new(search.steps.alloc());
         for &first in &self.worth {
             let at = usize::from(first);
@@ -195,9 +196,10 @@ impl<'i> DataWords<'i> {
                 if self.leads(search, less, at)
                     && self.leads(search, less, at.saturating_add(2))
                     && !self.leads(search, less, at.saturating_add(4))
-                    && let Ok(address) = u16::try_from(at.saturating_add(4))
+                    && let Some(address) = address(at.saturating_add(4))
+                    && search.is_open(address)
                 {
-                    found.push(address)?;
+                    found.push((address, true))?;
                 }
             }
         }
