@@ -4,7 +4,7 @@ use crate::rules::Steps;
 use crate::rules::bytes::address;
 use crate::rules::declared::{addresses_of, declared_of};
 use crate::rules::entries::pointers_of;
-use crate::rules::halves::{Pair, put_pairs};
+use crate::rules::halves::{may_begin, pairs_at};
 use crate::rules::obstacles::{Obstacle, worst_of};
 use crate::rules::readers::Table;
 use crate::rules::search::{Least, Search};
@@ -33,31 +33,28 @@ impl Search<'_> {
         !self.code.get(address) && !self.marks.get(address)
     }
 
-    /// Adds the addresses that the instructions give that no rule has looked at: those right behind them and their texts, and those that they begin
-    /// to load in halves.
-    fn put_candidates(
-        &self,
-        found: &mut Vec<Candidate>,
-        pairs: &mut Vec<Pair>,
-    ) -> Result<(), AllocError> {
+    /// Adds the addresses that instructions give that no rule has looked at: those behind them, and those that they begin to load in halves.
+    fn put_candidates(&self, found: &mut Vec<Candidate>) -> Result<(), AllocError> {
         for &reason in self.joined.iter().skip(self.looked) {
             let Some(placed) = self.steps.marked(&self.marks, reason) else {
                 continue;
             };
-            put_pairs(pairs, self.steps, &self.marks, placed)?;
+            if may_begin(placed.step.op) {
+                for pair in pairs_at(self.steps, &self.marks, placed) {
+                    if let Some(pair) = pair
+                        && self.steps.image().start() <= pair.address
+                        && pair.is_plausible()
+                        && let Some(meant) = address(pair.meant())
+                        && self.is_open(meant)
+                    {
+                        found.push((meant, false))?;
+                    }
+                }
+            }
             if let Some(end) = placed.step.end
                 && self.is_open(end)
             {
                 found.push((end, true))?;
-            }
-        }
-        for &pair in pairs.as_slice() {
-            if self.steps.image().start() <= pair.address
-                && pair.is_plausible()
-                && let Some(meant) = address(pair.meant())
-                && self.is_open(meant)
-            {
-                found.push((meant, false))?;
             }
         }
         Ok(())
@@ -130,14 +127,12 @@ impl Search<'_> {
     /// joins, so there are fewer times than addresses.
     fn grow(&mut self) -> Result<(), AllocError> {
         let mut candidates = Vec::new(self.steps.alloc());
-        let mut pairs = Vec::new(self.steps.alloc());
         for _round in 0..ADDRESSES {
             if self.looked == self.joined.len() {
                 break;
             }
             candidates.clear();
-            pairs.clear();
-            self.put_candidates(&mut candidates, &mut pairs)?;
+            self.put_candidates(&mut candidates)?;
             self.looked = self.joined.len();
             self.join_candidates(&mut candidates)?;
         }

@@ -190,39 +190,34 @@ impl<'a> Code<'a> {
             None
         }
     }
+
+    /// The pairs of which this instruction is the first.
+    fn pairs_of(&self, one: Placed<'a>) -> [Option<Pair>; 3] {
+        if !is_load(one.step.op) {
+            return [self.added_twice(one), None, None];
+        }
+        let Some(two) = self.behind(one) else {
+            return [None; 3];
+        };
+        if !is_load(two.step.op) {
+            let kept = self.kept_twice(one, two);
+            return [kept.or(self.stored_twice(one, two)), None, None];
+        }
+        if one.step.op == two.step.op {
+            return [None; 3];
+        }
+        let through = match self.behind(two) {
+            Some(store) if two.step.op.mnemonic == Ldy => self.stored_twice(one, store),
+            _ => None,
+        };
+        [Pair::of_loads(one, two), Pair::of_loads(two, one), through]
+    }
 }
 
-/// Adds the pairs of which the instruction is the first: two loads of different registers, one right behind the other, or one of the forms above; a
-/// `ldy #` may stand before a store through a pointer. Fails only if an allocation failed.
-pub fn put_pairs<'a>(
-    pairs: &mut Vec<Pair>,
-    steps: &'a Steps<'a>,
-    marks: &'a Marks,
-    one: Placed<'a>,
-) -> Result<(), AllocError> {
-    let code = Code { steps, marks };
-    let two = if is_load(one.step.op) {
-        code.behind(one)
-    } else {
-        None
-    };
-    match two {
-        None => pairs.extend(code.added_twice(one)),
-        Some(two) if !is_load(two.step.op) => {
-            pairs.extend(code.kept_twice(one, two).or(code.stored_twice(one, two)))
-        }
-        Some(two) if one.step.op == two.step.op => Ok(()),
-        Some(two) => {
-            pairs.extend(Pair::of_loads(one, two))?;
-            pairs.extend(Pair::of_loads(two, one))?;
-            match code.behind(two) {
-                Some(store) if two.step.op.mnemonic == Ldy => {
-                    pairs.extend(code.stored_twice(one, store))
-                }
-                _ => Ok(()),
-            }
-        }
-    }
+/// Returns the pairs of which the instruction is the first: two loads of different registers, one right behind the other, or one of
+/// the forms above; a `ldy #` may stand before a store through a pointer.
+pub fn pairs_at(steps: &Steps<'_>, marks: &Marks, first: Placed<'_>) -> [Option<Pair>; 3] {
+    Code { steps, marks }.pairs_of(first)
 }
 
 /// Whether the instruction moves a byte, and leaves the carry.
@@ -279,31 +274,34 @@ pub fn halves_of(
 ) -> Result<Halves, AllocError> {
     let (steps, alloc) = (survey.steps, survey.steps.alloc());
     let mut pairs = Vec::new(alloc);
-    for &at in &survey.firsts {
-        if let Some(first) = steps.marked(survey.reached, at) {
-            put_pairs(&mut pairs, steps, survey.reached, first)?;
-        }
-    }
-    pairs.retain(|pair| {
-        steps.image().start() <= pair.address
-            && pair.meant() < limit
-            && (pair.less == 0 && survey.is_likely(pair.address) || survey.is_routine(pair.meant()))
-    });
     let mut ranks = 0u32;
-    for pair in pairs.as_mut_slice() {
-        let more = if is_sure(survey, items, *pair) {
-            0
-        } else {
-            LIKELY
+    for &at in &survey.firsts {
+        let Some(first) = steps.marked(survey.reached, at) else {
+            continue;
         };
-        pair.rank = pair.rank.saturating_add(more);
-        ranks |= 1 << (pair.rank % 32);
+        for pair in pairs_at(steps, survey.reached, first) {
+            if let Some(pair) = pair
+                && steps.image().start() <= pair.address
+                && pair.meant() < limit
+                && (pair.less == 0 && survey.is_likely(pair.address)
+                    || survey.is_routine(pair.meant()))
+            {
+                let more = if is_sure(survey, items, pair) {
+                    0
+                } else {
+                    LIKELY
+                };
+                let rank = pair.rank.saturating_add(more);
+                ranks |= 1 << (rank % 32);
+                pairs.push((rank, pair))?;
+            }
+        }
     }
     let mut used = said;
     let (mut sure, mut likely) = (Vec::new(alloc), Vec::new(alloc));
     for rank in (0..2 * LIKELY).filter(|rank| (ranks >> *rank) & 1 == 1) {
-        for &pair in &pairs {
-            if pair.rank != rank || used.get(pair.low) || used.get(pair.high) {
+        for &(of, pair) in &pairs {
+            if of != rank || used.get(pair.low) || used.get(pair.high) {
                 continue;
             }
             used.set(pair.low);

@@ -40,13 +40,11 @@ pub fn words_of(ground: &Ground<'_>, survey: &Survey<'_>) -> Result<Vec<u16>, Al
         named.set(info.given(k).address);
     }
     let mut found = Vec::new(alloc);
-    for (at, &bytes) in addresses(ground.image).zip(ground.image.bytes().array_windows::<2>()) {
-        let word = u16::from_le_bytes(bytes);
-        if ground.is_plain(usize::from(at))
-            && ground.is_plain(usize::from(at) + 1)
+    for at in addresses(ground.image) {
+        if let Some(word) = ground.word(usize::from(at))
             && (named.get(word)
                 || survey.is_routine(usize::from(word))
-                || survey.is_routine(usize::from(word) + 1))
+                || survey.is_routine(usize::from(word).saturating_add(1)))
         {
             found.push(at)?;
         }

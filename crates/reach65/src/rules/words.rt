@@ -91,13 +91,8 @@ impl<'i> DataWords<'i> {
             }
         }
         let mut worth = Vec::new(alloc);
-        let (start, end) = ends(image);
-        for (at, &bytes) in (start..end).zip(image.bytes().array_windows::<4>()) {
-            if !reached.get_at(at)
-                && !search.code.get_at(at)
-                && is_worth(&hopeful, bytes)
-                && let Some(at) = address(at)
-            {
+        for (at, &bytes) in addresses(image).zip(image.bytes().array_windows::<4>()) {
+            if !reached.get(at) && !search.code.get(at) && is_worth(&hopeful, bytes) {
                 worth.push(at)?;
             }
         }
