@@ -91,7 +91,7 @@ pub fn text_of(
     ranges: &[RangeSpec],
 ) -> Result<Vec<u8>, AllocError> {
     let mut text = Text {
-        out: Vec::new(advice.steps.alloc()),
+        out: Vec::with_capacity(advice.steps.alloc(), ranges.len().saturating_mul(160))?,
         advice,
         given,
         ranges,

@@ -13,10 +13,9 @@ const LEAST: usize = 16;
 
 /// A byte as it is shown: a dot stands for what is no character of ASCII.
 fn shown(byte: u8) -> u8 {
-    if matches!(byte, 0x20..=0x7E) {
-        byte
-    } else {
-        b'.'
+    match byte {
+        0x20..=0x7E => byte,
+        _ => b'.',
     }
 }
 
