@@ -38,7 +38,7 @@ all: kit bin/da65 bin/as65 bin/trace65 bin/name65 bin/move65 bin/html65
 	bin/da65 examples/three.bin
 
 # The kits of the prover that this version was proved with.
-kits := rattle-kit-13f
+kits := rattle-kit-13b
 
 kit:
 	@kit=$$(rt version); kit=$${kit%% *}; case ' $(kits) ' in *" $$kit "*) ;; *) echo "proved with $(kits), not yet with $$kit" ;; esac

@@ -77,7 +77,7 @@ def test_nothing_changed(make):
 
 
 def test_another_kit(make):
-    assert "proved with rattle-kit-13f, not yet with rattle-kit-1\n" in make("-s -j3", [], env={"KIT": "rattle-kit-1"})
+    assert "proved with rattle-kit-13b, not yet with rattle-kit-1\n" in make("-s -j3", [], env={"KIT": "rattle-kit-1"})
 
 
 def test_before_any_proof(make):

@@ -1,6 +1,6 @@
 """A clause fits in 100 columns; what recurs in one gets a name in `specs/`. Those that are wider are counted by crate, and their number
-only falls. The lines of tests and pages have at most 120 columns, those of other scripts 140, and those of man pages 80; tables, headings
-and what is shown word for word may be wider."""
+only falls. The lines of tests, pages and comments of code have at most 120 columns, those of other scripts 140, and those of man pages 80;
+tables, headings and what is shown word for word may be wider."""
 
 import re
 
@@ -24,12 +24,14 @@ WIDER = {
 }
 PAGE = 120
 WIDEST = {
-    120: ("tests/*.py", "tests/stand_ins/*", "tests/run65.*", "*.md", "docs/*.md"),
+    120: ("tests/*.py", "tests/stand_ins/*", "tests/run65.*", "*.md", "docs/*.md", "crates/*/src/**/*.rt", "crates/*/specs/**/*.antt"),
     140: ("Makefile", ".ci/run", "tests/corpus/*", "tests/shim.c"),
     80: ("docs/*.[15]",),
 }
-# What is shown word for word, in a page and in a man page; tables and headings of a page.
-FREE = {".md": r"(?ms)^```.*?^```$|^[|#].*?$", ".1": r"(?ms)^\.nf$.*?^\.fi$", ".5": r"(?ms)^\.nf$.*?^\.fi$"}
+# What is no comment of code; what is shown word for word, in a page and in a man page; tables and headings of a page.
+CODE = r"(?m)^(?!\s*(//|--)).*$"
+FREE = {".rt": CODE, ".antt": CODE, ".md": r"(?ms)^```.*?^```$|^[|#].*?$", ".1": r"(?ms)^\.nf$.*?^\.fi$",
+        ".5": r"(?ms)^\.nf$.*?^\.fi$"}
 
 
 def wide_clauses(crate):

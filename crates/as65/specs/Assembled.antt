@@ -4,8 +4,8 @@ use Rattle.stmt65.specs.Words.{source_addresses, source_meaning}
 use Rattle.as65.specs.Moves.{labels_of, moves_in}
 use Rattle.as65.specs.Types.{AsmFault, Label, Source}
 
--- a text, the address of its first byte, what it means, the address after each of its lines, the labels at which the distance from the
--- address in the name changes, and its bytes
+-- a text, the address of its first byte, what it means, the address after each of its lines, the labels at which the
+-- distance from the address in the name changes, and its bytes
 pub record AssembledView : Type 0 where
   pub text : List ℕ
   pub start : ℕ

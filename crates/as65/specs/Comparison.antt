@@ -11,7 +11,8 @@ pub record Writes (moves : List Label) (c : Compared) (IsWritten : List ℕ → 
   pub lines : IsDifferences moves c text
   pub written : IsWritten text
 
--- Nothing differs and nothing is written, or something does and is written, or a write of that failed, or memory ran out before.
+-- Nothing differs and nothing is written, or something does and is written, or a write of
+-- that failed, or memory ran out before.
 abbrev pub Compares : List Label → Compared → Option (List ℕ) → Option (List ℕ) → Result Ended (Failure Refused) → Type 0
 Compares moves c old new (Ok Done) = (c.image ≡ c.bytes) × (new ≡ old)
 Compares moves c old new (Ok Differs) = (c.image ≢ c.bytes) × Writes moves c (Appends old new)

@@ -11,8 +11,8 @@ use Rattle.as65.specs.Moves.{move_line}
 use Rattle.as65.specs.Stretches.{AreRuns, differs}
 use Rattle.as65.specs.Types.{Label, Stretch}
 
--- what is compared: the address of both first bytes, the bytes of the image and of the listing, the lines of the listing, and
--- the address after each of them
+-- what is compared: the address of both first bytes, the bytes of the image and of the listing, the lines of the
+-- listing, and the address after each of them
 pub record Compared : Type 0 where
   pub start : ℕ
   pub image : List ℕ
@@ -115,8 +115,8 @@ pub record AppendsDifferences (c : Compared) (old new : List ℕ) : Type 0 where
   pub lines : AreDifferences c text
   pub appended : new ≡ old ++ text
 
--- First a line for each of the labels at which the distance from the address in the name changes. If there is none, the rest are the
--- differences; else it is advice.
+-- First a line for each of the labels at which the distance from the address in the name changes. If there is none, the
+-- rest are the differences; else it is advice.
 pub record IsDifferences (moves : List Label) (c : Compared) (text : List ℕ) : Type 0 where
   pub rest : List ℕ
   pub lines : text ≡ flat_map move_line moves ++ rest

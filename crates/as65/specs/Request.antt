@@ -25,14 +25,16 @@ abbrev pub work_of : Work → WorkView
 work_of (Write w) = AskWrite (names_seen w.names) w.place w.labels
 work_of (Compare c) = AskCompare (names_seen c.names) c.place (string_bytes c.image)
 
--- the bytes of a listing are to be written, or its names, which need not be in place: there is a start, or an information file that may have one
+-- the bytes of a listing are to be written, or its names, which need not be in place: there is a start, or
+-- an information file that may have one
 unfoldable pub to_write : Given → Result WorkView Refusal
 to_write g =
     if g.place.in_place && g.labels then Err (BadUsage Words)
     else (if not (is_some g.place.start || is_some g.info) then Err LacksStart
     else (names_apart g.listing g.info g.output >>= λ names. Ok (AskWrite names g.place g.labels)))
 
--- a listing is to be compared with an image, without another output or names, and not in place; standard input can be only one of the inputs
+-- a listing is to be compared with an image, without another output or names, and not in place;
+-- standard input can be only one of the inputs
 unfoldable pub to_compare : Given → Text → Result WorkView Refusal
 to_compare g image =
     if is_some g.output || g.place.in_place || g.labels then Err (BadUsage Words)

@@ -1,4 +1,5 @@
-//! What a line of a listing gave before labels left the address in their name: what it gives at its earlier address, with its names at theirs.
+//! What a line of a listing gave before labels left the address in their name: what it gives at its
+//! earlier address, with its names at theirs.
 //!
 //! A name that is no label `LXXXX` lay as far from its address as the label before it does now, or the one after it.
 

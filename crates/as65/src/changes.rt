@@ -1,15 +1,16 @@
-//! What differs between an image and a listing in which labels have left the address in their name, apart from what has only moved.
+//! What differs between an image and a listing in which labels have left the address in their
+//! name, apart from what has only moved.
 //!
-//! Each label `LXXXX` stands for the address in its name. What lies between two labels is compared with what the image has between their
-//! addresses:
+//! Each label `LXXXX` stands for the address in its name. What lies between two labels is compared with what
+//! the image has between their addresses:
 //!
-//! - If both have moved equally far, byte by byte. A byte has only moved if the image has it at its earlier address, or if its line gave
-//!   that byte there (`before`).
-//! - Else bytes were put in or taken out between them. The first lines that have only moved with the label before, and the last ones that
-//!   have only moved with the one after, are left out; the rest is one change.
+//! - If both have moved equally far, byte by byte. A byte has only moved if the image has it at its earlier address, or
+//!   if its line gave that byte there (`before`).
+//! - Else bytes were put in or taken out between them. The first lines that have only moved with the label before, and
+//!   the last ones that have only moved with the one after, are left out; the rest is one change.
 //!
-//! If the image has not both addresses in this order and no label's between, as in a routine that was put elsewhere, the bytes are compared by
-//! the label before.
+//! If the image has not both addresses in this order and no label's between, as in a routine that was put elsewhere,
+//! the bytes are compared by the label before.
 
 use crate::assembled::Assembled;
 use crate::before::{Before, Placed, earlier};
@@ -109,8 +110,8 @@ impl<'i, 'b, 's, 'a, 't, 'l, 'n> Scene<'i, 'b, 's, 'a, 't, 'l, 'n> {
         part(self.image, Stretch { at, end })
     }
 
-    /// What the line gave before, by a label: of two ways to see its names the one that the image has, else the first. `None` if the image
-    /// has what it gives now, or if it gave nothing.
+    /// What the line gave before, by a label: of two ways to see its names the one that the image has, else the first.
+    /// `None` if the image has what it gives now, or if it gave nothing.
     fn gave(&self, placed: &Placed<'t>, label: Label) -> Result<Option<Vec<u8>>, AllocError> {
         let was = self.image_of(placed, label);
         let Some(at) = earlier(label, placed.at) else {
@@ -160,7 +161,8 @@ impl<'i, 'b, 's, 'a, 't, 'l, 'n> Scene<'i, 'b, 's, 'a, 't, 'l, 'n> {
         Ok(())
     }
 
-    /// Adds what differs in lines that have moved with a label. If the image does not have its address, nothing has moved.
+    /// Adds what differs in lines that have moved with a label. If the image does not
+    /// have its address, nothing has moved.
     fn add_lines(&mut self, lines: &[Placed<'t>], label: Label) -> Result<(), AllocError> {
         let is_there = self.offset(label.named).is_some();
         let label = if is_there { label } else { IN_PLACE };
@@ -184,8 +186,9 @@ impl<'i, 'b, 's, 'a, 't, 'l, 'n> Scene<'i, 'b, 's, 'a, 't, 'l, 'n> {
         Ok(())
     }
 
-    /// Adds the one change between two labels that have not moved equally far, whose addresses are the ends of a stretch of the image. The
-    /// first lines that have only moved with the label before are left out, and the last ones that have with the label after.
+    /// Adds the one change between two labels that have not moved equally far, whose addresses are the ends of a
+    /// stretch of the image. The first lines that have only moved with the label before are left out, and the last
+    /// ones that have with the label after.
     fn add_change_between(
         &mut self,
         lines: &[Placed<'t>],
@@ -241,8 +244,8 @@ impl<'i, 'b, 's, 'a, 't, 'l, 'n> Scene<'i, 'b, 's, 'a, 't, 'l, 'n> {
         Ok(())
     }
 
-    /// Adds what differs in the lines between two labels. If the image has the address of a label between theirs, the lines are in another
-    /// order.
+    /// Adds what differs in the lines between two labels. If the image has the address of a label between
+    /// theirs, the lines are in another order.
     fn add_between(
         &mut self,
         lines: &[Placed<'t>],
@@ -342,9 +345,9 @@ fn placed_lines<'t>(
     Ok(found)
 }
 
-/// The lines that say what differs between an image and a listing with these labels, apart from what has only moved; and one for lengths
-/// that differ. Each has the address in the image, the bytes there, those of the listing, and the line that gives the first of them, or that
-/// before which bytes are missing.
+/// The lines that say what differs between an image and a listing with these labels, apart from what has only moved;
+/// and one for lengths that differ. Each has the address in the image, the bytes there, those of the listing, and the
+/// line that gives the first of them, or that before which bytes are missing.
 pub fn changes(
     alloc: Global,
     image: &Image,

@@ -175,7 +175,8 @@ fn put_all(
     Ok(())
 }
 
-/// Appends a line for each stretch of bytes that differ, and one for lengths that differ, by the address after each line.
+/// Appends a line for each stretch of bytes that differ, and one for lengths that
+/// differ, by the address after each line.
 fn put_differences(
     alloc: Global,
     out: &mut Vec<u8>,
@@ -193,8 +194,9 @@ fn put_differences(
     put_lengths(out, image.bytes().len(), assembled.bytes().len())
 }
 
-/// The lines that say where an image and a listing differ: one for each label at which the distance from the address in its name changes; one
-/// for each stretch of bytes, and one for lengths that differ. If there are lines of labels, what has only moved with them is left out.
+/// The lines that say where an image and a listing differ: one for each label at which the distance from the address in
+/// its name changes; one for each stretch of bytes, and one for lengths that differ. If there are lines of labels, what
+/// has only moved with them is left out.
 pub fn differences(
     alloc: Global,
     image: &Image,

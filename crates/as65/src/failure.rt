@@ -27,7 +27,8 @@ pub enum Refused {
     /// Neither the command line nor the information file of this name gives a start address.
     #[error("no start address: give -S, or STARTADDR in {0}")]
     NoStart(String),
-    /// A label of the listing of this name is not at the address in its name: the number of its line, and what is said of it.
+    /// A label of the listing of this name is not at the address in its name: the number of
+    /// its line, and what is said of it.
     #[error("{0}:{1}: ")]
     Moved(String, usize, Vec<u8>),
     /// A write of a message failed, so nothing more is said.

@@ -1,5 +1,5 @@
-//! What is said of the fault of a line, beside its text: what the assembler found that it is about, or a guess from the text of the line.
-//! No fault depends on it.
+//! What is said of the fault of a line, beside its text: what the assembler found that it is about, or a guess from the
+//! text of the line. No fault depends on it.
 
 use files65::{put_address, put_decimal};
 use std::alloc::{AllocError, Global};
@@ -51,7 +51,8 @@ fn has_0x(line: &[u8]) -> bool {
     false
 }
 
-/// What stands right after the quote at the end of a string, if it is no blank, no carriage return, no comma and no comment.
+/// What stands right after the quote at the end of a string, if it is no blank, no
+/// carriage return, no comma and no comment.
 fn after_string(line: &[u8]) -> Option<u8> {
     let mut inside = false;
     for (at, byte) in line.iter().enumerate() {
@@ -123,8 +124,8 @@ fn hint_in(line: &[u8]) -> &'static [u8] {
     }
 }
 
-/// The hint for a line that can't be read. The code of one with a quote inside a string may end in that string, so the whole line is looked
-/// at.
+/// The hint for a line that can't be read. The code of one with a quote inside a string may end in that
+/// string, so the whole line is looked at.
 fn hint_for(line: &[u8]) -> &'static [u8] {
     match after_string(line) {
         Some(b'|' | b'+' | b'^' | b'&') => b"what is no string is a number, as 'D'+$80",

@@ -35,8 +35,8 @@ fn label_lines(alloc: Global, definitions: &[Definition<'_>]) -> Result<Vec<u8>,
     Ok(out)
 }
 
-/// A line for each label and constant below $10000 of the listing of this name, in the order in which it defines them. Fails with
-/// its first fault.
+/// A line for each label and constant below $10000 of the listing of this name, in the order in which it
+/// defines them. Fails with its first fault.
 pub fn names_in(alloc: Global, source: &Source<'_, '_, '_>, name: &str) -> Result<Vec<u8>, Failure>
     /// With `--labels` the text has a line `al 00FE04 .say` for each name that the listing defines with a value
     /// below $10000, in order, and no other line. A fault is reported as by `Assembled::new`.

@@ -1,8 +1,9 @@
 //! Assembles a listing: `as65 [options] [listing]`.
 //!
-//! In order: the options, then help or version, whether the output is an input, the information file and whether the output is its input, the
-//! image to compare with, the listing, its bytes, whether its labels are in place, and the output, which is created only now. With `--compare`
-//! nothing is written but the differences from the image, on standard output. `status` has the statuses.
+//! In order: the options, then help or version, whether the output is an input, the information file and whether the
+//! output is its input, the image to compare with, the listing, its bytes, whether its labels are in place, and the
+//! output, which is created only now. With `--compare` nothing is written but the differences from the image, on
+//! standard output. `status` has the statuses.
 #![tactic(auto)]
 
 mod assembled;
@@ -73,8 +74,8 @@ fn assembled_in<'s, 't, 'l, 'n>(
     Ok(assembled)
 }
 
-/// Reads the listing, and writes its bytes or its names. The output may not be the input of the information file either, and is created
-/// once they are there.
+/// Reads the listing, and writes its bytes or its names. The output may not be the input of the information file
+/// either, and is created once they are there.
 fn write_under(rt: &HostRuntime, writing: &mut Writing, info: &Info) -> Result<Ended, Failure> {
     let names = &mut writing.names;
     let inputs = [info.settings().input.as_deref()];

@@ -21,7 +21,8 @@ pub fn say(rt: &HostRuntime, failure: &Failure) {
     let _ = files65::say(rt, "as65", text, said_after(failure));
 }
 
-/// Says where an image of this name is taken to begin whose start nobody gave, and which other start the names of the listing speak for.
+/// Says where an image of this name is taken to begin whose start nobody gave, and which other
+/// start the names of the listing speak for.
 pub fn say_starts(
     rt: &HostRuntime,
     name: &str,

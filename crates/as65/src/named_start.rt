@@ -80,7 +80,8 @@ fn count_of(start: u16, other: u16, labels: &[Label]) -> usize
         .count()
 }
 
-/// The start for which the first label speaks, unless it is the one that was taken or bytes of this size have no room there.
+/// The start for which the first label speaks, unless it is the one that was taken or
+/// bytes of this size have no room there.
 fn first_of(start: u16, size: usize, labels: &[Label]) -> Option<NamedStart>
     requires { size ≤ 65536 }
     ensures { option_map named_start_of result ≡ first_of start size labels.now }
@@ -95,8 +96,9 @@ fn first_of(start: u16, size: usize, labels: &[Label]) -> Option<NamedStart>
     })
 }
 
-/// The start from which the first label `LXXXX` of a text that assembles would be at $XXXX, and how many such labels would. None if it is
-/// there already, if it would be there from no start, or if an image of this size has no room from there on.
+/// The start from which the first label `LXXXX` of a text that assembles would be at $XXXX, and how many
+/// such labels would. None if it is there already, if it would be there from no start, or if an image of
+/// this size has no room from there on.
 pub fn named_start(
     alloc: Global,
     source: &Source<'_, '_, '_>,

@@ -82,8 +82,8 @@ fn is_compare_word(word: &[u8]) -> bool
     word == b"--compare".as_slice() || word.starts_with(b"--compare=")
 }
 
-/// Whether the words of the process ask for a comparison. Only their first bytes are looked at, so that it takes no memory. No
-/// contract can say what these words are.
+/// Whether the words of the process ask for a comparison. Only their first bytes are looked at, so that it takes no
+/// memory. No contract can say what these words are.
 pub fn is_compared_by<E: Env>(process: &E) -> bool {
     let mut word = [0u8; LONGEST];
     for at in 1..usize::MAX {
@@ -105,9 +105,10 @@ pub fn is_compared_by<E: Env>(process: &E) -> bool {
 
 /// What the words ask for. The first word is the program's name.
 ///
-/// Each option and the name of the listing may be given once. Help comes first, then the version, both before any value
-/// is looked at. Then the start is read, no output, `--in-place` or `--labels` may stand beside an image, and without one there must be a start. The
-/// output may not have the name of the listing, nor may standard input be both the listing and the image.
+/// Each option and the name of the listing may be given once. Help comes first, then the version, both before
+/// any value is looked at. Then the start is read, no output, `--in-place` or `--labels` may stand beside an
+/// image, and without one there must be a start. The output may not have the name of the listing, nor may
+/// standard input be both the listing and the image.
 #[tactic(auto, using(crate::proofs::CommandLemmas::app_is_plain))]
 pub fn request_of(alloc: Global, words: &[String]) -> Result<Request<Work>, RequestFault>
     /// For all words the request is that of the definition. It says which options there are, and takes help and
@@ -172,8 +173,8 @@ fn to_write(alloc: Global, given: Given<'_>) -> Result<Work, RequestFault>
     }))
 }
 
-/// A listing is to be compared with an image, without another output or names; labels may be anywhere. Standard input can be only one of the
-/// inputs.
+/// A listing is to be compared with an image, without another output or names; labels may be anywhere. Standard
+/// input can be only one of the inputs.
 #[tactic(auto, unfolding(crate::specs::Request::to_compare))]
 fn to_compare(alloc: Global, given: Given<'_>, image: &str) -> Result<Work, RequestFault>
     ensures { Gives work_of result (to_compare (given_of given.entry) image.now) }

@@ -12,8 +12,8 @@ pub enum Ended {
     Differs,
 }
 
-/// 0 if what was asked for was written or no byte differs, and 1 if bytes differ. Trouble is 2 beside `--compare`, as with
-/// `cmp`, and otherwise 1.
+/// 0 if what was asked for was written or no byte differs, and 1 if bytes differ. Trouble is 2 beside
+/// `--compare`, as with `cmp`, and otherwise 1.
 pub fn status_of(is_comparing: bool, ended: Option<Ended>) -> u8
     /// The status is 0 if everything was done, and 1 if bytes differ. For trouble it is 2 with `--compare`,
     /// otherwise 1.

@@ -1,6 +1,7 @@
 -- The names of addresses: a base, which stands for an address of its own, and how far an address lies after that.
 --
--- An address is defined by name if a base stands for it. `AreSound` is what names must be for a listing to assemble back.
+-- An address is defined by name if a base stands for it. `AreSound` is what names
+-- must be for a listing to assemble back.
 use Rattle.std.specs.Prelude.{◌≡◌, ℕ, ◌<◌, ◌≤◌, ◌==◌, not, Bool, true, false, List, Option, Some, None}
 use Rattle.map65.specs.Words.{Base, ImageView, MapView, base_at, is_inside, place_of, text_by}
 use Rattle.da65.specs.Types.{Place}

@@ -1,8 +1,9 @@
 -- Line groups: the items that stand on one line.
 --
--- A group is one item, or several neighbouring items of one piece of a table: as many as the layout of its type has on a line. The items of a piece are counted from 0 at its start, and again from 0 at each item that is defined by
--- name; item k belongs to group k divided by the limit. So a group breaks before an item that is defined by name. An item of code and a
--- leftover byte of a table stand alone.
+-- A group is one item, or several neighbouring items of one piece of a table: as many as the layout of its type has on
+-- a line. The items of a piece are counted from 0 at its start, and again from 0 at each item that is defined by name;
+-- item k belongs to group k divided by the limit. So a group breaks before an item that is defined by name. An item of
+-- code and a leftover byte of a table stand alone.
 use Rattle.std.specs.Prelude.{◌≡◌, ◌↔◌, ◌⊎◌, ℕ, zero, suc, ◌+◌, ◌-◌, ◌*◌, ◌%◌, ◌<◌, ◌≤◌, ◌==◌, ◌&&◌, not, Bool, true, false, List, length, take, if◌then◌else◌}
 use Rattle.std.specs.List.{filter, list_any}
 use Rattle.info65.specs.Words.{layout_of}
@@ -27,7 +28,8 @@ limit_at m a = if is_whole m a then limit_of (role_of m.info a) else 1
 abbrev pub is_defined : MapView → ℕ → Bool
 is_defined m a = is_base (names_of m) a
 
--- the item at an address may stand on the line of the one before it: it is of the same piece, whole, and not defined by name
+-- the item at an address may stand on the line of the one before it: it is of the same
+-- piece, whole, and not defined by name
 unfoldable pub goes_on : MapView → ℕ → Bool
 goes_on m a = is_joined m a && (is_whole m a && not (is_defined m a))
 
@@ -36,7 +38,8 @@ unfoldable pub more_at : MapView → ℕ → ℕ → ℕ
 more_at m zero a = 0
 more_at m (suc n) a = if goes_on m a then item_len m a + more_at m n (a + item_len m a) else 0
 
--- how many bytes the group has that begins with the item at an address: that item, and those that go on, as many as the line takes
+-- how many bytes the group has that begins with the item at an address: that item, and those
+-- that go on, as many as the line takes
 unfoldable pub group_len : MapView → ℕ → ℕ
 group_len m a = item_len m a + more_at m (limit_at m a - 1) (a + item_len m a)
 
@@ -88,7 +91,8 @@ is_skip_range r = is_skip r.role
 abbrev pub IsStart : MapView → ℕ → Type 0
 IsStart m a = IsFirst m a ⊎ (is_defined m a ≡ true)
 
--- the address is where item k begins, counted from the last such address, if all items before it are of their table's unit
+-- the address is where item k begins, counted from the last such address, if all
+-- items before it are of their table's unit
 pub record IsItemOf (m : MapView) (a k : ℕ) : Type 0 where
   pub first : ℕ
   pub is_start : IsStart m first
@@ -107,7 +111,7 @@ abbrev pub BeginsLine : MapView → ℕ → RangeType → Type 0
 BeginsLine m a role.Code = Unit {0}
 BeginsLine m a r = (is_whole m a ≡ false) ⊎ BeginsFullLine m a (limit_of r)
 
--- A group begins at an address exactly when an item begins there that is of code, is left over, or is item k of its piece, counted again
--- from each item that is defined by name, and the number of items that a line takes divides k.
+-- A group begins at an address exactly when an item begins there that is of code, is left over, or is item k of its
+-- piece, counted again from each item that is defined by name, and the number of items that a line takes divides k.
 abbrev pub GroupLaw : MapView → Type 0
 GroupLaw m = (a : ℕ) → (begins m a ≡ true) ↔ ((0 < item_len m a) × BeginsLine m a (role_of m.info a))

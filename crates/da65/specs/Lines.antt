@@ -55,8 +55,8 @@ statement_line m k label = group_line label (statement_at m (m.image.start + k))
 abbrev pub labelled_left : MapView → ℕ → Option (List ℕ) → List ListingLine
 labelled_left m k label = statement_line m k label ∷ after_group m k
 
--- What may stand before the label of the group that begins at an address, by its number: the separator, the segment, the comment of the
--- name of each of its bytes, the forward line of each but the first.
+-- What may stand before the label of the group that begins at an address, by its number: the separator, the segment,
+-- the comment of the name of each of its bytes, the forward line of each but the first.
 unfoldable pub heading_lines : MapView → ℕ → ℕ → List ListingLine
 heading_lines m a zero = separator_lines m a
 heading_lines m a (suc zero) = segment_lines m a
@@ -178,8 +178,8 @@ pub record IsUnmarked (m : MapView) : Type 0 where
   pub comments : (a : ℕ) → comment_at m a ≡ None
   pub segments : (a : ℕ) → segment_at m a ≡ None
 
--- what is kept beside a map is what its information says: the style, the CPU, whether a listing can have marks, and whether no range has the
--- type SKIP
+-- what is kept beside a map is what its information says: the style, the CPU, whether a listing can have marks,
+-- and whether no range has the type SKIP
 pub record IsListed (m : MapView) (t : Style) (cpu : Cpu) (marked all : Bool) : Type 0 where
   pub sound : IsSoundMap m
   pub style_is : t ≡ style_of m.info.settings

@@ -1,11 +1,12 @@
 -- The listing of an image, as lines and as text.
 --
--- First the header: a remark, an empty line, `.setcpu`, an empty line. Then the constant lines in address order, each after the comment
--- line of its name, and, if there is one, an empty line after the last: every given name outside the image or in skipped bytes has its
--- line, used or not. Then the groups in address order. A group is, in this order: the separator, if a run begins and the comment level is
--- at least 1; a line that enters its segment, if the group before it has another one; the comment lines of its names by address; its
--- forward lines by address; its label; its statement; and an empty line, if the settings ask for one after that instruction. A label
--- stands on the line of its statement if there is room for it, else on a line of its own.
+-- First the header: a remark, an empty line, `.setcpu`, an empty line. Then the constant lines in address order, each
+-- after the comment line of its name, and, if there is one, an empty line after the last: every given name outside the
+-- image or in skipped bytes has its line, used or not. Then the groups in address order. A group is, in this order: the
+-- separator, if a run begins and the comment level is at least 1; a line that enters its segment, if the group before
+-- it has another one; the comment lines of its names by address; its forward lines by address; its label; its
+-- statement; and an empty line, if the settings ask for one after that instruction. A label stands on the line of its
+-- statement if there is room for it, else on a line of its own.
 use Rattle.std.specs.Prelude.{ℕ, ◌+◌, ◌-◌, ◌&&◌, ◌||◌, not, nat_lt, Bool, false, if◌then◌else◌, List, [], ◌∷◌, ◌++◌, map, codes, replicate, Option, Some, None}
 use Rattle.std.specs.List.{flat_map}
 use denote.Enum.Bare.{sameb}
@@ -21,7 +22,8 @@ use Rattle.da65.specs.Segments.{is_same_segment, segment_before, segment_stateme
 use Rattle.da65.specs.Statements.{statement_at}
 use Rattle.da65.specs.Style.{style_of}
 
--- a line: the label before its statement, if there is one, and the statement, with its address and its bytes if it is that of a group
+-- a line: the label before its statement, if there is one, and the statement, with its address
+-- and its bytes if it is that of a group
 pub record ListingLine : Type 0 where
   pub label : Option (List ℕ)
   pub statement : StatementView
@@ -87,7 +89,8 @@ has_separator m a = nat_lt 0 (style_of m.info.settings).level && not (is_in_run 
 abbrev pub separator_lines : MapView → ℕ → List ListingLine
 separator_lines m a = if has_separator m a then plain separator ∷ [] else []
 
--- A group enters its segment if that is not the segment of the group before it. The first group is compared with the default.
+-- A group enters its segment if that is not the segment of the group before it. The
+-- first group is compared with the default.
 unfoldable pub segment_lines : MapView → ℕ → List ListingLine
 segment_lines m a =
     if is_same_segment (segment_at m a) (segment_before m (a - m.image.start)) then [] else plain (segment_statement (segment_at m a)) ∷ []

@@ -7,7 +7,8 @@ use Rattle.da65.specs.NeedsView.{NeedsView}
 abbrev pub nothing : NeedsView
 nothing = record { input = None; output = None; includes = [] }
 
--- the names in the settings, and those of the include files, in the order of their groups; a name that two groups have stands twice
+-- the names in the settings, and those of the include files, in the order of their groups; a
+-- name that two groups have stands twice
 abbrev pub needs_of : InfoView → NeedsView
 needs_of i = record { input = i.settings.input; output = i.settings.output; includes = map (λ x. x.file) i.includes }
 

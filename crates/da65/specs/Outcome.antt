@@ -1,7 +1,9 @@
--- What a run writes and returns, as a function of its options, its information file, the files that are handed in, and its input.
+-- What a run writes and returns, as a function of its options, its information file, the
+-- files that are handed in, and its input.
 --
--- The refusals in order, each with its one message: the information file, no input name, the include files in the order of their
--- groups, the image. Otherwise the listing, and the warnings that apply: bytes are skipped, a segment is entered again.
+-- The refusals in order, each with its one message: the information file, no input name, the include
+-- files in the order of their groups, the image. Otherwise the listing, and the warnings that apply:
+-- bytes are skipped, a segment is entered again.
 use Rattle.std.specs.Prelude.{ℕ, ◌+◌, Bool, if◌then◌else◌, List, [], ◌∷◌, ◌++◌, codes, decimal, is_some, Option, Some, None, Result, Ok, Err}
 use Rattle.info65.specs.Words.{IncludeView, InfoView, OptionsView, fault_text, included, information}
 use Rattle.da65.specs.Types.{Done, Empty, ImageFault, InfoFault, Read, Short, Status, TooLarge}
@@ -78,7 +80,8 @@ with_input i = if is_some i.settings.input then Ok i else Err no_input_message
 abbrev pub accepted : Result InfoView InfoFault → Result InfoView (List ℕ)
 accepted read = or_message info_message read >>= with_input
 
--- with the names of the include file at an index, which has this name and these bytes; refused if no such file is handed in
+-- with the names of the include file at an index, which has this name and these
+-- bytes; refused if no such file is handed in
 abbrev pub with_include : ℕ → List ℕ → InfoView → Option (List ℕ) → Result InfoView (List ℕ)
 with_include index name i (Some bytes) = or_message (include_message name) (included i index bytes)
 with_include index name i None = Err (missing_message name)
@@ -96,8 +99,8 @@ with_includes files index (x ∷ xs) i = with_file files index x i >>= with_incl
 abbrev pub with_all_includes : List FileView → InfoView → Result InfoView (List ℕ)
 with_all_includes files i = with_includes files 0 i.includes i
 
--- What an information file that was read or refused gives with the files that are handed in. Refused for the first of these: a fault
--- of the information file, no input name, an include file that is not handed in or has a fault.
+-- What an information file that was read or refused gives with the files that are handed in. Refused for the first of
+-- these: a fault of the information file, no input name, an include file that is not handed in or has a fault.
 unfoldable pub prepared_by : Result InfoView InfoFault → List FileView → Result InfoView (List ℕ)
 prepared_by read files = accepted read >>= with_all_includes files
 
@@ -124,7 +127,7 @@ abbrev pub outcome_by : Result InfoView (List ℕ) → List ℕ → Bool → Out
 outcome_by (Ok i) bytes failed = outcome_by_image i (image_of i.settings bytes failed)
 outcome_by (Err message) bytes failed = refusal_with message
 
--- The outcome for these options, the bytes of the information file, the files that are handed in, and the bytes of the input.
--- `failed` says whether a read failed among those that are asked of the input.
+-- The outcome for these options, the bytes of the information file, the files that are handed in, and the bytes of the
+-- input. `failed` says whether a read failed among those that are asked of the input.
 abbrev pub outcome_of : OptionsView → List ℕ → List FileView → List ℕ → Bool → Outcome
 outcome_of options info files bytes failed = outcome_by (prepared options info files) bytes failed

@@ -1,7 +1,7 @@
 -- The listing of an image, assembled from the image's start, gives the image's bytes.
 --
--- From the statement of a group to its bytes, from the lines of the listing to the image, and from its text to the image, for images
--- without skipped bytes.
+-- From the statement of a group to its bytes, from the lines of the listing to the image, and from its text to the
+-- image, for images without skipped bytes.
 use Rattle.std.specs.Prelude.{◌≡◌, ◌↔◌, ℕ, ◌+◌, ◌-◌, ◌<◌, ◌≤◌, Bool, true, false, List, [], ◌∷◌, length, map, take, Option, Some, None, Ok}
 use Rattle.isa65.specs.Words.{Table, encoded, row_of, table_of}
 use Rattle.da65.specs.Types.{Mode, Op, OperandKind, RangeType, Row}
@@ -33,8 +33,8 @@ readings_of m = map reading_of_line (listing m)
 
 -- ---- names
 
--- The names of a map are such that a listing assembles back: no two bases share a text, each lies in the address space, and none after
--- the address that it is for.
+-- The names of a map are such that a listing assembles back: no two bases share a text, each lies in the address space,
+-- and none after the address that it is for.
 abbrev pub NamesAreSound : Type 0
 NamesAreSound = (m : MapView) → IsPlaced m.image → AreBytes m.image.bytes → given.AreNames m.info.names → skips m ≡ false → AreSound m.image (names_of m)
 
@@ -46,7 +46,8 @@ NamesAreDefinedOnce = (m : MapView) (b : ℕ) → IsPlaced m.image → AreBytes 
 
 -- ---- expressions
 
--- an address by its name or as a number, an operand in the zero page, and an entry of a return table, which is the address before
+-- an address by its name or as a number, an operand in the zero page, and an entry of a
+-- return table, which is the address before
 pub record HaveTheirValues (m : AddressNames) (all : List Definition) : Type 0 where
   pub address : (a : ℕ) → value_in all (source_value (address_expr m a)) ≡ Some a
   pub zero_page : (a : ℕ) → value_in all (source_value (zero_page_expr m a)) ≡ Some a
@@ -78,7 +79,8 @@ row_fragments _ _ = []
 abbrev pub fragments_in : Mode → OperandsView → List Fragment
 fragments_in m os = row_fragments (row_of m) os
 
--- written with `a:` or without, the instruction is coded by an opcode of its own mnemonic and mode, with the fragments of that mode
+-- written with `a:` or without, the instruction is coded by an opcode of its own mnemonic and
+-- mode, with the fragments of that mode
 pub record CodesInMode (s : State) (op : Op) (absolute : Bool) (os : OperandsView) : Type 0 where
   pub opcode : ℕ
   pub is_opcode : encoded (table_of s.cpu) op.mnemonic op.mode ≡ Some opcode
@@ -95,22 +97,25 @@ abbrev pub WrittenIsInstruction : Type 0
 WrittenIsInstruction = (m : AddressNames) (t : Table) (a : ℕ) (bytes : List ℕ) (op : Op) (os : OperandsView)
     → IsWritten m t a bytes op os → statement_in m t a bytes ≡ view.instr op (is_forced t op bytes) os
 
--- Otherwise it is the item's bytes: of an undefined and a cut opcode, and of an instruction whose target lies outside the address space.
+-- Otherwise it is the item's bytes: of an undefined and a cut opcode, and of an instruction whose
+-- target lies outside the address space.
 abbrev pub UnwrittenIsBytes : Type 0
 UnwrittenIsBytes = (m : AddressNames) (t : Table) (a : ℕ) (bytes : List ℕ) → AreBytes bytes → ((op : Op) (os : OperandsView) → IsWritten m t a bytes op os → ⊥)
     → statement_in m t a bytes ≡ view.bytes (item_in t bytes)
 
--- Each instruction is coded in the mode that it was decoded from, below the constant lines: zero page or absolute is chosen back.
+-- Each instruction is coded in the mode that it was decoded from, below the constant lines:
+-- zero page or absolute is chosen back.
 abbrev pub ModeIsChosenBack : Type 0
 ModeIsChosenBack = (image : ImageView) (m : AddressNames) (p : ℕ → Bool) (s : State) (a : ℕ) (bytes : List ℕ) (op : Op) (os : OperandsView)
     → AreSound image m → KnowsConstants m p s.above → IsWritten m (table_of s.cpu) a bytes op os → CodesInMode s op (is_forced (table_of s.cpu) op bytes) os
 
--- an address without a name, or with one whose base a constant line defines: an assembler knows whether it lies in the zero page
+-- an address without a name, or with one whose base a constant line defines: an assembler
+-- knows whether it lies in the zero page
 abbrev pub HasKnownSize : AddressNames → ℕ → Type 0
 HasKnownSize m a = (b : Base) → m.base_at a ≡ Some b → m.has_constant b.address ≡ true
 
--- `a:` stands exactly where without it another mode would be taken, unless the operand goes by the name of a label, which is never taken
--- for an address in the zero page.
+-- `a:` stands exactly where without it another mode would be taken, unless the operand goes by the name of a label,
+-- which is never taken for an address in the zero page.
 abbrev pub ForcedWhereNeeded : Type 0
 ForcedWhereNeeded = (image : ImageView) (m : AddressNames) (p : ℕ → Bool) (s : State) (a : ℕ) (bytes : List ℕ) (op : Op) (os : OperandsView)
     → AreSound image m → KnowsConstants m p s.above → IsWritten m (table_of s.cpu) a bytes op os → HasKnownSize m (operand_word bytes)
@@ -123,7 +128,8 @@ TargetIsInRange = (next b target : ℕ) → next ≤ 65536 → b < 256 → targe
 
 -- ---- items of code
 
--- in this state, whatever a text defines besides, a line has no fault, gives the bytes, and leads to the address after them
+-- in this state, whatever a text defines besides, a line has no fault, gives the
+-- bytes, and leads to the address after them
 pub record GivesBytes (all : List Definition) (s : State) (source : SourceLine) (bytes : List ℕ) : Type 0 where
   pub no_fault : fault_of all s (Some source) ≡ None
   pub gives : bytes_of all s (Some source) ≡ bytes
@@ -140,8 +146,8 @@ pub record IsPlaceFor (image : ImageView) (m : AddressNames) (all : List Definit
   pub some : 0 < length bytes
   pub room : s.at + length bytes ≤ 65536
 
--- The statement of each item of code gives the item's bytes: of an instruction, and of a cut, an undefined and one whose target lies
--- outside the address space.
+-- The statement of each item of code gives the item's bytes: of an instruction, and of a cut, an undefined and one
+-- whose target lies outside the address space.
 abbrev pub ItemGivesItsBytes : Type 0
 ItemGivesItsBytes = (image : ImageView) (m : AddressNames) (all : List Definition) (s : State) (bytes : List ℕ) → IsPlaceFor image m all s bytes
     → GivesBytes all s (source_line (statement_in m (table_of s.cpu) s.at bytes)) (item_in (table_of s.cpu) bytes)

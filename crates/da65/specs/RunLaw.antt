@@ -25,7 +25,8 @@ abbrev pub TookImageOf : Result InfoView (List ℕ) → List ℕ → Bool → Op
 TookImageOf (Ok i) bytes failed old new = TookImage i (image_of i.settings bytes failed) old new
 TookImageOf (Err message) bytes failed old new = ⊥
 
--- where the answer is Done and no byte of the image is skipped, what was written on the output means the image's bytes, from its start
+-- where the answer is Done and no byte of the image is skipped, what was written on the output
+-- means the image's bytes, from its start
 abbrev pub Reassembles : Result Status RunFault → Result InfoView (List ℕ) → List ℕ → Bool → Option (List ℕ) → Option (List ℕ) → Type 0
 Reassembles (Ok Done) info bytes failed old new = TookImageOf info bytes failed old new
 Reassembles (Ok Refused) info bytes failed old new = Unit {0}

@@ -8,8 +8,8 @@ use Rattle.da65.specs.declared.runs.outcome.Status.TheVariants.{Refused}
 use Rattle.da65.specs.declared.runs.outcome.RunFault.TheVariants.{Memory}
 use Rattle.da65.specs.Outcome.{Outcome}
 
--- Ok: listing and messages were written whole. A failed write has written a prefix of its part, and nothing was written after it.
--- Messages is returned only if there was something to write.
+-- Ok: listing and messages were written whole. A failed write has written a prefix of its part, and nothing was written
+-- after it. Messages is returned only if there was something to write.
 abbrev pub Writes : Result Status RunFault → Outcome → Option (List ℕ) → Option (List ℕ) → Option (List ℕ) → Option (List ℕ) → Type 0
 Writes (Ok status) outcome out out' msgs msgs' = (status ≡ outcome.status) × Appends out out' outcome.listing × Appends msgs msgs' outcome.messages
 Writes (Err Memory) outcome out out' msgs msgs' = Keeps out out' × Keeps msgs msgs'

@@ -1,7 +1,8 @@
 -- The warning of a segment that is entered again.
 --
--- A segment line stands before each group whose segment differs from that of the group before it; the first group is compared with the
--- default. The segment is entered again if an earlier group had a segment of its name. The default counts as CODE.
+-- A segment line stands before each group whose segment differs from that of the group before it; the
+-- first group is compared with the default. The segment is entered again if an earlier group had a segment
+-- of its name. The default counts as CODE.
 use Rattle.std.specs.Prelude.{ℕ, ◌&&◌, ◌||◌, not, Bool, false, List, [], ◌∷◌, map, codes, Option, Some, None}
 use Rattle.std.specs.List.{list_any}
 use Rattle.std.specs.Str.{bytes_eq}
@@ -18,7 +19,8 @@ segment_name (Some name) = name
 abbrev pub is_among : List (List ℕ) → List ℕ → Bool
 is_among names name = list_any (λ n. bytes_eq n name) names
 
--- a segment line leads to this segment, after a group of the segment `last`, and earlier groups had segments of the names `had`
+-- a segment line leads to this segment, after a group of the segment `last`, and earlier
+-- groups had segments of the names `had`
 abbrev pub leads_back : Option (List ℕ) → List (List ℕ) → Option (List ℕ) → Bool
 leads_back last had s = not (is_same_segment last s) && is_among had (segment_name s)
 

@@ -1,9 +1,10 @@
 -- The statement of a group, with its operands by name.
 --
--- An absolute operand and the target of a branch go by name if the address has one. An operand in the zero page goes by name only if a
--- constant line defines the base of the name. Each entry of an address or return table goes by its target's name. Anything else is a
--- number. `a:` stands before an absolute operand below $100 if the mnemonic has the zero-page mode that is written alike. An undefined or
--- cut opcode, an instruction whose target lies outside the address space, and a leftover byte are written as bytes.
+-- An absolute operand and the target of a branch go by name if the address has one. An operand in the zero page goes by
+-- name only if a constant line defines the base of the name. Each entry of an address or return table goes by its
+-- target's name. Anything else is a number. `a:` stands before an absolute operand below $100 if the mnemonic has the
+-- zero-page mode that is written alike. An undefined or cut opcode, an instruction whose target lies outside the
+-- address space, and a leftover byte are written as bytes.
 use Rattle.std.specs.Prelude.{ℕ, ◌+◌, ◌-◌, ◌*◌, ◌==◌, ◌&&◌, nat_lt, Bool, if◌then◌else◌, List, length, slice_index, take, Option, Some, None, is_some}
 use Rattle.std.specs.Option.{option_map}
 use Rattle.isa65.specs.Words.{Table, len_of, row_of, sibling_in, size_of}
@@ -37,14 +38,15 @@ abbrev pub constant_base : AddressNames → Option Base → Option Base
 constant_base m None = None
 constant_base m (Some b) = if m.has_constant b.address then Some b else None
 
--- An operand in the zero page goes by name only if a constant line defines its base: otherwise an assembler takes it for an absolute one.
+-- An operand in the zero page goes by name only if a constant line defines its base: otherwise an
+-- assembler takes it for an absolute one.
 unfoldable pub zero_page_expr : AddressNames → ℕ → ExprView
 zero_page_expr m a = expr_from a (constant_base m (m.base_at a))
 
 -- ---- operands, of an instruction's bytes
 
--- an operand of a kind, whose bytes begin at an index; `next` is the address after the instruction. The target of a distance may lie
--- outside the address space.
+-- an operand of a kind, whose bytes begin at an index; `next` is the address after the instruction. The target of a
+-- distance may lie outside the address space.
 abbrev pub operand_expr : AddressNames → OperandKind → ℕ → ℕ → List ℕ → Option ExprView
 operand_expr m kind.Byte next at bytes = Some (view.number (slice_index bytes at))
 operand_expr m kind.ZeroPage next at bytes = Some (zero_page_expr m (slice_index bytes at))
@@ -65,8 +67,8 @@ row_operands m (row.Two first second) next bytes = both (operand_expr m first ne
 unfoldable pub operands_of : AddressNames → Mode → ℕ → List ℕ → Option OperandsView
 operands_of m mode a bytes = row_operands m (row_of mode) (a + len_of mode) bytes
 
--- `a:` stands before an absolute operand below $100 if the mnemonic has the zero-page mode that is written alike, which an
--- assembler would take
+-- `a:` stands before an absolute operand below $100 if the mnemonic has the zero-page mode that is
+-- written alike, which an assembler would take
 abbrev pub is_forced : Table → Op → List ℕ → Bool
 is_forced t op bytes = is_some (sibling_in t op) && nat_lt (operand_word bytes) 256
 

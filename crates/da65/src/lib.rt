@@ -1,10 +1,10 @@
 //! Listings of binary images as ca65 source.
 //!
 //! [`run`] reads an information file, the [`File`]s that it includes and then an image from a [`Source`], lists it
-//! on a [`Sink`] and reports refusals and warnings on a second one. [`options_of`] reads a command line, [`address_in`]
-//! an address in one, and [`needs`] gives the names of the files that a run asks for. [`run_read`] and [`needs_read`] take an
-//! information file that [`read_info`] has read, so that a program reads it once. [`Told`] makes readers and writers of
-//! std such devices.
+//! on a [`Sink`] and reports refusals and warnings on a second one. [`options_of`] reads a command line,
+//! [`address_in`] an address in one, and [`needs`] gives the names of the files that a run asks for. [`run_read`]
+//! and [`needs_read`] take an information file that [`read_info`] has read, so that a program reads it once.
+//! [`Told`] makes readers and writers of std such devices.
 #![tactic(auto)]
 
 mod command_line;

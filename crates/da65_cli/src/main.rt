@@ -22,8 +22,8 @@ use listing::{Listed, run_read_buffered};
 use std::process::ExitCode;
 use usage65::{RequestFault, words_of};
 
-/// What ends the program early. A refusal is none of these, since `run` writes its message. After a failed write of a message, of the help
-/// text or of the version nothing more is said.
+/// What ends the program early. A refusal is none of these, since `run` writes its message. After a failed write of a
+/// message, of the help text or of the version nothing more is said.
 type Failure = files65::Failure<RunFault>;
 
 /// The options of the program's words.

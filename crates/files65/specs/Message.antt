@@ -2,7 +2,8 @@
 use Rattle.std.specs.Prelude.{◌==◌, ◌&&◌, ◌||◌, ℕ, Bool, false, List, [], ◌∷◌, ◌++◌, codes, nat_le, if◌then◌else◌}
 use Rattle.std.specs.Char.{is_ascii_control}
 
--- a control byte of a terminal: below a blank or $7F; or $80 to $9F after $C2, which in UTF-8 are the controls of 8 bits
+-- a control byte of a terminal: below a blank or $7F; or $80 to $9F after $C2,
+-- which in UTF-8 are the controls of 8 bits
 abbrev pub is_control : Bool → ℕ → Bool
 is_control after_c2 b = is_ascii_control b || after_c2 && nat_le 128 b && nat_le b 159
 

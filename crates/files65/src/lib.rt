@@ -1,11 +1,12 @@
 //! The files of a program, by their names.
 //!
-//! [`Input::open`] opens what is read and [`Output::create`] creates what is written, by [`write_text`]. [`read_information`] and [`read_listing`]
-//! read such a file up to its limit, [`contents`] any other. [`Placeholders`] stand for standard streams that are closed. [`keep_inputs`],
-//! [`keep_apart`] and [`need_plain`] refuse an output that is an input, a stream that is two inputs, and an output that is no file. [`say`]
-//! says why a program gives up, a [`Failure`], and [`end`] ends it; a [`FileFault`] is what can go wrong with a file. [`information_of`] and
-//! [`tags_of`] are what an information file says; [`layout_of`] and [`start_or_end`] say where the bytes of a listing belong.
-//! [`put_address`] and [`put_decimal`] write numbers.
+//! [`Input::open`] opens what is read and [`Output::create`] creates what is written, by [`write_text`].
+//! [`read_information`] and [`read_listing`] read such a file up to its limit, [`contents`] any other. [`Placeholders`]
+//! stand for standard streams that are closed. [`keep_inputs`], [`keep_apart`] and [`need_plain`] refuse an output that
+//! is an input, a stream that is two inputs, and an output that is no file. [`say`] says why a program gives up, a
+//! [`Failure`], and [`end`] ends it; a [`FileFault`] is what can go wrong with a file. [`information_of`] and
+//! [`tags_of`] are what an information file says; [`layout_of`] and [`start_or_end`] say where the bytes of a listing
+//! belong. [`put_address`] and [`put_decimal`] write numbers.
 #![tactic(auto)]
 
 mod failure;

@@ -12,7 +12,8 @@ use std::alloc::{AllocError, Global};
 use std::fmt::Display;
 use std::process::ExitCode;
 
-/// Whether a terminal may take a byte for a command: those from $80 to $9F do that after $C2, as controls of 8 bits in UTF-8.
+/// Whether a terminal may take a byte for a command: those from $80 to $9F do that after
+/// $C2, as controls of 8 bits in UTF-8.
 fn is_control(after_c2: bool, byte: u8) -> bool
     ensures { result ≡ is_control after_c2 byte }
 {
@@ -76,8 +77,8 @@ fn say_out_of_memory<W: Sink>(out: &mut W, program: &str) -> Result<(), FileFaul
     write_text(out, line.as_slice())
 }
 
-/// Says a text on standard error, by one write; if memory runs out for it, that alone is said, and the call fails with `Memory`. After a
-/// failure nothing more is to be written.
+/// Says a text on standard error, by one write; if memory runs out for it, that alone is said, and the call fails with
+/// `Memory`. After a failure nothing more is to be written.
 pub fn say(
     rt: &HostRuntime,
     program: &str,

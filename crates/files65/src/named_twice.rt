@@ -103,7 +103,8 @@ fn line_of(alloc: Global, bytes: &[u8], name: &[u8]) -> Result<Option<usize>, Al
     Ok(None)
 }
 
-/// The line of an information file and the name on it that name the address already which the group that ends on this line names again.
+/// The line of an information file and the name on it that name the address already which the
+/// group that ends on this line names again.
 pub fn named_twice(
     alloc: Global,
     options: &Options,

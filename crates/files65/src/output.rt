@@ -26,8 +26,8 @@ impl Output {
         Output::Standard(Told::new(rt.stdout()))
     }
 
-    /// Creates the file of this name, empty. Without a name it is standard output, and so is `/dev/stdout`, which would be emptied
-    /// otherwise where it is appended to.
+    /// Creates the file of this name, empty. Without a name it is standard output, and so is `/dev/stdout`, which would
+    /// be emptied otherwise where it is appended to.
     pub fn create(rt: &HostRuntime, name: Option<String>) -> Result<Output, FileFault> {
         match name {
             Some(name) if name.as_str() != STANDARD_OUTPUT => {
@@ -40,8 +40,8 @@ impl Output {
         }
     }
 
-    /// Creates the file of this name, which must not be there yet, so that no file is written over, whatever its name. Without a
-    /// name it is standard output.
+    /// Creates the file of this name, which must not be there yet, so that no file is written over, whatever its name.
+    /// Without a name it is standard output.
     pub fn create_new(rt: &HostRuntime, name: Option<String>) -> Result<Output, FileFault> {
         let Some(name) = name else {
             return Ok(Output::standard(rt));

@@ -17,8 +17,8 @@ pub struct Placeholders {
 }
 
 impl Placeholders {
-    /// Takes the numbers. To be called before any file is opened. Fails with `Reading` if `/dev/null` can't be opened: whether a
-    /// stream is closed is not known then, so nothing may be opened.
+    /// Takes the numbers. To be called before any file is opened. Fails with `Reading` if `/dev/null` can't be opened:
+    /// whether a stream is closed is not known then, so nothing may be opened.
     pub fn take(rt: &HostRuntime) -> Result<Placeholders, FileFault>
         /// Taking the place of closed streams fails only for `/dev/null`, or out of memory. That nothing is created
         /// then is tested.

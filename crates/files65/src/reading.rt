@@ -67,8 +67,8 @@ pub fn needed_contents(rt: &HostRuntime, name: &str, limit: usize) -> Result<Vec
     contents_or_fault(rt.alloc(), read, name)
 }
 
-/// The bytes of the information file, of which at most 1,048,577 are read; without a name none. Fails with `Reading` if it can't be
-/// opened or read.
+/// The bytes of the information file, of which at most 1,048,577 are read; without a name none. Fails with
+/// `Reading` if it can't be opened or read.
 pub fn read_information(rt: &HostRuntime, name: Option<&str>) -> Result<Vec<u8>, FileFault>
     /// Without the name of an information file, returns no bytes. With one, reading fails only because it can't be
     /// read, with its name, or out of memory.

@@ -16,8 +16,8 @@ fn in_common(rt: &HostRuntime, one: &str, other: &str) -> Option<Metadata> {
     }
 }
 
-/// Whether the output is this input, by its name or through a link. Without a name it is standard output. A terminal or a pipe can be both
-/// an input and an output.
+/// Whether the output is this input, by its name or through a link. Without a name it is standard output. A terminal or
+/// a pipe can be both an input and an output.
 fn is_input(rt: &HostRuntime, output: Option<&str>, input: &str) -> bool {
     if output == Some(input) {
         return true;
@@ -36,7 +36,8 @@ fn are_one_stream(rt: &HostRuntime, one: &str, other: &str) -> bool {
     }
 }
 
-/// Refuses an output that is one of these inputs, whether they are there or not. Where it has no name, the input is named.
+/// Refuses an output that is one of these inputs, whether they are there or not.
+/// Where it has no name, the input is named.
 pub fn keep_inputs(
     rt: &HostRuntime,
     output: Option<&str>,

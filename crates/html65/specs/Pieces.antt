@@ -1,6 +1,7 @@
 -- The pieces of a page: its tags, and the text between them.
 --
--- A tag is what stands from a `<` to the next `>`, and text is all else. In text `&amp;`, `&lt;` and `&gt;` stand for `&`, `<` and `>`.
+-- A tag is what stands from a `<` to the next `>`, and text is all else. In text `&amp;`, `&lt;`
+-- and `&gt;` stand for `&`, `<` and `>`.
 use Rattle.std.specs.Prelude.{ℕ, zero, suc, ◌-◌, ◌+◌, Bool, ◌||◌, not, List, [], ◌∷◌, codes, nat_eq, take, ◌==◌, if◌then◌else◌}
 use Rattle.std.specs.List.{prefix_len, starts_with}
 

@@ -9,8 +9,8 @@ use std::alloc::Global;
 /// A place among the names, whether the other one calls it or it the other one, and the place of the other one.
 type Call = (usize, bool, usize);
 
-/// Whether a name is a routine: a label of code that something calls, or that only tables and halves refer to, or nothing. It ends
-/// where the next one begins.
+/// Whether a name is a routine: a label of code that something calls, or that only tables and halves refer to, or
+/// nothing. It ends where the next one begins.
 fn is_routine(survey: &Survey<'_, '_>, named: &Named<'_>) -> bool {
     let uses = survey.to_name(named.place);
     let is_called = uses.iter().any(|one| one.way == Way::Call);

@@ -56,7 +56,8 @@ fn left_after<'t>(place: Region, left: &'t [u8], text: &[u8]) -> Option<&'t [u8]
     }
 }
 
-/// Where the text after a piece stands and what is left of the listing there, if the piece has no other text than the listing.
+/// Where the text after a piece stands and what is left of the listing there, if the
+/// piece has no other text than the listing.
 fn passed<'t>(place: Region, left: &'t [u8], piece: Piece<'_>) -> Option<(Region, &'t [u8])>
     ensures { IfSome result (λ f. (rest : List APiece) → text_from f.0 rest ≡ f.1.now
         → text_from place (piece_of piece.entry ∷ rest) ≡ left.now) }
@@ -70,7 +71,8 @@ fn passed<'t>(place: Region, left: &'t [u8], piece: Piece<'_>) -> Option<(Region
     }
 }
 
-/// What stands in a tag between a blank with these bytes and the next `"`. The blanks are looked at one after the other.
+/// What stands in a tag between a blank with these bytes and the next `"`. The
+/// blanks are looked at one after the other.
 #[inline(always)]
 #[tactic(auto, using(crate::proofs::LinkLemmas::quoted_steps))]
 fn quoted_after<'a>(more: &[u8], tag: &'a [u8]) -> Option<&'a [u8]>
@@ -182,7 +184,8 @@ fn are_found(ids: &[&[u8]], targets: &[&[u8]]) -> bool
     true
 }
 
-/// The first promise that a page does not keep for this listing. The ids have to be numbered, whether a link leads to them or not.
+/// The first promise that a page does not keep for this listing. The ids have to be numbered,
+/// whether a link leads to them or not.
 #[tactic(auto, using(crate::proofs::LinkLemmas::read_back))]
 pub fn fault_in(alloc: Global, page: &[u8], listing: &[u8]) -> Result<Option<Fault>, AllocError>
     /// If it finds no fault in any bytes, these are a page whose text is the listing, and each link within it is

@@ -39,7 +39,8 @@ const STYLES: &str = "</title>\n<style>\n\
     @media print{main{display:block}nav{position:static;max-height:none;border:0}pre{overflow:visible;white-space:pre-wrap}}\n\
     </style>\n</head>\n<body>\n<header><h1>";
 
-/// Appends what stands before the map, for a listing of this name: its addresses, and how many bytes of each kind there are.
+/// Appends what stands before the map, for a listing of this name: its addresses, and
+/// how many bytes of each kind there are.
 pub fn put_head(out: &mut Vec<u8>, name: &[u8], survey: &Survey<'_, '_>) -> Result<()> {
     let start = usize::from(survey.start);
     let count = survey.bytes.len();

@@ -22,8 +22,8 @@ pub const KINDS: [&str; 6] = ["code", "text", "bytes", "words", "addresses", "fi
 const FILLER: usize = 8;
 
 impl Kind {
-    /// That of a line which gives these bytes, by its mnemonic or directive and what its first operand that is no number shows: a
-    /// string that it is text, a name that they are addresses.
+    /// That of a line which gives these bytes, by its mnemonic or directive and what its first operand that is no
+    /// number shows: a string that it is text, a name that they are addresses.
     pub fn of(word: Word, shown: Option<Kind>, bytes: &[u8]) -> Kind {
         let is_same = bytes.iter().all(|byte| Some(byte) == bytes.first());
         let of_numbers = match &word {

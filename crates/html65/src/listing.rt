@@ -11,7 +11,8 @@ use text65::hex_digit;
 /// How many bytes of a line are shown.
 const BYTES: usize = 4;
 
-/// Appends what is left of the tag of a line, and its address and its first bytes, if it has bytes. The tab goes on where the text begins.
+/// Appends what is left of the tag of a line, and its address and its first bytes, if it has bytes.
+/// The tab goes on where the text begins.
 fn put_left(out: &mut Vec<u8>, at: usize, bytes: &[u8]) -> Result<()> {
     let mut left = *b"\"><i>0000 00 00 00 00";
     if !bytes.is_empty() {

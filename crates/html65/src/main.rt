@@ -1,11 +1,12 @@
 //! Writes a page of a listing with who refers to what: `html65 [options] [listing]`.
 //!
-//! In order: the options, then help or version, whether the output is an input, the information file, the listing, its page, and the
-//! output, which is created only now. `page` has the promise: the text of the page is the listing, and each link leads to one line.
-//! The status is 0 if the page, the help text or the version was written, otherwise 1.
+//! In order: the options, then help or version, whether the output is an input, the information file, the listing, its
+//! page, and the output, which is created only now. `page` has the promise: the text of the page is the listing, and
+//! each link leads to one line. The status is 0 if the page, the help text or the version was written, otherwise 1.
 //!
-//! `survey` reads each of the `lines` once: the names, who refers to them and to numbers, by `way`, and what `kind` the bytes are. `head`, `map`,
-//! `tables`, `calls`, `listing` and `pictures` write the page, with `markup`. `pieces` and `faults` read it back.
+//! `survey` reads each of the `lines` once: the names, who refers to them and to numbers, by `way`, and what
+//! `kind` the bytes are. `head`, `map`, `tables`, `calls`, `listing` and `pictures` write the page, with
+//! `markup`. `pieces` and `faults` read it back.
 #![tactic(auto)]
 
 mod calls;

@@ -19,8 +19,8 @@ fn put_rows(out: &mut Vec<u8>, wide: usize, at: usize, end: usize) -> Result<()>
     Ok(())
 }
 
-/// Appends the map: each run is a link to its first line, with its kind, its addresses, how many bytes it has if more than one, and the
-/// label at its first address. Up to 4 KiB are in rows of 64.
+/// Appends the map: each run is a link to its first line, with its kind, its addresses, how many bytes it has if more
+/// than one, and the label at its first address. Up to 4 KiB are in rows of 64.
 pub fn put_map(out: &mut Vec<u8>, survey: &Survey<'_, '_>) -> Result<()> {
     let begin = survey.runs.first().map_or(0, |run| run.at);
     let end = survey.runs.last().map_or(0, |run| run.end);

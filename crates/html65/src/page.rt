@@ -50,8 +50,8 @@ fn written(alloc: Global, name: &str, survey: &Survey<'_, '_>) -> Result<Vec<u8>
 
 /// Returns the page of the listing of this name. Fails with the first fault of the listing, and if it has no byte.
 ///
-/// Nothing is trusted for what the page promises: it is read back, and unless its text is the listing and each of its links leads to
-/// one element, there is none.
+/// Nothing is trusted for what the page promises: it is read back, and unless its text is the listing and each of its
+/// links leads to one element, there is none.
 pub fn page_of(alloc: Global, name: &str, source: &Source<'_, '_, '_>) -> Result<Vec<u8>, Failure>
     /// If there is a page, its text is exactly the listing: the text in `<pre id="listing">` without tags and
     /// without the elements `<i>`, with `&amp;`, `&lt;` and `&gt;` resolved.

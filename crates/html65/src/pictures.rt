@@ -10,9 +10,9 @@ pub const LEAST: usize = 16;
 /// How many bytes the head of a picture has.
 const HEAD: usize = 62;
 
-/// How bytes are laid out: in columns of rows, one column beside the other, and one band of columns below the other. How many bytes a
-/// row of a column has, how many rows a column, and how many columns a band at most; how many bytes it is from one column to the next,
-/// of which one is blank, or none; and the title.
+/// How bytes are laid out: in columns of rows, one column beside the other, and one band of columns below the other.
+/// How many bytes a row of a column has, how many rows a column, and how many columns a band at most; how many bytes it
+/// is from one column to the next, of which one is blank, or none; and the title.
 #[derive(Clone, Copy)]
 struct Layout(usize, usize, usize, usize, &'static str);
 

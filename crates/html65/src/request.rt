@@ -28,8 +28,9 @@ pub struct Showing {
 
 /// What the words ask for. The first word is the program's name.
 ///
-/// Each option and the name of the listing may be given once. Help comes first, then the version, both before any value
-/// is read. The output may not have the name of an input, nor may standard input be both the listing and the information file.
+/// Each option and the name of the listing may be given once. Help comes first, then the version, both
+/// before any value is read. The output may not have the name of an input, nor may standard input be both
+/// the listing and the information file.
 #[tactic(auto, using(crate::proofs::CommandLemmas::app_is_plain))]
 pub fn request_of(alloc: Global, words: &[String]) -> Result<Request<Showing>, RequestFault>
     /// For all words the request is that of the definition. It says which options there are, and takes help and

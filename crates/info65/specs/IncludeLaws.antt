@@ -20,8 +20,8 @@ use Rattle.info65.specs.declared.syntax.attribute.GroupKind.TheVariants as group
 abbrev pub IsGivenOr : Option ValueView → ValueView → ValueView → Type 0
 IsGivenOr given default v = (given ≡ Some v) ⊎ ((given ≡ None) × (v ≡ default))
 
--- What is given in a group ASMINC says this include file: FILE is its name, COMMENTSTART the character that begins a comment, without it
--- `;` (59), and IGNOREUNKNOWN whether lines with a fault are passed over, without it not.
+-- What is given in a group ASMINC says this include file: FILE is its name, COMMENTSTART the character that begins a
+-- comment, without it `;` (59), and IGNOREUNKNOWN whether lines with a fault are passed over, without it not.
 pub record SaysInclude (given : List AssignmentView) (i : IncludeView) : Type 0 where
   pub file : value_in attribute.File given ≡ Some (a_name i.file)
   pub comment_start : IsGivenOr (value_in attribute.CommentStart given) (a_character 59) (a_character i.comment_start)
@@ -38,7 +38,8 @@ abbrev pub AreSaid : List GroupView → List IncludeView → Type 0
 AreSaid [] is = is ≡ []
 AreSaid (g ∷ gs) is = Says g.kind g.given is (AreSaid gs)
 
--- The include files of an information file are those that its groups ASMINC say; there are at most 16, and their names are file names.
+-- The include files of an information file are those that its groups ASMINC say; there are at
+-- most 16, and their names are file names.
 abbrev pub IncludesSaid : Type 0
 IncludesSaid =
     (o : OptionsView) (bytes : List ℕ) (info : InfoView) (i : IsInformation o bytes info) → AreSaid i.groups info.includes × AreIncludes info.includes

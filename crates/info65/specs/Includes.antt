@@ -1,7 +1,7 @@
 -- Include files: what a line of one says, and the names that a file of such lines adds.
 --
--- A line says nothing, or gives a name its address; any other line is bad. A name whose address has one already adds nothing. A file
--- is refused for the first line that has a fault that counts, and then adds no name.
+-- A line says nothing, or gives a name its address; any other line is bad. A name whose address has one already adds
+-- nothing. A file is refused for the first line that has a fault that counts, and then adds no name.
 use Rattle.std.specs.Prelude.{◌+◌, ◌++◌, ◌==◌, ◌-◌, ◌&&◌, ℕ, Bool, true, false, List, [], ◌∷◌, Option, Some, None, Result, Ok, Err, drop, get_or, length, nat_le, nat_lt, option_map, option_to_list, take, if◌then◌else◌}
 use Rattle.std.specs.Io.BufRead.{strip_last}
 use Rattle.std.specs.List.{after_first, before_first, list_all, list_any, prefix_len, suffix_len}

@@ -1,7 +1,8 @@
 -- Reading groups token by token: what may come next, and the first fault.
 --
--- A table of places, what is due at each, and the faults in order. The laws tie it to the grammar: a file is accepted if and only if
--- its tokens are groups that keep every condition, and a refusal is the fault of the first token that has one.
+-- A table of places, what is due at each, and the faults in order. The laws tie it to the grammar: a
+-- file is accepted if and only if its tokens are groups that keep every condition, and a refusal is the
+-- fault of the first token that has one.
 use Rattle.std.specs.Prelude.{ℕ, List, [], ◌∷◌, ◌++◌, Option, Some, None, Result, Ok, Err, length, nat_lt, if◌then◌else◌}
 use Rattle.info65.specs.Attributes.{attribute_named, group_named}
 use Rattle.info65.specs.Closing.{closing_fault}

@@ -1,7 +1,8 @@
 -- Segments: their addresses, the segment of an address, what a group SEGMENT says, and what holds of all
 -- segments of a file.
 --
--- Both ends belong to a segment, and no address belongs to two. The key of a name is where the first segment of that name begins.
+-- Both ends belong to a segment, and no address belongs to two. The key of a name is where
+-- the first segment of that name begins.
 use Rattle.std.specs.Prelude.{◌≡◌, ◌≤◌, ◌&&◌, ℕ, Bool, true, List, [], ◌∷◌, Option, Some, Result, Ok, Err, All, AllPairs, get_or, nat_le, option_map, option_and_then, if◌then◌else◌}
 use Rattle.std.specs.List.{find, flat_map}
 use Rattle.std.specs.Str.{bytes_eq}

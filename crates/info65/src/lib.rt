@@ -7,10 +7,10 @@
 //! its bytes. [`Lexer`] gives the tokens alone. A refusal is an
 //! [`InfoFault`]: a line and an [`InfoFaultKind`].
 //!
-//! `syntax` reads tokens and groups, by the tables of groups, attributes and words in `attribute`. `groups` keeps the
-//! closed groups and what each says, `lookup` finds their ranges and names. `information` is what is left of a file that
-//! was read, and `includes` adds the names of include files. `laws` has the laws on which files are accepted and why one
-//! is refused.
+//! `syntax` reads tokens and groups, by the tables of groups, attributes and words in `attribute`. `groups`
+//! keeps the closed groups and what each says, `lookup` finds their ranges and names. `information` is what is
+//! left of a file that was read, and `includes` adds the names of include files. `laws` has the laws on which
+//! files are accepted and why one is refused.
 #![tactic(auto)]
 
 mod fault;

@@ -1,8 +1,9 @@
 -- What a test of a whole table says of each entry.
 --
--- The laws of every set of opcodes are proved once, for any table that passes these tests: an opcode is a byte; a mnemonic in a mode
--- has an opcode if and only if that opcode stands for them, so no opcode stands for two pairs and no pair has two; and of two modes
--- of a mnemonic that are written alike one is the zero-page mode of the other, so an operand's text and its size decide the mode.
+-- The laws of every set of opcodes are proved once, for any table that passes these tests: an opcode is a byte; a
+-- mnemonic in a mode has an opcode if and only if that opcode stands for them, so no opcode stands for two pairs and no
+-- pair has two; and of two modes of a mnemonic that are written alike one is the zero-page mode of the other, so an
+-- operand's text and its size decide the mode.
 use Rattle.std.specs.Prelude.{◌≡◌, ◌⊎◌, ◌↔◌, ◌<◌, ◌||◌, not, nat_lt, IsSome, ℕ, Bool, true, false, ◌&&◌, [], ◌∷◌, ◌++◌, map, Option, Some, None, ◌==◌, refl}
 use Rattle.std.proofs.Common.{inl, inr, ap}
 use Rattle.std.proofs.lemmas.Bool.{cond_both, eqb-true, ltb-true, and_parts, or_cases, both_ways, not-true}
@@ -57,8 +58,8 @@ is_zero_page_of x y = is_mode x (zero_page_of y)
 abbrev pub differ_in_size : Entry → Entry → Bool
 differ_in_size e f = not (sameb mnemonic.the_type e.1 f.1) || not (bytes_eq (written e.2) (written f.2)) || sameb mode.the_type e.2 f.2 || is_zero_page_of e.2 f.2 || is_zero_page_of f.2 e.2
 
--- the tests of a whole table: a look-up by opcode finds each entry, and so does one by mnemonic and mode; each opcode is a byte;
--- two modes of a mnemonic that are written alike are a zero-page and absolute pair
+-- the tests of a whole table: a look-up by opcode finds each entry, and so does one by mnemonic and mode; each opcode
+-- is a byte; two modes of a mnemonic that are written alike are a zero-page and absolute pair
 pub record IsSound (t : Table) : Type 0 where
   pub by_opcode : map (λ e. decoded t e.0) t ≡ map (λ e. Some (record { mnemonic = e.1; mode = e.2 })) t
   pub by_pair : map (λ e. encoded t e.1 e.2) t ≡ map (λ e. Some e.0) t

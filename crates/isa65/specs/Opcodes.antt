@@ -1,7 +1,8 @@
 -- Tables of opcodes, and look-ups in them.
 --
--- A table is a list of entries, each an opcode, a mnemonic and an addressing mode. It is written as data sheets print it, rows of
--- mnemonics below columns of modes, with `none` in a cell that has no opcode, so that it can be checked against a data sheet by eye.
+-- A table is a list of entries, each an opcode, a mnemonic and an addressing mode. It is written as data sheets
+-- print it, rows of mnemonics below columns of modes, with `none` in a cell that has no opcode, so that it can
+-- be checked against a data sheet by eye.
 use Rattle.std.specs.Prelude.{◌≡◌, ◌⊎◌, ℕ, ◌==◌, ◌&&◌, List, [], ◌∷◌, ◌++◌, Option, Some, None, IsSome, is_some, if◌then◌else◌, option_and_then}
 use denote.Enum.Bare.{sameb}
 use Rattle.isa65.specs.Mode.{IsZeroPageOf, written, zero_page_of}

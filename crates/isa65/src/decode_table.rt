@@ -10,9 +10,9 @@ use crate::op::Op;
 use crate::opcode_set::OpcodeSet;
 use std::marker::Model;
 
-/// The opcodes of a CPU, each decoded once, in a table by byte. It is itself an [`OpcodeSet`], that of the CPU's opcodes, and
-/// serves whoever decodes many bytes: [`OpcodeSet::decode`] is one look-up, and so are [`OpcodeSet::encode`] and
-/// [`OpcodeSet::sibling`].
+/// The opcodes of a CPU, each decoded once, in a table by byte. It is itself an [`OpcodeSet`], that of the CPU's
+/// opcodes, and serves whoever decodes many bytes: [`OpcodeSet::decode`] is one look-up, and so are
+/// [`OpcodeSet::encode`] and [`OpcodeSet::sibling`].
 #[derive(Drop)]
 pub struct DecodeTable {
     ops: [Option<Op>; 256],

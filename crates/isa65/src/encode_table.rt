@@ -13,8 +13,8 @@ use std::marker::Model;
 // A row for each of the 96 mnemonics, a column for each of the 16 modes.
 const CELLS: usize = 1536;
 
-/// The opcodes of a CPU in a table by mnemonic and mode. It serves whoever encodes many instructions: [`EncodeTable::encode`]
-/// is one look-up. It takes 3 KiB.
+/// The opcodes of a CPU in a table by mnemonic and mode. It serves whoever encodes many instructions:
+/// [`EncodeTable::encode`] is one look-up. It takes 3 KiB.
 #[derive(Drop)]
 pub struct EncodeTable {
     cpu: Cpu,

@@ -1,10 +1,11 @@
 //! The instruction sets of the 6502 family: mnemonics, addressing modes and opcodes.
 //!
-//! A [`Mode`] has a [`Row`] that says what its operands are. A [`Mnemonic`] and a [`Mode`] together are an [`Op`], and an [`OpcodeSet`] says which byte stands
-//! for which `Op`, by laws that every set keeps. [`Mos6502`], [`Cmos65Sc02`] and [`Rockwell65C02`] are
-//! the sets of three CPUs, each with the opcodes of the one before and more. A [`Cpu`] is the set of the
-//! CPU that it names, a [`DecodeTable`] is the same as a table by byte, and an [`EncodeTable`] as one by mnemonic and mode. [`later_keep_earlier`] is the law between the sets.
-//! [`ByteOrder`] is the order in which a number of several bytes stands.
+//! A [`Mode`] has a [`Row`] that says what its operands are. A [`Mnemonic`] and a [`Mode`] together are an [`Op`],
+//! and an [`OpcodeSet`] says which byte stands for which `Op`, by laws that every set keeps. [`Mos6502`],
+//! [`Cmos65Sc02`] and [`Rockwell65C02`] are the sets of three CPUs, each with the opcodes of the one before and more.
+//! A [`Cpu`] is the set of the CPU that it names, a [`DecodeTable`] is the same as a table by byte, and an
+//! [`EncodeTable`] as one by mnemonic and mode. [`later_keep_earlier`] is the law between the sets. [`ByteOrder`] is
+//! the order in which a number of several bytes stands.
 #![tactic(auto)]
 
 mod byte_order;

@@ -302,8 +302,8 @@ const ALL: [Mnemonic; 96] = [
     Mnemonic::Smb7,
 ];
 
-// Where the text of this number stands in `ALL`. A number that no text has leads to the first. The factors of `number_of` were
-// found by search: no two texts have one number.
+// Where the text of this number stands in `ALL`. A number that no text has leads to the first. The factors of
+// `number_of` were found by search: no two texts have one number.
 const PLACES: [u8; 247] = [
     29, 0, 0, 0, 21, 0, 61, 0, 0, 0, 0, 63, 46, 0, 0, 0, 0, 0, 0, 14, 0, 8, 49, 0, 0, 0, 0, 0, 0,
     0, 41, 0, 0, 0, 0, 13, 1, 0, 48, 0, 0, 0, 35, 0, 0, 0, 0, 0, 0, 36, 0, 0, 0, 0, 0, 0, 0, 0, 39,

@@ -1,7 +1,7 @@
 -- Where base names lie. A listing defines each base name once, so that it assembles back.
 --
--- A base is defined by a constant line outside the image and in skipped bytes, by a label where an item begins, and by a forward
--- line inside an instruction: for `jmp $1001` at $1000 that is `L1001`.
+-- A base is defined by a constant line outside the image and in skipped bytes, by a label where an item begins, and by
+-- a forward line inside an instruction: for `jmp $1001` at $1000 that is `L1001`.
 use Rattle.std.specs.Prelude.{◌≡◌, ◌⊎◌, ℕ, ◌+◌, ◌<◌, ◌≤◌, true, false, Some}
 use Rattle.map65.specs.Types.{Code, Constant, Forward, Label, Place}
 use Rattle.map65.specs.ImageView.{is_inside}
@@ -28,8 +28,8 @@ LiesBy Constant m n = IsOutside m n
 LiesBy Label m n = 0 < item_len m n
 LiesBy Forward m n = IsInCode m n
 
--- The base of an address's name lies outside the image or in skipped bytes, or an item begins there, or it lies inside an item of code;
--- its place says which. So no base lies inside an item of a table.
+-- The base of an address's name lies outside the image or in skipped bytes, or an item begins there, or it lies inside
+-- an item of code; its place says which. So no base lies inside an item of a table.
 abbrev pub PlaceLaw : MapView → Type 0
 PlaceLaw m = (a : ℕ) (b : Base) → base_at m a ≡ Some b → LiesBy (place_of m b.address) m b.address
 

@@ -1,4 +1,5 @@
--- What contracts know of a reader or a writer: its bytes, if it reports them, how many of its calls failed, and whether the last read did.
+-- What contracts know of a reader or a writer: its bytes, if it reports them, how many of its calls
+-- failed, and whether the last read did.
 use Rattle.std.specs.Prelude.{◌≡◌, ℕ, ◌+◌, ◌-◌, ◌^◌, ◌≤◌, nat_lt, Bool, true, false, min, List, ◌++◌, length, MatchResult, Option, Result}
 use Rattle.std.specs.Io.KnownBytes.{Appends, Consumes}
 

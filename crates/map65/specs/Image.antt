@@ -1,7 +1,7 @@
 -- The image that an input gives.
 --
--- The image is what the settings ask for: INPUTSIZE bytes after the first INPUTOFFS, or all that follow these; or the first of Read,
--- Short, Empty and TooLarge that holds. By default it ends at $FFFF.
+-- The image is what the settings ask for: INPUTSIZE bytes after the first INPUTOFFS, or all that follow these; or the
+-- first of Read, Short, Empty and TooLarge that holds. By default it ends at $FFFF.
 use Rattle.std.specs.Prelude.{◌≡◌, ℕ, ◌+◌, ◌-◌, ◌==◌, ◌||◌, Bool, true, false, nat_lt, if◌then◌else◌, List, length, drop, take, Option, Some, None, Result, Ok, Err, ⊤}
 use Rattle.info65.specs.Words.{SettingsView}
 use Rattle.map65.specs.Types.{Empty, ImageFault, Short, TakeFault, TooLarge}
@@ -72,7 +72,8 @@ abbrev pub ReadCount : {T : Type 0} → Result T ImageFault → ℕ → ℕ → 
 ReadCount (Err Read) old new = new ≡ one_more old
 ReadCount _ old new = new ≡ old
 
--- reading went on to the limit or the end, or to the first read that failed, which was the last one; unless memory ran out
+-- reading went on to the limit or the end, or to the first read that failed, which
+-- was the last one; unless memory ran out
 abbrev pub StopsAt : {T : Type 0} → Result T ImageFault → ℕ → Option (List ℕ) → Option (List ℕ) → Bool → Type 0
 StopsAt (Err Read) limit old new failed = failed ≡ true
 StopsAt (Err Memory) limit old new failed = ⊤

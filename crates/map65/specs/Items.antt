@@ -1,9 +1,9 @@
 -- Items: instructions, the entries of tables, and single bytes.
 --
--- An item begins at an address of the image exactly when the address is not skipped and is the first of its piece, or an item of the
--- same piece ends just before it. In code an item has the bytes of its instruction; an undefined opcode is an item of one byte. In a
--- table an item has as many bytes as the table's unit. Where its piece ends earlier an item has one byte: a cut opcode, or a leftover
--- byte of a table.
+-- An item begins at an address of the image exactly when the address is not skipped and is the first of its piece, or
+-- an item of the same piece ends just before it. In code an item has the bytes of its instruction; an undefined opcode
+-- is an item of one byte. In a table an item has as many bytes as the table's unit. Where its piece ends earlier an
+-- item has one byte: a cut opcode, or a leftover byte of a table.
 use Rattle.std.specs.Prelude.{◌≡◌, ◌↔◌, ◌⊎◌, ℕ, zero, suc, ◌+◌, ◌-◌, ◌<◌, ◌==◌, ◌&&◌, not, nat_lt, true, false, Option, Some, None, if◌then◌else◌}
 use Rattle.isa65.specs.Words.{decoded, len_of}
 use Rattle.map65.specs.Types.{Op, RangeType}
@@ -59,9 +59,10 @@ size_at m a = if are_joined m (full_len_at m a - 1) a then full_len_at m a else 
 abbrev pub start_over : MapView → ℕ → ℕ → ℕ
 start_over m first a = if nat_lt a (first + size_at m first) then first else a
 
--- Where the item begins that an address belongs to: at the address itself, if that is the first of its piece or the item before it
--- ends there; else where the item of the address before it begins. There is no shorter rule, since the length of each item decides
--- where the next one begins. A skipped byte, and an address outside the image, begins where it lies.
+-- Where the item begins that an address belongs to: at the address itself, if that is the first of its piece
+-- or the item before it ends there; else where the item of the address before it begins. There is no shorter
+-- rule, since the length of each item decides where the next one begins. A skipped byte, and an address
+-- outside the image, begins where it lies.
 unfoldable pub item_start : MapView → ℕ → ℕ
 item_start m zero = zero
 item_start m (suc a) = if is_joined m (suc a) then start_over m (item_start m a) (suc a) else suc a

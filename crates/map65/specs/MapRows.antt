@@ -57,7 +57,8 @@ image_at start bytes = Ok (record { start = start; bytes = bytes })
 pub record WorkedMaps : Type 0 where
   -- outside the image, and the nine types in the order of their codes
   pub codes_of_roles : map code_of (None ∷ Some role.Code ∷ Some role.ByteTable ∷ Some role.WordTable ∷ Some role.DbyteTable ∷ Some role.AddrTable ∷ Some role.RtsTable ∷ Some role.TextTable ∷ Some role.Skip ∷ Some role.DwordTable ∷ []) ≡ 0 ∷ 1 ∷ 2 ∷ 3 ∷ 4 ∷ 5 ∷ 6 ∷ 7 ∷ 8 ∷ 9 ∷ []
-  -- jsr $1234, jmp $1234, jmp ($1234), jmp ($1001), lda $1234, sta $1001: what is no jump has a target in the image alone
+  -- jsr $1234, jmp $1234, jmp ($1234), jmp ($1001), lda $1234, sta $1001: what is no
+  -- jump has a target in the image alone
   pub jumps : targets_at (0x1000 ∷ 0x1003 ∷ 0x1006 ∷ 0x1009 ∷ 0x100C ∷ 0x100F ∷ []) (code_at 0x1000 (0x20 ∷ 0x34 ∷ 0x12 ∷ 0x4C ∷ 0x34 ∷ 0x12 ∷ 0x6C ∷ 0x34 ∷ 0x12 ∷ 0x6C ∷ 1 ∷ 0x10 ∷ 0xAD ∷ 0x34 ∷ 0x12 ∷ 0x8D ∷ 1 ∷ 0x10 ∷ []))
       ≡ Some 0x1234 ∷ Some 0x1234 ∷ None ∷ Some 0x1001 ∷ None ∷ Some 0x1001 ∷ []
   -- lda $1001,x, lda $1001,y, jmp ($1001,x), and the same of $1234
@@ -89,7 +90,8 @@ pub record WorkedMaps : Type 0 where
   pub empty : image_with None None 4 (1 ∷ 2 ∷ 3 ∷ 4 ∷ []) ≡ Err Empty
   -- a failed read comes before what the bytes are
   pub read : image_of default_settings [] true ≡ Err Read
-  -- what no reading may come to: a read after one that failed, two failures, a failure without a read that failed, an early end, a byte more
+  -- what no reading may come to: a read after one that failed, two failures, a failure without a read
+  -- that failed, an early end, a byte more
   pub no_read_after_a_failure : StopsAt {T = ImageView} (Err Read) 9 (Some []) (Some []) false → ⊥
   pub no_taking_after_a_failure : TakesNoMore {T = ℕ} (Err Taken.Read) false → ⊥
   pub no_second_failure : ReadCount {T = ImageView} (Err Read) 0 2 → ⊥

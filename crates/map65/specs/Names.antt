@@ -1,9 +1,11 @@
 -- The name of an address: a base name, which stands for an address of its own, and how far the address lies after that.
 --
 -- The name of an address is the first of these that applies:
--- 1. the given name that has the address as its own, or, of the sized names that cover it, the one with the highest address of its own;
+-- 1. the given name that has the address as its own, or, of the sized names that cover it, the one
+--    with the highest address of its own;
 -- 2. for a target inside an item of a table whose entries have more than one byte, the name of the item's first byte;
--- 3. for any other target, and for the first byte of an item that a target lies inside, `L` and the address in four hex digits.
+-- 3. for any other target, and for the first byte of an item that a target lies inside, `L`
+--    and the address in four hex digits.
 -- Any other address has no name.
 use Rattle.std.specs.Prelude.{◌≡◌, ◌↔◌, ◌⊎◌, ℕ, ◌+◌, ◌-◌, ◌<◌, ◌≤◌, ◌==◌, ◌&&◌, ◌||◌, Bool, true, false, List, [], length, if◌then◌else◌, Option, Some, None, is_some}
 use Rattle.std.specs.List.{list_any}
@@ -78,8 +80,8 @@ base_at m a = base_by (covering m.info.names a) (is_referenced m a) (entry_base 
 
 -- ---- where a base is defined
 
--- A base outside the image or in skipped bytes is a constant, one where an item begins is a label, and any other is defined before the
--- code item that it lies inside.
+-- A base outside the image or in skipped bytes is a constant, one where an item begins is a label, and any other is
+-- defined before the code item that it lies inside.
 abbrev pub place_in : Option RangeType → ℕ → Place
 place_in None len = place.Constant
 place_in (Some r) len = if is_skip r then place.Constant else (if len == 0 then place.Forward else place.Label)

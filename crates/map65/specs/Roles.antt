@@ -1,7 +1,7 @@
 -- The role of an address.
 --
--- The role of an address of the image is the type of the range that the address belongs to, else code. No address belongs to two
--- ranges.
+-- The role of an address of the image is the type of the range that the address belongs to, else
+-- code. No address belongs to two ranges.
 use Rattle.std.specs.Prelude.{ℕ, Bool, true, false, List, [], ◌∷◌, Option, Some, None, nat_lt, if◌then◌else◌}
 use denote.Enum.Bare.{sameb}
 use Rattle.info65.specs.contracts.information.range.RangeType as range_type

@@ -1,9 +1,10 @@
 -- Targets: the addresses that items refer to.
 --
--- The operands of `jmp` to an absolute address, of `jsr` and of relative instructions are targets wherever they lie, and so are the
--- entries of address tables, and those of return tables plus one. The operands of all other absolute modes are targets only inside
--- the image, skipped bytes included. A branch out of the address space has no target, nor has the return entry $FFFF. Zero-page
--- operands, numbers and text are no targets, and undefined and cut opcodes and leftover bytes have none.
+-- The operands of `jmp` to an absolute address, of `jsr` and of relative instructions are targets wherever they
+-- lie, and so are the entries of address tables, and those of return tables plus one. The operands of all other
+-- absolute modes are targets only inside the image, skipped bytes included. A branch out of the address space has
+-- no target, nor has the return entry $FFFF. Zero-page operands, numbers and text are no targets, and undefined and
+-- cut opcodes and leftover bytes have none.
 use Rattle.std.specs.Prelude.{◌≡◌, ℕ, ◌+◌, ◌-◌, ◌*◌, ◌<◌, ◌==◌, ◌||◌, nat_le, nat_lt, Bool, if◌then◌else◌, List, slice_index, Option, Some, None}
 use denote.Enum.Bare.{sameb}
 use Rattle.isa65.specs.Words.{Table, decoded, len_of, row_of, size_of}
@@ -26,8 +27,8 @@ byte_of bytes = slice_index bytes 1
 abbrev pub operand_word : List ℕ → ℕ
 operand_word bytes = slice_index bytes 1 + 256 * slice_index bytes 2
 
--- The target of a branch: the address after the instruction plus a signed byte, if that lies in $0000 to $FFFF. A byte below $80 leads
--- forward; any other leads back, by what it lacks of $100.
+-- The target of a branch: the address after the instruction plus a signed byte, if that lies in $0000 to $FFFF. A byte
+-- below $80 leads forward; any other leads back, by what it lacks of $100.
 unfoldable pub target_of : ℕ → ℕ → Option ℕ
 target_of next b =
     if nat_lt b 128 then (if nat_lt (next + b) 65536 then Some (next + b) else None)

@@ -1,4 +1,5 @@
-//! The laws of runs, pieces, items, cells and names, and the worked examples, each stated by a function that does nothing.
+//! The laws of runs, pieces, items, cells and names, and the worked examples, each
+//! stated by a function that does nothing.
 
 ghost use Rattle.info65.specs.Words.{AreNames};
 ghost use Rattle.map65.specs.Words.{BaseLaw, CellLaw, EntryStartLaw, ItemLaw, MapView, NameLaw, PieceLaw, PlaceLaw, ReferenceLaw, RunLaw, WorkedMaps};

@@ -2,10 +2,10 @@
 //!
 //! `devices` has what is read and written: input comes from a [`Source`], output goes to a [`Sink`], and [`Told`] makes
 //! them from any `std::io::Read` or `Write`. [`take_up_to`] reads some bytes, and [`write_whole`] writes some.
-//! [`read_image`] reads the [`Image`] that the settings of an `Info` ask for, and [`Map::build`] builds its [`Map`]: the
-//! role and the name of each address, and the length of the item that begins there. `cells` packs these into 16 bits; `marking`, `borders` and `naming` write the cells of an image.
-//! [`Marks`] is a flag for each address.
-//! `laws` states the laws of roles, runs, pieces, items, names and cells, and the worked examples.
+//! [`read_image`] reads the [`Image`] that the settings of an `Info` ask for, and [`Map::build`] builds its [`Map`]:
+//! the role and the name of each address, and the length of the item that begins there. `cells` packs these into 16
+//! bits; `marking`, `borders` and `naming` write the cells of an image. [`Marks`] is a flag for each address. `laws`
+//! states the laws of roles, runs, pieces, items, names and cells, and the worked examples.
 #![tactic(auto)]
 
 mod borders;

@@ -67,9 +67,9 @@ impl<'a, A: Allocator> Map<'a, A> {
 
     /// Lends the cells of the map: one for each address from $0000 to $FFFF, in order.
     ///
-    /// In the cell `c` of an address, `c % 16` is the code of its role: 0 outside the image, else 1 CODE,
-    /// 2 BYTETABLE, 3 WORDTABLE, 4 DBYTETABLE, 5 ADDRTABLE, 6 RTSTABLE, 7 TEXTTABLE, 8 SKIP, 9 DWORDTABLE. `c / 16 % 8` is the length
-    /// of the item that begins at the address, and 0 if none does. `c / 128 % 2` is 1 if the address has a name,
+    /// In the cell `c` of an address, `c % 16` is the code of its role: 0 outside the image, else 1 CODE, 2 BYTETABLE,
+    /// 3 WORDTABLE, 4 DBYTETABLE, 5 ADDRTABLE, 6 RTSTABLE, 7 TEXTTABLE, 8 SKIP, 9 DWORDTABLE. `c / 16 % 8` is the
+    /// length of the item that begins at the address, and 0 if none does. `c / 128 % 2` is 1 if the address has a name,
     /// else 0. The higher bits are private.
     pub fn cells(&self) -> &[u16]
         /// The 65,536 cells: of the cell c of an address, `c mod 16` is the code of its role (0 none, 1 CODE, 2

@@ -103,8 +103,8 @@ fn word_target<A: Allocator>(
     }
 }
 
-/// Returns the address that a branch with these operands leads to, whose bytes these are; `next` is the address after it. None if
-/// no operand is a distance, or if the branch ends outside the address space.
+/// Returns the address that a branch with these operands leads to, whose bytes these are; `next` is the address after
+/// it. None if no operand is a distance, or if the branch ends outside the address space.
 #[inline(always)]
 pub fn branch_target(row: Row, next: u32, bytes: &[u8]) -> Option<u16>
     requires all { row_len row ≤ length bytes.now }

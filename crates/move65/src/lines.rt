@@ -21,14 +21,16 @@ pub struct Lines {
     pub instructions: Marks,
     /// An instruction begins there that has an address of two bytes as its operand, and is no jump or call of it.
     pub operands: Marks,
-    /// Code is called there, or jumped to, or a table has the address; or a line of code has a label after code that does not go on.
+    /// Code is called there, or jumped to, or a table has the address; or a line of code has a
+    /// label after code that does not go on.
     pub routines: Marks,
     /// The address has a name, in the listing or in the information file.
     pub named: Marks,
 }
 
 impl Lines {
-    /// The lines of a text with what they mean; the information file has further names. Fails only if an allocation failed.
+    /// The lines of a text with what they mean; the information file has further names.
+    /// Fails only if an allocation failed.
     pub fn of(
         alloc: Global,
         scene: &Scene,

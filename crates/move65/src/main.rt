@@ -1,8 +1,9 @@
 //! Says whether a listing moves: `move65 [options] [listing]`.
 //!
-//! In order: the options, then help or version, the information file, the listing, both images and their runs, and the output, which is
-//! created only now: groups for the bytes that have not moved and must, and for those that have and must not, and comments. The status is
-//! 0 if nothing parts, or if the help text or the version was written; 1 if something does; and otherwise 2.
+//! In order: the options, then help or version, the information file, the listing, both images and their runs, and
+//! the output, which is created only now: groups for the bytes that have not moved and must, and for those that
+//! have and must not, and comments. The status is 0 if nothing parts, or if the help text or the version was
+//! written; 1 if something does; and otherwise 2.
 #![tactic(auto)]
 
 mod command;

@@ -85,7 +85,8 @@ fn scene_of(
     })
 }
 
-/// Where code begins: the addresses that are given and those of groups ENTRY, and the vectors; without any the first address.
+/// Where code begins: the addresses that are given and those of groups ENTRY, and the
+/// vectors; without any the first address.
 fn entries_of(alloc: Global, setup: &Setup<'_>, scene: &Scene) -> Result<Vec<u16>, AllocError> {
     let mut found = Vec::from_slice(alloc, &setup.moving.entries)?;
     for tag in setup.tags {
@@ -197,7 +198,8 @@ fn refused(fault: InfoFault) -> Failure {
     }
 }
 
-/// Reads the information file with the text behind it, and its groups in lines `#: ..`. Fails with the fault that it would be refused for.
+/// Reads the information file with the text behind it, and its groups in lines `#: ..`. Fails with
+/// the fault that it would be refused for.
 pub fn read_back(
     alloc: Global,
     options: &Options,

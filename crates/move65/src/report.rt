@@ -88,8 +88,8 @@ fn put_ran(alloc: Global, out: &mut String, lines: &Lines, ran: &Marks) -> Resul
 }
 
 impl Findings<'_> {
-    /// Appends the default labels that are missing: of variables behind the image that operands have, and of addresses that stay. An address
-    /// that code returns by is written by where it goes on.
+    /// Appends the default labels that are missing: of variables behind the image that operands have, and of addresses
+    /// that stay. An address that code returns by is written by where it goes on.
     fn put_names(&self, alloc: Global, out: &mut String, lines: &Lines) -> Result<(), AllocError> {
         let mut labels = Vec::from_slice(alloc, &self.variables)?;
         for claim in &self.claims {
@@ -110,8 +110,8 @@ impl Findings<'_> {
         Ok(())
     }
 
-    /// Appends the groups of all addresses that stay, with a SIZE of at most 256 if their bytes follow each other. Then comments: several
-    /// words that follow each other would better be a table of addresses.
+    /// Appends the groups of all addresses that stay, with a SIZE of at most 256 if their bytes follow each other. Then
+    /// comments: several words that follow each other would better be a table of addresses.
     fn put_claims(&self, out: &mut String) -> Result<(), AllocError> {
         let claims = &self.claims;
         for all in claims.chunk_by(|before, claim| follows(before, claim, 1)) {
@@ -130,8 +130,8 @@ impl Findings<'_> {
         Ok(())
     }
 
-    /// Appends a group for the addresses behind the image that names are written for, unless groups have them, and those of the bytes that
-    /// move and must not. Then comments: what stays and no name can be written for.
+    /// Appends a group for the addresses behind the image that names are written for, unless groups have them, and
+    /// those of the bytes that move and must not. Then comments: what stays and no name can be written for.
     fn put_others(&self, out: &mut String, scene: &Scene) -> Result<(), AllocError> {
         let (end, last) = (scene.end(), scene.last_named);
         if last != 0 {

@@ -24,7 +24,8 @@ pub struct Moving {
 /// How much later the second image lies, if nothing else is asked for: each half of an address is another one then.
 const BY: u16 = 257;
 
-/// What the words ask for. The first word is the program's name. Help comes first, then the version, both before any value is looked at.
+/// What the words ask for. The first word is the program's name. Help comes first, then the
+/// version, both before any value is looked at.
 #[tactic(auto, using(crate::proofs::CommandLemmas::app_is_plain))]
 pub fn request_of(alloc: Global, words: &[String]) -> Result<Request<Moving>, RequestFault> {
     let matches = this_program().matches(alloc, words)?;

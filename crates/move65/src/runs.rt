@@ -29,8 +29,8 @@ fn forget(machine: &mut Both) {
     machine.registers.flags[DECIMAL] = Pair::of(0);
 }
 
-/// Runs from an address, at most so many instructions, and only those that the listing has. What leads out of the image comes back with
-/// unknown registers.
+/// Runs from an address, at most so many instructions, and only those that the listing has. What leads out of the
+/// image comes back with unknown registers.
 fn run_from(machine: &mut Both, lines: &Lines, from: u16, steps: u32) {
     machine.registers = Registers::at(from);
     machine.registers.s = Pair::of(0xFF);
@@ -55,7 +55,8 @@ fn run_from(machine: &mut Both, lines: &Lines, from: u16, steps: u32) {
     }
 }
 
-/// Forgets what was seen, and runs from all entries and then from each routine, each with memory of which only the image is known.
+/// Forgets what was seen, and runs from all entries and then from each routine, each with
+/// memory of which only the image is known.
 pub fn run_all(machine: &mut Both, lines: &Lines, entries: &[u16], shown: &mut Progress<'_>) {
     for seen in machine.bus.seen.iter_mut() {
         seen.clear();

@@ -10,13 +10,15 @@ const GAP: usize = 256;
 /// How many there are at least, each both read and written, if they lie further behind.
 const MANY: usize = 8;
 
-/// Where machines have registers and ROMs rather than variables. Those that lie further behind end before the lower one.
+/// Where machines have registers and ROMs rather than variables. Those that lie
+/// further behind end before the lower one.
 const REGISTERS: usize = 0xD000;
 
 const SCREENS: usize = 0x9000;
 
-/// The address behind the last variable. From the end of the image on those are written, or move already, each at most 256 bytes behind the
-/// one before it. Behind a gap, where a table may be, there are eight or more that are both read and written.
+/// The address behind the last variable. From the end of the image on those are written, or move already,
+/// each at most 256 bytes behind the one before it. Behind a gap, where a table may be, there are eight or
+/// more that are both read and written.
 fn end_of(world: &World) -> usize {
     let mut end = world.scene.end();
     let mut last = end;
@@ -40,8 +42,8 @@ fn end_of(world: &World) -> usize {
     end
 }
 
-/// Moves what is touched behind the image, and the operands of the listing that have an address there. Appends these addresses, and returns
-/// whether there are any.
+/// Moves what is touched behind the image, and the operands of the listing that have an address there. Appends these
+/// addresses, and returns whether there are any.
 pub fn move_variables(
     world: &mut World,
     lines: &Lines,

@@ -1,4 +1,5 @@
-//! What both runs are connected to: the image, unknown memory, and what is seen: where they part, and which places of the image that comes from.
+//! What both runs are connected to: the image, unknown memory, and what is seen: where they part, and which
+//! places of the image that comes from.
 
 use crate::pair::{Pair, Places};
 use crate::scene::Scene;

@@ -1,8 +1,9 @@
 -- How a line changes that groups touch.
 --
--- Only the operands change whose bytes groups name, and the blanks before a comment. In the place of a number stands half of an address by a
--- name, in that of a word an address by a name or what one name is above another, and in that of the address of an instruction an address by a
--- name. A `.byte` of which each byte becomes the same half is `.lobytes` or `.hibytes`.
+-- Only the operands change whose bytes groups name, and the blanks before a comment. In the place of a number
+-- stands half of an address by a name, in that of a word an address by a name or what one name is above another,
+-- and in that of the address of an instruction an address by a name. A `.byte` of which each byte becomes the
+-- same half is `.lobytes` or `.hibytes`.
 use Rattle.std.specs.Prelude.{◌≡◌, ◌++◌, ℕ, ◌+◌, ◌-◌, Bool, true, false, List, [], ◌∷◌, codes, decimal, length, not, ◌==◌, ◌&&◌, nat_le, nat_lt, ◌||◌, if◌then◌else◌, Option, Some, None}
 use Rattle.std.specs.List.{list_all, list_any, range_with_len}
 use Rattle.text65.specs.Names.{has_name_form, is_blank}
@@ -16,8 +17,8 @@ use Rattle.name65.specs.declared.reference.Offset.{Offset}
 use Rattle.name65.specs.declared.reference.Offset.TheVariants.{Zero, Plus, Minus}
 use Rattle.name65.specs.declared.reference.Reference.{Reference}
 
--- What decides how lines change: their language, which addresses groups name, whether constant lines of unused names are left out, and the
--- address after the last line.
+-- What decides how lines change: their language, which addresses groups name, whether constant lines of unused names
+-- are left out, and the address after the last line.
 pub record Scope : Type 0 where
   pub language : Language
   pub named : ℕ → Bool
@@ -94,8 +95,8 @@ abbrev pub address_text : Style → Half → Reference → List ℕ
 address_text style.Bytes which r = half_text which r
 address_text _ which r = reference_text r
 
--- An operand of a list, with its first byte at an address, as it was and as it is: as before if no group names a byte of it; else a number,
--- and in its place what the list has there.
+-- An operand of a list, with its first byte at an address, as it was and as it is: as before if no group names a byte
+-- of it; else a number, and in its place what the list has there.
 pub data Becomes (scope : Scope) : Style → ℕ → List ℕ → List ℕ → Type 0 where
   kept : {s : Style} {at : ℕ} {text : List ℕ} → may_keep s ≡ true → names_one scope.named at (at + count_of s text) ≡ false → Becomes scope s at text text
   by_name : {s : Style} {at : ℕ} {text : List ℕ} (which : Half) (r : Reference) → IsNumber scope.language text → scope.named at ≡ true → IsByName r → Becomes scope s at text (address_text s which r)
@@ -105,7 +106,8 @@ pub data Becomes (scope : Scope) : Style → ℕ → List ℕ → List ℕ → T
 abbrev pub is_between : ℕ → Bool
 is_between b = is_blank b || b == 44 || b == 60 || b == 62 || b == 40 || b == 41
 
--- Operands with what stands before each, as they were and as they are, from an address on; the first index is the address after the last.
+-- Operands with what stands before each, as they were and as they are, from an address on; the
+-- first index is the address after the last.
 pub data AreListed (scope : Scope) (s : Style) (start : ℕ) : ℕ → List ℕ → List ℕ → Type 0 where
   none : AreListed scope s start start [] []
   more : {at : ℕ} {old new : List ℕ} (between was now : List ℕ) → AreListed scope s start at old new → list_all is_between between ≡ true → Becomes scope s at was now
@@ -130,8 +132,9 @@ pub record IsList (scope : Scope) (s : Style) (start end : ℕ) (old new : List 
 
 -- ---- lines
 
--- A line that gives the bytes from `at` to before `end`, as it was and as it is: the list of a `.byte` or `.word`; a `.byte` that becomes a
--- list of halves; the operand after a `#`; or the address of an instruction, which a group names by the instruction.
+-- A line that gives the bytes from `at` to before `end`, as it was and as it is: the list of a `.byte` or
+-- `.word`; a `.byte` that becomes a list of halves; the operand after a `#`; or the address of an instruction,
+-- which a group names by the instruction.
 pub data IsRewritten (scope : Scope) (at end : ℕ) : List ℕ → List ℕ → Type 0 where
   table : {old new : List ℕ} (s : Style) (before word : List ℕ) → may_keep s ≡ true → same word (directive_of s) ≡ true → IsList scope s at end old new
       → IsRewritten scope at end (before ++ (word ++ old)) (before ++ (word ++ new))
@@ -153,8 +156,8 @@ abbrev pub is_touched_constant : Scope → Option SourceLine → Bool
 is_touched_constant scope (Some (Assignment name n)) = scope.used || scope.named (held n)
 is_touched_constant scope _ = false
 
--- A line that gives the bytes from `at` to before `end` is touched if a group names one of them, and one that gives none if it is
--- such a constant line.
+-- A line that gives the bytes from `at` to before `end` is touched if a group names one of them, and one that
+-- gives none if it is such a constant line.
 unfoldable pub is_touched : Scope → ℕ → ℕ → List ℕ → Bool
 is_touched scope at end line = if nat_lt at end then names_one scope.named at end else is_touched_constant scope (says scope line)
 
@@ -177,7 +180,8 @@ pub record IsRevalued (old new : List ℕ) : Type 0 where
   pub whole : list_all no_comment was ≡ true
   pub is_rest : IsRest rest others
 
--- A line that gives the bytes from `at` to before `end`; what stands in its place; and what stands after the last line for it.
+-- A line that gives the bytes from `at` to before `end`; what stands in its place; and
+-- what stands after the last line for it.
 pub data LineBecomes (scope : Scope) (at end : ℕ) : List ℕ → List ℕ → List ℕ → Type 0 where
   untouched : {line : List ℕ} → is_touched scope at end line ≡ false → LineBecomes scope at end line (line ++ 10 ∷ []) []
   rewritten : {line new : List ℕ} → names_one scope.named at end ≡ true → IsRewritten scope at end line new → LineBecomes scope at end line (new ++ 10 ∷ []) []

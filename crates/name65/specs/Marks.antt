@@ -1,5 +1,5 @@
--- The addresses that groups of the lines `#: ..` name: of the bytes of HALVES and DIFFERENCE, from START to END of AFTER, and of the
--- instruction of BASE.
+-- The addresses that groups of the lines `#: ..` name: of the bytes of HALVES and DIFFERENCE, from START to END of
+-- AFTER, and of the instruction of BASE.
 use Rattle.std.specs.Prelude.{◌≡◌, ℕ, ◌+◌, ◌-◌, ◌&&◌, ◌||◌, min, nat_le, nat_lt, Bool, false, List, Option, Some, None}
 use Rattle.std.specs.List.{list_any}
 use Rattle.std.specs.Option.{unwrap_or}

@@ -19,7 +19,8 @@ use Rattle.files65.specs.declared.failure.Failure.TheVariants.{Memory, Own}
 abbrev pub scope_of : {L : Type 0} → Source L → (ℕ → Bool) → Bool → List ℕ → Scope
 scope_of s named used ends = record { language = s.language; named = named; used = used; last = unwrap_or (slice_get ends (length ends - 1)) s.start }
 
--- Each line of a source as it becomes, in order, by the address after each; and after the last what moves there, in order.
+-- Each line of a source as it becomes, in order, by the address after each; and
+-- after the last what moves there, in order.
 pub record AreLines {L : Type 0} (s : Source L) (named : ℕ → Bool) (used : Bool) (ends text : List ℕ) : Type 0 where
   pub lines : List ℕ
   pub tail : List ℕ

@@ -4,8 +4,8 @@ use Rattle.clap.specs.Words.{Row, first_of}
 use Rattle.usage65.specs.Words.{FileNamesView, Refusal, address_in, byte_in, given, info_named, input_named, is_set, names_apart, names_seen, or_refused, output_named, ◌>>=◌}
 use Rattle.name65.specs.declared.request.Naming.{Naming}
 
--- a listing by names: the names of files, the start, the byte between segments, whether unused names are left out, and whether labels come
--- before the names inside their instructions
+-- a listing by names: the names of files, the start, the byte between segments, whether unused names are left out, and
+-- whether labels come before the names inside their instructions
 pub record NamingView : Type 0 where
   pub names : FileNamesView
   pub start : Option ℕ

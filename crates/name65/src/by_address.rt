@@ -3,7 +3,8 @@
 use map65::ADDRESSES;
 use std::alloc::{AllocError, Global};
 
-/// At most one value for each address. It has a place for each address once there is a value, so a look takes no search.
+/// At most one value for each address. It has a place for each address once there
+/// is a value, so a look takes no search.
 #[derive(Drop)]
 pub struct ByAddress<T: Copy> {
     /// For each address which of the values it has, from 1; 0 stands for none.

@@ -12,7 +12,8 @@ use crate::rewriting::{Run, are_blank, blank_len, cut_at, put_gap, put_list};
 use crate::wishes::{Wish, Wishes};
 use stmt65::{Half, Part, PlacedPart, Places, Span};
 
-/// The list of operands of a line: where the `#` or the directive stands that opens it, and the parts of the line after that.
+/// The list of operands of a line: where the `#` or the directive stands that opens it,
+/// and the parts of the line after that.
 #[derive(Drop)]
 struct Listed<'t> {
     style: Style,
@@ -77,8 +78,8 @@ fn is_word(text: &[u8], word: &[u8]) -> bool
     text.eq_ignore_ascii_case(word)
 }
 
-/// Appends what stands in a line up to its list of a style, which a `#` or a directive at a place opens. A `.byte` whose bytes all become
-/// halves of a kind is `.lobytes` or `.hibytes`. The list is that of what is left.
+/// Appends what stands in a line up to its list of a style, which a `#` or a directive at a place opens. A `.byte`
+/// whose bytes all become halves of a kind is `.lobytes` or `.hibytes`. The list is that of what is left.
 fn open_list<'w, 't>(
     out: &mut Vec<u8>,
     placed: &PlacedLine<'w, 't>,

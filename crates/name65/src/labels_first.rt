@@ -1,7 +1,8 @@
 //! Labels before the names inside their instructions.
 //!
-//! A line `NAME := * + n` stands above the line of the instruction inside of which the name is. If that has a label, whoever puts a line after
-//! `LABEL:` puts it between, and the name is off. So `LABEL:` gets a line of its own above these lines.
+//! A line `NAME := * + n` stands above the line of the instruction inside of which the name is. If that
+//! has a label, whoever puts a line after `LABEL:` puts it between, and the name is off. So `LABEL:` gets
+//! a line of its own above these lines.
 
 ghost use Rattle.std.specs.Prelude.{IfErr, IfOk};
 ghost use Rattle.name65.specs.NamedText.{MeansTheSame, Reports};
@@ -13,7 +14,8 @@ use std::alloc::{AllocError, Global};
 use stmt65::{AsmFaultKind, Operation, Source, SourceLine, assemble_source, read_line};
 use text65::{first_line, is_blank};
 
-/// Appends the lines `NAME := * + n`, and before them the label of the line that follows; what comes after the label keeps its column.
+/// Appends the lines `NAME := * + n`, and before them the label of the line that follows; what
+/// comes after the label keeps its column.
 fn put_split(
     out: &mut Vec<u8>,
     places: &[u8],
@@ -66,7 +68,8 @@ fn reordered(alloc: Global, source: &Source<'_, '_, '_>) -> Result<Vec<u8>, Allo
 
 /// The text of the listing of this name, each label before the names inside its instruction.
 ///
-/// Nothing is trusted for the promise: the text is assembled too, and unless it gives the bytes of the listing, there is none.
+/// Nothing is trusted for the promise: the text is assembled too, and unless it gives the
+/// bytes of the listing, there is none.
 pub fn with_labels_first(
     alloc: Global,
     name: &str,

@@ -1,8 +1,8 @@
 //! Writes addresses in a listing by their names, so that it moves: `name65 [options] [listing]`.
 //!
-//! In order: the options, then help or version, whether the output is an input, the information file, the listing, its text by
-//! names, and the output, which is created only now. `named_text` has the promise: the text has the bytes of the listing. The status
-//! is 0 if the text, the help text or the version was written, otherwise 1.
+//! In order: the options, then help or version, whether the output is an input, the information file, the listing, its
+//! text by names, and the output, which is created only now. `named_text` has the promise: the text has the bytes of
+//! the listing. The status is 0 if the text, the help text or the version was written, otherwise 1.
 #![tactic(auto)]
 
 mod address_operand;

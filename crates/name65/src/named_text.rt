@@ -47,11 +47,12 @@ fn means(
     }
 }
 
-/// Writes the listing of this name as the groups of the lines `#: ..` ask: halves of addresses, operands and differences by names, and
-/// names after the image where it ends. The information file says how many addresses a name covers. With `used` the constant lines of
-/// names that no other line uses are left out.
+/// Writes the listing of this name as the groups of the lines `#: ..` ask: halves of addresses, operands and
+/// differences by names, and names after the image where it ends. The information file says how many addresses a name
+/// covers. With `used` the constant lines of names that no other line uses are left out.
 ///
-/// Nothing is trusted for the promise: the text is assembled too, and unless it gives the bytes of the listing, there is none.
+/// Nothing is trusted for the promise: the text is assembled too, and unless it gives the
+/// bytes of the listing, there is none.
 pub fn named_text(
     alloc: Global,
     name: &str,

@@ -6,7 +6,8 @@ use std::collections::BTreeSet;
 use stmt65::{Definition, Source, SourceLine, names_in, read_line};
 use text65::first_line;
 
-/// The names of a listing by the addresses that are their values; and the names that its lines use, if that is asked for.
+/// The names of a listing by the addresses that are their values; and the names that
+/// its lines use, if that is asked for.
 #[derive(Drop)]
 pub struct ListingNames<'t> {
     by_value: ByAddress<Definition<'t>>,
@@ -22,8 +23,8 @@ impl<'t> ListingNames<'t> {
         }
     }
 
-    /// Takes the names of these definitions. Of two names of one value the first counts, but one that moves with the lines around it, as a
-    /// label does, comes before one that does not.
+    /// Takes the names of these definitions. Of two names of one value the first counts, but one that moves with the
+    /// lines around it, as a label does, comes before one that does not.
     pub fn take(&mut self, definitions: &[Definition<'t>]) -> Result<(), AllocError> {
         for definition in definitions {
             let Some(address) = definition.address() else {

@@ -172,8 +172,9 @@ fn is_named_number(item: &Run<'_, '_>) -> bool
     }
 }
 
-/// Appends what stands in the place of an operand of a list. Fails if that may not stand there: an operand of which a group names a byte
-/// may not stay, and only a number that a group names may change, to a difference only if it is a word.
+/// Appends what stands in the place of an operand of a list. Fails if that may not stand there: an
+/// operand of which a group names a byte may not stay, and only a number that a group names may change,
+/// to a difference only if it is a word.
 pub fn put_operand(
     out: &mut Vec<u8>,
     item: &Run<'_, '_>,

@@ -5,8 +5,8 @@ use map65::Marks;
 use std::alloc::Global;
 use stmt65::Language;
 
-/// The language of the lines, which addresses groups name, whether the constant lines of unused names are left out, the address after the
-/// last line, and what groups wish.
+/// The language of the lines, which addresses groups name, whether the constant lines of unused names are left out, the
+/// address after the last line, and what groups wish.
 #[derive(Clone, Copy)]
 pub struct Plan<'w, 't> {
     pub alloc: Global,

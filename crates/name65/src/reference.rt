@@ -44,8 +44,8 @@ fn sign_of(half: Half) -> &'static [u8]
     }
 }
 
-/// Appends an address as it stands in a list: this half of it among bytes, the address itself among halves or words. Parentheses stand
-/// around a sum, since ca65 reads `<NAME+1` as one more than the half.
+/// Appends an address as it stands in a list: this half of it among bytes, the address itself among halves or words.
+/// Parentheses stand around a sum, since ca65 reads `<NAME+1` as one more than the half.
 pub fn put_in_list(
     out: &mut Vec<u8>,
     style: Style,

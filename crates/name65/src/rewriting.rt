@@ -1,6 +1,7 @@
 //! Writes a line anew, with other operands. Its columns stay where the new operands fit.
 //!
-//! Nothing is trusted of where the operands are, and what is to stand in their places: what may not change so is refused.
+//! Nothing is trusted of where the operands are, and what is to stand in their
+//! places: what may not change so is refused.
 
 ghost use Rattle.std.specs.Prelude.{◌≡◌, ◌++◌, ◌∷◌, IfOk, IfSome, OnOk, drop, true};
 ghost use Rattle.std.specs.List.{list_all};
@@ -80,8 +81,8 @@ fn comment_after(rest: &[u8], kept: usize) -> Option<Cut<'_>>
     }
 }
 
-/// Appends what stands in a line after its operands, from a column on: so many bytes, and then blanks and a comment, which stays at its
-/// column if there is room.
+/// Appends what stands in a line after its operands, from a column on: so many bytes, and then blanks and a comment,
+/// which stays at its column if there is room.
 pub fn put_rest(
     out: &mut Vec<u8>,
     rest: &[u8],
@@ -105,8 +106,8 @@ pub fn put_rest(
     }
 }
 
-/// A list of operands in a line, which gives the bytes from `at` to before `end`: its style, and what stands in the line from its column
-/// on.
+/// A list of operands in a line, which gives the bytes from `at` to before `end`: its style, and what
+/// stands in the line from its column on.
 #[derive(Clone, Copy)]
 pub struct Run<'w, 't> {
     pub plan: &'w Plan<'w, 't>,

@@ -36,7 +36,8 @@ pub struct Wishes<'t> {
     names: ListingNames<'t>,
 }
 
-/// A group, the information file in which it stands, and the bytes of the image that it is about, with the address of the first.
+/// A group, the information file in which it stands, and the bytes of the image that it is
+/// about, with the address of the first.
 #[derive(Clone, Copy)]
 struct TagGroup<'b> {
     tag: Tag,
@@ -122,7 +123,8 @@ impl<'b> TagGroup<'b> {
 }
 
 impl<'t> Wishes<'t> {
-    /// The wishes of these groups for a text, by what it means and how many addresses its names have in the information file.
+    /// The wishes of these groups for a text, by what it means and how many addresses its
+    /// names have in the information file.
     pub fn new(
         alloc: Global,
         source: &Source<'t, '_, '_>,
@@ -180,7 +182,8 @@ impl<'t> Wishes<'t> {
         }
     }
 
-    /// Whether only the address after one of these has a name: then all are return addresses, each one less than where the CPU goes on.
+    /// Whether only the address after one of these has a name: then all are return addresses, each one
+    /// less than where the CPU goes on.
     fn are_returns(&self, group: TagGroup<'_>) -> bool {
         let count = group.tag.size.unwrap_or(1);
         1 < count
@@ -242,15 +245,16 @@ impl<'t> Wishes<'t> {
         name.ok_or(group.refusal(Complaint::NoName(address)))
     }
 
-    /// The address after one, if it has a name that moves with it: that of a constant line does not move with a byte of the image before it.
+    /// The address after one, if it has a name that moves with it: that of a constant line does not move
+    /// with a byte of the image before it.
     fn next_named(&self, group: TagGroup<'_>, address: u16) -> Option<u16> {
         let next = address.checked_add(1)?;
         let moves = group.byte(address).is_err() || !self.names.is_constant_at(next);
         (moves && self.names.has(next)).then_some(next)
     }
 
-    /// An address by a name: its own; or else that of which it is one of SIZE addresses; or else that of the next address, since a return
-    /// address is one less than where the CPU goes on. For a return address that comes first.
+    /// An address by a name: its own; or else that of which it is one of SIZE addresses; or else that of the next
+    /// address, since a return address is one less than where the CPU goes on. For a return address that comes first.
     fn reference_to(
         &mut self,
         group: TagGroup<'_>,

@@ -1,7 +1,7 @@
 -- Text behind calls.
 --
--- A group INLINE of an information file says that text follows each call of its address, up to and with the first zero byte, or of as many
--- bytes as its SIZE says. Code goes on behind it.
+-- A group INLINE of an information file says that text follows each call of its address, up to and with the first zero
+-- byte, or of as many bytes as its SIZE says. Code goes on behind it.
 use Rattle.std.specs.Prelude.{ℕ, ◌+◌, ◌==◌, ◌&&◌, Bool, true, false, List, [], ◌∷◌, if◌then◌else◌, Option, Some, None}
 use Rattle.reach65.specs.Types.{Tag, TagKind}
 use Rattle.info65.specs.declared.tags.tag.TagKind.TheVariants as kind

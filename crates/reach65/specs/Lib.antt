@@ -1,4 +1,5 @@
--- where an instruction leads, what is reached from given entries, which addresses are taken, and the ranges of the others
+-- where an instruction leads, what is reached from given entries, which addresses
+-- are taken, and the ranges of the others
 pub mod Inlines
 pub mod Tables
 pub mod Flow

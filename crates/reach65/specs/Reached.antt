@@ -1,4 +1,5 @@
--- What is reached: the least set of addresses that has the entries in the image, and with an address those that its instruction leads to.
+-- What is reached: the least set of addresses that has the entries in the image, and with an
+-- address those that its instruction leads to.
 use Rattle.std.specs.Prelude.{◌≡◌, ◌↔◌, ◌++◌, ℕ, Bool, true, List, Contains}
 use Rattle.std.specs.Option.{option_to_list}
 use Rattle.map65.specs.Words.{is_inside}

@@ -57,8 +57,8 @@ pub record WorkedCode : Type 0 where
   -- nop leads to a byte of a table, which is no instruction; an undefined opcode is none either
   pub no_code :
       map (next_at (flow (with_range 0x1001 0x1001 role.ByteTable (0xEA ∷ 0xEA ∷ 0xFF ∷ [])))) (0x1000 ∷ 0x1001 ∷ 0x1002 ∷ []) ≡ Some 0x1001 ∷ None ∷ None ∷ []
-  -- Code goes on after the text behind a call: none, if no group has the address; up to and with the zero byte; two bytes; what the first
-  -- of two groups says.
+  -- Code goes on after the text behind a call: none, if no group has the address; up to and with the zero byte; two
+  -- bytes; what the first of two groups says.
   pub texts :
       map (λ t. next_at (with_groups t a_text) 0x1000)
       ([] ∷ (inline 0x1006 None ∷ []) ∷ (inline 0x1007 None ∷ []) ∷ (inline 0x1007 (Some 2) ∷ []) ∷ (inline 0x1007 (Some 1) ∷ inline 0x1007 None ∷ []) ∷ [])

@@ -118,8 +118,8 @@ impl<'a, 'm> Flow<'a, 'm> {
         self.tags
     }
 
-    /// Returns the instruction that begins at the address: `None` if the address is no code of the image, if its opcode is
-    /// undefined, or if its bytes do not all lie in the image.
+    /// Returns the instruction that begins at the address: `None` if the address is no code of the image, if its opcode
+    /// is undefined, or if its bytes do not all lie in the image.
     #[tactic(auto, unfolding(crate::specs::Flow::instruction_at))]
     pub fn instruction_at(&self, address: u16) -> Option<Op>
         ensures value { result ≡ instruction_at self.now.map address }
@@ -164,7 +164,8 @@ impl<'a, 'm> Flow<'a, 'm> {
         Some(end as usize - 1)
     }
 
-    /// Returns what the information file says of the text behind an instruction that goes to this address by its operand.
+    /// Returns what the information file says of the text behind an instruction that
+    /// goes to this address by its operand.
     pub fn text_by(&self, mnemonic: Mnemonic, to: Option<u16>) -> Option<Tag>
         ensures { result ≡ text_by self.now.tags mnemonic to }
     {

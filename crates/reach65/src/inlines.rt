@@ -61,7 +61,8 @@ fn enter_all(firsts: &mut [usize], tags: &[Tag])
     }
 }
 
-/// For each address the number of the first group that says that text follows each call of it, from 1 on, or 0. Empty if no group says so.
+/// For each address the number of the first group that says that text follows each call of it, from 1
+/// on, or 0. Empty if no group says so.
 #[tactic(auto, using(crate::proofs::TableLemmas::firsts_none))]
 pub fn firsts_of(alloc: Global, tags: &[Tag]) -> Result<Vec<usize>, AllocError>
     ensures { IfOk result (λ firsts. AreFirsts tags.now [] firsts.items) }

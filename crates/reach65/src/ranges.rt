@@ -25,10 +25,10 @@ fn first_with<A: Allocator>(marks: &Marks<A>, is: bool, from: usize, to: usize) 
     to
 }
 
-/// Returns ranges of exactly the addresses of the image that are not taken, in order. `piece` is called with the first address of each
-/// range, and returns its type and the address before which it should end. The range ends before that address, before the next taken one
-/// or with the image, whichever comes first, but it has at least one byte. Looks at each address twice at most. Fails only if an
-/// allocation fails.
+/// Returns ranges of exactly the addresses of the image that are not taken, in order. `piece` is called with the first
+/// address of each range, and returns its type and the address before which it should end. The range ends before that
+/// address, before the next taken one or with the image, whichever comes first, but it has at least one byte. Looks at
+/// each address twice at most. Fails only if an allocation fails.
 pub fn ranges_of<A: Allocator, B: Allocator, C: Allocator, F: Fn(u16) -> (RangeType, usize)>(
     alloc: A,
     image: &Image<B>,

@@ -1,8 +1,8 @@
 //! What guides: which addresses may be code, and what bytes that are no code may be.
 //!
-//! Each module is one rule. A rule may be wrong: what comes of it is checked before it is written, and programs whose truth is known
-//! (`tests/corpus`) say how often it is. `search` tries entries, `growth` lets sound ones join by
-//! the other rules. `survey` has what reached code does with addresses, and the rest says what the other bytes are.
+//! Each module is one rule. A rule may be wrong: what comes of it is checked before it is written, and programs whose
+//! truth is known (`tests/corpus`) say how often it is. `search` tries entries, `growth` lets sound ones join by the
+//! other rules. `survey` has what reached code does with addresses, and the rest says what the other bytes are.
 
 pub use crate::steps::{Placed, Step};
 

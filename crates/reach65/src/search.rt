@@ -30,8 +30,9 @@ fn push_leads(todo: &mut Vec<u16>, steps: &Steps<'_, '_>, address: u16) -> Resul
     push_some(todo, step.goal)
 }
 
-/// Returns marks of exactly the addresses that are reached from the entries. Entries outside the image are ignored. Each reached
-/// instruction is decoded once, so the time grows with the number of entries and of reached addresses. Fails only if an allocation fails.
+/// Returns marks of exactly the addresses that are reached from the entries. Entries outside the image are
+/// ignored. Each reached instruction is decoded once, so the time grows with the number of entries and of reached
+/// addresses. Fails only if an allocation fails.
 #[tactic(auto, using(crate::proofs::ReachedLemmas::search_first, crate::proofs::ReachedLemmas::search_skipped, crate::proofs::ReachedLemmas::search_marked, crate::proofs::ReachedLemmas::search_end))]
 pub fn reached(alloc: Global, steps: &Steps<'_, '_>, entries: &[u16]) -> Result<Marks, AllocError>
     /// An address is marked exactly if it is reached: it is an entry in the image, or the instruction of a reached

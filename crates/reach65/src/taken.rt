@@ -46,8 +46,8 @@ fn mark_range(marks: &mut Marks, range: RangeSpec)
     marks.set_span(usize::from(range.first), usize::from(range.last) + 1);
 }
 
-/// Returns marks of exactly the addresses that are marked in `code` or that a range of the information file has. Fails only if the
-/// allocation fails.
+/// Returns marks of exactly the addresses that are marked in `code` or that a range of the information file
+/// has. Fails only if the allocation fails.
 #[tactic(auto, unfolding(crate::specs::Taken::is_taken, crate::specs::Taken::is_given), using(crate::proofs::TakenLemmas::any_range))]
 pub fn taken_of(alloc: Global, steps: &Steps<'_, '_>, code: &Marks) -> Result<Marks, AllocError>
     /// Marks exactly the addresses that are marked or that a range of the information file has; or out of memory.

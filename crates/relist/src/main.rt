@@ -1,7 +1,8 @@
-//! A caller of the library: `relist [options of da65] file` lists an image in memory, assembles the listing, and compares.
+//! A caller of the library: `relist [options of da65] file` lists an image in memory,
+//! assembles the listing, and compares.
 //!
-//! The calls are those that docs/LIBRARY.md shows: `input` reads a file up to a limit, `in_memory` lists it, `by_line` lists it
-//! line by line, `of_address` asks a map, and `failure` has what can go wrong.
+//! The calls are those that docs/LIBRARY.md shows: `input` reads a file up to a limit, `in_memory` lists it, `by_line`
+//! lists it line by line, `of_address` asks a map, and `failure` has what can go wrong.
 #![tactic(auto)]
 
 mod by_line;

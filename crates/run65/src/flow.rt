@@ -68,7 +68,8 @@ impl<V: Value, B: Bus<V>> Machine<V, B> {
         }
     }
 
-    /// Runs a branch. Bits 6 and 7 of its opcode are the flag that it asks for, and bit 5 is whether that has to be set; `bra` asks for none.
+    /// Runs a branch. Bits 6 and 7 of its opcode are the flag that it asks for, and bit 5 is whether that
+    /// has to be set; `bra` asks for none.
     pub(crate) fn branch(&mut self, opcode: u8) {
         if opcode == 0x80 {
             return self.branch_if(V::of(0), false, 1);
@@ -78,7 +79,8 @@ impl<V: Value, B: Bus<V>> Machine<V, B> {
         self.branch_if(flag, opcode & 0x20 != 0, 1);
     }
 
-    /// Runs a branch by a bit of the zero page. Bits 4 to 6 of its opcode are the bit's number, and bit 7 is whether it has to be set.
+    /// Runs a branch by a bit of the zero page. Bits 4 to 6 of its opcode are the bit's number, and
+    /// bit 7 is whether it has to be set.
     pub(crate) fn branch_by_bit(&mut self, opcode: u8) {
         let base = self.byte_at(1);
         let place = self.in_page(0, base, Purpose::Read);
@@ -86,7 +88,8 @@ impl<V: Value, B: Bus<V>> Machine<V, B> {
         self.branch_if(flag, 0x7F < opcode, 2);
     }
 
-    /// The two bytes at the operand and so many bytes after it. On the 6502 the second one stands in the page of the first one.
+    /// The two bytes at the operand and so many bytes after it. On the 6502 the second one
+    /// stands in the page of the first one.
     fn pointed(&mut self, index: V) -> Word<V> {
         let word = self.word();
         let first = self.bus.place(word, index, Purpose::Pointer);

@@ -29,8 +29,8 @@ impl<V: Value, B: Bus<V>> Machine<V, B> {
         }
     }
 
-    /// Runs the instruction at the program counter. Returns whether it has run, and it is known where code goes on; nothing has changed if its
-    /// opcode is undefined.
+    /// Runs the instruction at the program counter. Returns whether it has run, and it is known where code goes on;
+    /// nothing has changed if its opcode is undefined.
     pub fn step(&mut self) -> bool {
         self.start = self.registers.pc;
         let opcode = self.byte_at(0).byte();

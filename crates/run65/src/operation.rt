@@ -47,8 +47,8 @@ fn overflow(a: u8, b: u8, sum: u8) -> u8 {
     ((a ^ sum) & (b ^ sum)) / 128
 }
 
-/// a + b + c in decimal digits, before the upper one is corrected: N and V come from it. Bytes whose halves are no digits have sums too, and so do
-/// the flags that mean nothing: the CPUs are known to give these.
+/// a + b + c in decimal digits, before the upper one is corrected: N and V come from it. Bytes whose halves are no
+/// digits have sums too, and so do the flags that mean nothing: the CPUs are known to give these.
 fn unfinished_sum(a: u8, b: u8, c: u8) -> u16 {
     let low = u16::from(a % 16) + u16::from(b % 16) + u16::from(c);
     let low = if 9 < low { (low + 6) % 16 + 16 } else { low };
@@ -65,7 +65,8 @@ fn decimal_sum(a: u8, b: u8, c: u8) -> u16 {
     }
 }
 
-/// a - b - 1 + c in decimal digits, of which c is 0 if there is a borrow. The later CPUs correct the whole difference, and the 6502 each digit.
+/// a - b - 1 + c in decimal digits, of which c is 0 if there is a borrow. The later CPUs correct the whole
+/// difference, and the 6502 each digit.
 fn decimal_difference(a: u8, b: u8, c: u8, is_cmos: bool) -> u8 {
     let borrow = 1 - c % 2;
     let low_is_less = a % 16 < b % 16 + borrow;

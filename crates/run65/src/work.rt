@@ -106,7 +106,8 @@ impl<V: Value, B: Bus<V>> Machine<V, B> {
         self.registers.flags[ZERO] = common.alone(Operation::IsZero);
     }
 
-    /// Sets Z by the bits that a value has in common with the accumulator, and N and V by its bits, unless it is immediate.
+    /// Sets Z by the bits that a value has in common with the accumulator, and N and V by
+    /// its bits, unless it is immediate.
     fn test_bits(&mut self, mode: Mode, value: V) {
         self.set_zero(value);
         if mode != Mode::Imm {
@@ -126,8 +127,8 @@ impl<V: Value, B: Bus<V>> Machine<V, B> {
         self.registers.flags[DECIMAL].byte() != 0
     }
 
-    /// Sets the accumulator to the sum, and V and C by these operations on it, a value and the carry. N and Z are those of the binary result
-    /// on the 6502, and those of the accumulator on the later CPUs.
+    /// Sets the accumulator to the sum, and V and C by these operations on it, a value and the carry. N and Z are those
+    /// of the binary result on the 6502, and those of the accumulator on the later CPUs.
     fn take_sum(&mut self, sum: V, value: V, [overflow, carry]: [Operation; 2]) {
         let plain = self.with_carry(Operation::Sum, value);
         self.registers.flags[OVERFLOW] = self.with_carry(overflow, value);
@@ -151,7 +152,8 @@ impl<V: Value, B: Bus<V>> Machine<V, B> {
         }
     }
 
-    /// Subtracts a value and the borrow from the accumulator. In decimal mode V and C are those of the binary difference.
+    /// Subtracts a value and the borrow from the accumulator. In decimal mode V and C
+    /// are those of the binary difference.
     pub(crate) fn subtract(&mut self, value: V) {
         let rest = value.alone(Operation::Not);
         let is_cmos = self.is_cmos;

@@ -1,8 +1,9 @@
 //! Runs one instruction from each of many states: `step65 CPU <states >results`.
 //!
-//! A state is 73 bytes: P, A, X, Y, S, the program counter; 18 times an address and a byte that is written there before; and 6 addresses. Memory
-//! is that of the state before. A result is 13 bytes: A, X, Y, S, P, the program counter, and the bytes at those addresses. Words
-//! have their low byte first. `tests/test_run65.py` compares the results with those of sim65.
+//! A state is 73 bytes: P, A, X, Y, S, the program counter; 18 times an address and a byte that is written
+//! there before; and 6 addresses. Memory is that of the state before. A result is 13 bytes: A, X, Y, S, P, the
+//! program counter, and the bytes at those addresses. Words have their low byte first. `tests/test_run65.py`
+//! compares the results with those of sim65.
 #![tactic(auto)]
 
 mod ram;

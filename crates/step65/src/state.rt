@@ -39,7 +39,8 @@ fn load(machine: &mut Machine<u8, Ram>, state: &[u8]) {
     machine.registers.pc = word(state, 5);
 }
 
-/// Runs an instruction from a state, and adds what has come of it. The program counter is $FFFF if the instruction has not run.
+/// Runs an instruction from a state, and adds what has come of it. The program counter is
+/// $FFFF if the instruction has not run.
 pub fn put_result(
     results: &mut Vec<u8>,
     machine: &mut Machine<u8, Ram>,

@@ -1,10 +1,11 @@
 -- How a statement is coded, as a list of fragments: what each byte of it stands for.
 --
--- A fragment is a fixed byte, a value from 0 to $FF, a zero-page address, a number as a directive gives it, a signed distance, half
--- of a word, or a number of equal bytes, as `.res` gives and as is missing before a segment. `modes_in` is the table of the notations
--- of an expression: for each, the modes that are written so, in the order in which they are tried; the first one that the mnemonic has
--- on the CPU is taken. The coding depends on the CPU, the earlier lines and the written form alone. It shares no definition with the
--- printing of a statement, so that the law of reassembly compares two readings.
+-- A fragment is a fixed byte, a value from 0 to $FF, a zero-page address, a number as a directive gives it, a signed
+-- distance, half of a word, or a number of equal bytes, as `.res` gives and as is missing before a segment.
+-- `modes_in` is the table of the notations of an expression: for each, the modes that are written so, in the order
+-- in which they are tried; the first one that the mnemonic has on the CPU is taken. The coding depends on the CPU,
+-- the earlier lines and the written form alone. It shares no definition with the printing of a statement, so that
+-- the law of reassembly compares two readings.
 use Rattle.std.specs.Prelude.{ℕ, ◌+◌, ◌-◌, ◌/◌, ◌%◌, Bool, true, false, ◌&&◌, List, [], ◌∷◌, length, map, replicate, nat_le, nat_lt, if◌then◌else◌, Option, Some, None, is_some, unwrap_or}
 use Rattle.std.specs.List.{flat_map, list_all}
 use Rattle.stmt65.specs.Types.{Abs, Absindx, Absx, Absy, Acc, Addr, Cpu, Dbyt, Directive, Dword, High, Imm, Imp, Ind, Indx, Indy, Low, Mnemonic, Mode, Notation, OperandKind, Rel, Zp, Zpind, Zprel, Zpx, Zpy}
@@ -142,8 +143,8 @@ word_operand v = Entry Addr v
 abbrev pub zero_page : Bool → Value → Fragment
 zero_page short v = if short then ZeroPage v else Oversized v
 
--- The modes of a notation, each with the kind of its operand, in the order in which they are tried: of a zero-page and an absolute mode
--- that differ in size alone the one of the operand's size goes first.
+-- The modes of a notation, each with the kind of its operand, in the order in which they are tried: of a zero-page and
+-- an absolute mode that differ in size alone the one of the operand's size goes first.
 abbrev pub modes_in : Bool → Notation → List (Mode × OperandKind)
 modes_in short (notation.Plain pattern.Immediate) = (Imm, kind.Byte) ∷ []
 modes_in short (notation.Half half) = (Imm, kind.Byte) ∷ []

@@ -1,4 +1,5 @@
--- The directives that give numbers, and their words. How a table of them is printed stands in `Tables`, what they code in `Coding`.
+-- The directives that give numbers, and their words. How a table of them is printed stands in
+-- `Tables`, what they code in `Coding`.
 use Rattle.stmt65.specs.Types.{ALL, Addr, Dbyt, Directive, Dword, List, Option, codes, find, ℕ}
 use Rattle.stmt65.specs.declared.directive.Directive.TheVariants.{Word}
 use Rattle.stmt65.specs.Names.{same}

@@ -61,8 +61,9 @@ IsAtMost limit all v = (n : ℕ) × (value_in all v ≡ Some n) × (n ≤ limit)
 abbrev pub IsBelow : ℕ → List Definition → Value → Type 0
 IsBelow limit all v = (n : ℕ) × (value_in all v ≡ Some n) × (n < limit)
 
--- The value of a fragment has room: a byte is at most $FF, an entry of n bytes is below 256^n, a zero-page operand has zero-page size, and a
--- distance goes from -128 to 127, counted from the address after the statement; a half is that of a word, and at most $FFFF bytes are filled.
+-- The value of a fragment has room: a byte is at most $FF, an entry of n bytes is below 256^n, a zero-page operand has
+-- zero-page size, and a distance goes from -128 to 127, counted from the address after the statement; a half is that of
+-- a word, and at most $FFFF bytes are filled.
 abbrev pub HasRoom : List Definition → ℕ → Fragment → Type 0
 HasRoom all next (Fixed b) = Unit {0}
 HasRoom all next (Single v) = IsAtMost 0xFF all v
@@ -78,7 +79,8 @@ abbrev pub EntersPast : State → Operation → Type 0
 EntersPast s (Segment name) = (start : ℕ) × (start_of s.layout name ≡ Some start) × (start < s.at)
 EntersPast s _ = ⊥
 
--- A line that says something has a fault of a kind; `s` is what stands above it, `all` are the definitions of the whole text.
+-- A line that says something has a fault of a kind; `s` is what stands above it, `all`
+-- are the definitions of the whole text.
 abbrev pub HasFault : List Definition → State → SourceLine → AsmFaultKind → Type 0
 HasFault all s source Syntax = ⊥
 HasFault all s source UnknownCpu = NamesNoCpu (operation_in source)

@@ -1,7 +1,7 @@
 -- Where segments begin.
 --
--- A start for each of some names of segments, and the byte that fills what is missing before them. Of two starts of one name the
--- first counts. `free` is the layout without a segment.
+-- A start for each of some names of segments, and the byte that fills what is missing before them. Of two starts of one
+-- name the first counts. `free` is the layout without a segment.
 use Rattle.std.specs.Prelude.{ℕ, Bool, true, false, List, [], ◌∷◌, ◌++◌, nat_lt, Option, Some, None}
 use Rattle.stmt65.specs.Symbols.{Definition, find_name, address_of}
 

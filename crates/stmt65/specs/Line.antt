@@ -1,13 +1,14 @@
 -- A line as fields at their columns.
 --
--- A line shorter than the column less 1 is filled with blanks up to there; to any other line that is not empty one blank is added,
--- so one blank follows a name that is too long for its column.
+-- A line shorter than the column less 1 is filled with blanks up to there; to any other line that is not empty one
+-- blank is added, so one blank follows a name that is too long for its column.
 use Rattle.stmt65.specs.Types.{◌++◌, ◌-◌, ◌==◌, Columns, List, [], if◌then◌else◌, length, nat_lt, replicate, ℕ, ◌∷◌}
 use Rattle.stmt65.specs.Levels.{fields_after}
 use Rattle.stmt65.specs.Statements.{Field, label_fields, fields_of}
 use Rattle.stmt65.specs.Views.{StatementView, RemarksView}
 
--- A line that is ready for a field at this column: a shorter line is filled with blanks; to any other that is not empty one blank is added.
+-- A line that is ready for a field at this column: a shorter line is filled with blanks; to any other
+-- that is not empty one blank is added.
 unfoldable pub filled : List ℕ → ℕ → List ℕ
 filled line column = if nat_lt (length line) (column - 1) then line ++ replicate (column - 1 - length line) 32
     else (if length line == 0 then [] else line ++ 32 ∷ [])

@@ -1,8 +1,8 @@
--- What a text means from a start: its bytes, or the lowest fault of the lowest line that has one. In which language it is read and where
--- its segments begin is given; that of a listing is `meaning`.
+-- What a text means from a start: its bytes, or the lowest fault of the lowest line that has one. In which language it
+-- is read and where its segments begin is given; that of a listing is `meaning`.
 --
--- Before each line there is a state: its address, the CPU, the definitions so far, and the layout. The faults of a line are a list
--- of tests, the lowest kind first; the first that holds counts.
+-- Before each line there is a state: its address, the CPU, the definitions so far, and the layout. The faults of a line
+-- are a list of tests, the lowest kind first; the first that holds counts.
 use Rattle.std.specs.Prelude.{ℕ, ◌+◌, Bool, true, false, ◌||◌, not, List, [], ◌∷◌, ◌++◌, map, nat_lt, if◌then◌else◌, Option, Some, None, is_some, unwrap_or, Result, Ok, Err}
 use Rattle.std.specs.List.{list_any, list_all, flat_map}
 use Rattle.stmt65.specs.Types.{AsmFault, AsmFaultKind, Cpu, DefinedTwice, Language, Listing, M6502, NoSuchForm, OutOfRange, PastEnd, PastStart, Syntax, Undefined, UnknownCpu}

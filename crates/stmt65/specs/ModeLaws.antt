@@ -1,6 +1,7 @@
--- In which mode an instruction is coded. The modes of a form are those that are written like it; after `a:` only the absolute
--- one. Of a zero-page and an absolute mode that are written alike the operand's size decides, if the mnemonic has both; every
--- other mode is taken whatever the size, and an operand that only the zero page has then needs zero-page size to fit.
+-- In which mode an instruction is coded. The modes of a form are those that are written like it; after `a:`
+-- only the absolute one. Of a zero-page and an absolute mode that are written alike the operand's size decides,
+-- if the mnemonic has both; every other mode is taken whatever the size, and an operand that only the zero page
+-- has then needs zero-page size to fit.
 use Rattle.std.specs.Prelude.{◌≡◌, ◌↔◌, ℕ, suc, Bool, true, false, List, [], ◌∷◌, Some, None, IsSome}
 use Rattle.std.specs.List.{list_any}
 use denote.Enum.Bare.{sameb}
@@ -13,7 +14,8 @@ use Rattle.stmt65.specs.SourceLine.{Form, One, Two, Instr}
 use Rattle.stmt65.specs.Symbols.{Definition}
 use Rattle.stmt65.specs.Coding.{Fragment, Fixed, State, is_short, kind_fragment, Way, ways, coding, coding_len}
 
--- x is a mode of the form: it is written so, and if `a:` stands there, it is absolute with a zero-page mode that is written alike
+-- x is a mode of the form: it is written so, and if `a:` stands there, it is absolute with
+-- a zero-page mode that is written alike
 abbrev pub IsModeOf : Form → Mode → Type 0
 IsModeOf form x = (written x ≡ form_text form) × (has_prefix form ≡ true → IsSome (zero_page_of x))
 
@@ -54,8 +56,8 @@ row_fragments short _ _ = []
 abbrev pub mode_fragments : Bool → Form → Mode → List Fragment
 mode_fragments short form m = row_fragments short form (row_of m)
 
--- The fragments are those of one mode of the form. If the mnemonic has a zero-page and an absolute mode that are written so, it is
--- the one of the operand's size.
+-- The fragments are those of one mode of the form. If the mnemonic has a zero-page and an absolute mode that are
+-- written so, it is the one of the operand's size.
 pub record TakesMode (cpu : Cpu) (above : List Definition) (m : Mnemonic) (form : Form) (fragments : List Fragment) : Type 0 where
   pub mode : Mode
   pub opcode : ℕ

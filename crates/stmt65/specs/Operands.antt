@@ -1,7 +1,7 @@
 -- How the operands of an instruction are written: as the pattern of the mode, with the expressions in it.
 --
--- A number has two or four digits by the kind of the operand. A name stands alone or with `+` and an offset; `+0` is not written. An
--- offset is decimal, or with `hexoffs` `$` and two digits below $100, else four.
+-- A number has two or four digits by the kind of the operand. A name stands alone or with `+` and an offset; `+0` is
+-- not written. An offset is decimal, or with `hexoffs` `$` and two digits below $100, else four.
 use Rattle.stmt65.specs.Types.{◌++◌, ◌==◌, Bool, Byte, List, Mode, OperandKind, Row, [], codes, expression, false, if◌then◌else◌, row_of, row_text, true, ℕ, ◌∷◌}
 use Rattle.isa65.specs.declared.row.OperandKind.TheVariants.{ZeroPage, Word, Distance}
 use Rattle.isa65.specs.declared.row.Row.TheVariants.{One, Two}
@@ -54,7 +54,7 @@ in_row hexoffs row operands = in_pattern (row_text row) (kind_texts hexoffs row 
 abbrev pub row_operands : Bool → Row → Bool → OperandsView → List ℕ
 row_operands hexoffs row absolute operands = prefix_text absolute ++ in_row hexoffs row operands
 
--- The operands of an instruction in its mode. `hexoffs` says whether offsets have hex digits, `absolute` whether `a:` stands before
--- them.
+-- The operands of an instruction in its mode. `hexoffs` says whether offsets have hex digits,
+-- `absolute` whether `a:` stands before them.
 unfoldable pub operand_text : Bool → Mode → Bool → OperandsView → List ℕ
 operand_text hexoffs m absolute operands = row_operands hexoffs (row_of m) absolute operands

@@ -15,7 +15,8 @@ abbrev pub begins_with : ℕ → List ℕ → Bool
 begins_with b [] = false
 begins_with b (c ∷ cs) = c == b
 
--- what a number counts as it is written: decimal digits, `$` and hex digits, `%` and binary digits, or a character between apostrophes
+-- what a number counts as it is written: decimal digits, `$` and hex digits, `%` and binary
+-- digits, or a character between apostrophes
 unfoldable pub number_of : List ℕ → ℕ
 number_of text =
     if begins_with dollar text then digits_value 16 (drop 1 text)

@@ -72,7 +72,8 @@ IsPrintable _ = Unit {0}
 abbrev pub TakesLabel : StatementView → Type 0
 TakesLabel s = has_bytes s ≡ true
 
--- A label stands only on the line of an instruction or of data, if it fits there. Any other label takes a line of its own.
+-- A label stands only on the line of an instruction or of data, if it fits there.
+-- Any other label takes a line of its own.
 abbrev pub MayBeLabelled : Columns → Option (List ℕ) → StatementView → Type 0
 MayBeLabelled c None s = Unit {0}
 MayBeLabelled c (Some name) s = TakesLabel s × IsNameLong name × (fits_label c name ≡ true)

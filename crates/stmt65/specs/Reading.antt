@@ -107,7 +107,8 @@ next_address Repair ps = next_value Repair ps >>= λ v. if is_difference v.0 the
 abbrev pub bracketed_in : List Part → Option (Value × List Part)
 bracketed_in ps = next_value Repair ps >>= λ v. if is_mark right_paren v.1 then Some (v.0, drop 1 v.1) else None
 
--- what `<` and `>` take: a number, a name, or an expression in parentheses, since ca65 reads `<name+1` as one more than the half
+-- what `<` and `>` take: a number, a name, or an expression in parentheses, since ca65
+-- reads `<name+1` as one more than the half
 unfoldable pub halved_in : List Part → Option (Value × List Part)
 halved_in (Number t ∷ ps) = Some (NumberValue (number_of t), ps)
 halved_in (Word w ∷ ps) = if_name w (Some (NameValue w 0 Zero, ps))

@@ -1,7 +1,7 @@
 -- What the reading of a line is to what is written.
 --
--- A line of a listing is read as a thing if and only if it is a spacing of a spelling of that thing, and it is a spelling of one
--- thing at most.
+-- A line of a listing is read as a thing if and only if it is a spacing of a spelling of that thing, and
+-- it is a spelling of one thing at most.
 use Rattle.stmt65.specs.Types.{List, Listing, Some, ℕ, ◌↔◌, ◌≡◌}
 use Rattle.stmt65.specs.SourceLine.{SourceLine}
 use Rattle.stmt65.specs.Parts.{Part}

@@ -1,8 +1,8 @@
 -- What a line of assembler source can say.
 --
--- An assignment `name := number`, a place assignment `name := * + number`, or an optional label and an operation after it. An
--- expression is a number, a name with what is added to it or subtracted from it, or a difference of two names. An operand after `#` and
--- a datum of `.byte` may be half of an expression.
+-- An assignment `name := number`, a place assignment `name := * + number`, or an optional label and an operation after
+-- it. An expression is a number, a name with what is added to it or subtracted from it, or a difference of two names.
+-- An operand after `#` and a datum of `.byte` may be half of an expression.
 use Rattle.stmt65.specs.Types.{AddressSize, Automatic, Bool, Directive, List, Minus, Mnemonic, Notation, Option, false, true, ℕ}
 use Rattle.stmt65.specs.declared.source_line.AddressSize.TheVariants.{Absolute}
 use Rattle.stmt65.specs.declared.source_line.Half.{Half}
@@ -12,8 +12,8 @@ abbrev pub is_absolute : AddressSize → Bool
 is_absolute Absolute = true
 is_absolute Automatic = false
 
--- an expression: a number; a name, the number that is added to its value, and what is subtracted; a name and the number that is
--- subtracted from its value; or the difference of two names
+-- an expression: a number; a name, the number that is added to its value, and what is subtracted; a name and the number
+-- that is subtracted from its value; or the difference of two names
 pub data Value : Type 0 where
   NumberValue : ℕ → Value
   NameValue : List ℕ → ℕ → Minus → Value
@@ -34,7 +34,8 @@ pub data Datum : Type 0 where
   ValueDatum : Value → Datum
   HalfDatum : Half → Value → Datum
 
--- no operation, an instruction, or an operation of the assembler with its operands; of `.res` a number of bytes and their value
+-- no operation, an instruction, or an operation of the assembler with its operands; of
+-- `.res` a number of bytes and their value
 pub data Operation : Type 0 where
   Nothing : Operation
   Instr : Mnemonic → Form → Operation

@@ -1,7 +1,7 @@
 -- How a line of a listing is spelled: what is written, item by item. What only a repair says is not spelled there.
 --
--- `(E),y`, say, is `(`, the expression, `)`, `,` and the word `y`. Words may be written in any letter case, names are exact,
--- and numbers count by their value.
+-- `(E),y`, say, is `(`, the expression, `)`, `,` and the word `y`. Words may be written in any letter case, names are
+-- exact, and numbers count by their value.
 use Rattle.stmt65.specs.Signs.{star, plus, comma, minus, colon}
 use Rattle.stmt65.specs.declared.source_line.Notation.TheVariants.{Half}
 use Rattle.stmt65.specs.Types.{◌++◌, ◌==◌, Bool, List, Minus, None, Some, Zero, [], codes, expression, false, has_name_form, if◌then◌else◌, is_ascii_alphabetic, text_of, true, ℕ, ◌∷◌, ◌≡◌, ◌⊎◌}

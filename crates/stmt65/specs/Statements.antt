@@ -1,9 +1,9 @@
 -- The operation and operands of each statement, as the fields of its line.
 --
--- The operation stands at the mnemonic column and its operands at the argument column. A return entry is `.word`, the target's name
--- with its offset and `-1`, or `.word $FFFF` without a target. A definition is a name at column 1, and at the argument column `:=`
--- with the value in four hex digits, or with `* + n` for a name that lies n bytes after the line. A label or a remark stands at
--- column 1.
+-- The operation stands at the mnemonic column and its operands at the argument column. A return entry is `.word`, the
+-- target's name with its offset and `-1`, or `.word $FFFF` without a target. A definition is a name at column 1, and at
+-- the argument column `:=` with the value in four hex digits, or with `* + n` for a name that lies n bytes after the
+-- line. A label or a remark stands at column 1.
 use Rattle.std.specs.Prelude.{decimal}
 use Rattle.stmt65.specs.Types.{◌++◌, Bool, Columns, Directive, Imp, List, Mode, None, Op, Option, Some, [], codes, cpu_text, false, flat_map, if◌then◌else◌, reverse, text_of, true, ℕ, ◌∷◌}
 use Rattle.stmt65.specs.Directives.{directive_text}

@@ -1,10 +1,10 @@
 -- The names that a text defines, and the value and size of an expression.
 --
--- A definition is a name, a whole number, and whether a line `name := number` gives it; of two definitions of a name the first
--- counts. The value of an expression is a whole number, or none if it is below 0 or a name has no definition. A difference has a
--- value if both names are addresses and the first is not below the second; so has a name from which a number is subtracted, if it is an
--- address and not below the number. An operand has zero-page size if its value is below $100, no `a:` stands before it, and each name
--- in it is defined as `name := number` on an earlier line.
+-- A definition is a name, a whole number, and whether a line `name := number` gives it; of two definitions of a name
+-- the first counts. The value of an expression is a whole number, or none if it is below 0 or a name has no definition.
+-- A difference has a value if both names are addresses and the first is not below the second; so has a name from which
+-- a number is subtracted, if it is an address and not below the number. An operand has zero-page size if its value is
+-- below $100, no `a:` stands before it, and each name in it is defined as `name := number` on an earlier line.
 use Rattle.std.specs.Prelude.{ℕ, ◌+◌, ◌-◌, Bool, true, false, ◌&&◌, List, [], ◌∷◌, nat_le, nat_lt, ◌==◌, if◌then◌else◌, Option, Some, None, is_some, option_and_then}
 use Rattle.std.specs.Str.{bytes_eq}
 use Rattle.stmt65.specs.Types.{Minus, Zero}
@@ -41,7 +41,8 @@ abbrev pub apart : Option ℕ → Option ℕ → Option ℕ
 apart (Some a) (Some b) = if nat_le b a then Some (a - b) else None
 apart _ _ = None
 
--- the value of an expression; none if it is below 0, a name is undefined, or a name that takes part in a subtraction has no address
+-- the value of an expression; none if it is below 0, a name is undefined, or a name that
+-- takes part in a subtraction has no address
 unfoldable pub value_in : List Definition → Value → Option ℕ
 value_in all (NumberValue n) = Some n
 value_in all (NameValue w n minus) = option_and_then (λ d. lowered minus (d.value + n)) (find_name w all)
@@ -72,8 +73,8 @@ abbrev pub is_constant : Option Definition → Bool
 is_constant None = false
 is_constant (Some d) = d.constant
 
--- zero-page size, by the lines above: the value is below $100, and a name has its first definition as `name := number` there; a difference
--- has none
+-- zero-page size, by the lines above: the value is below $100, and a name has its first definition as
+-- `name := number` there; a difference has none
 unfoldable pub has_zero_page_size : List Definition → Value → Bool
 has_zero_page_size above (NumberValue n) = nat_lt n 256
 has_zero_page_size above (DifferenceValue w v) = false

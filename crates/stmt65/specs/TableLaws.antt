@@ -15,7 +15,8 @@ abbrev pub EndsStretch : List Datum → Type 0
 EndsStretch (StringDatum stretch ∷ ds) = ⊥
 EndsStretch _ = Unit {0}
 
--- only bytes and stretches: a byte by itself is not plain; a stretch has a plain byte at least and only plain ones, and is as long as can be
+-- only bytes and stretches: a byte by itself is not plain; a stretch has a plain byte at least and
+-- only plain ones, and is as long as can be
 abbrev pub IsCut : List Datum → Type 0
 IsCut [] = Unit {0}
 IsCut (NumberDatum b ∷ ds) = (is_plain b ≡ false) × IsCut ds

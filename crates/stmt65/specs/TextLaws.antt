@@ -1,6 +1,6 @@
--- What a text means, line by line. Each line stands at the start plus the number of bytes of the lines above it. The text has
--- bytes exactly when no line has a fault, and they are those of its lines in order; else its fault is that of the first
--- line that has one.
+-- What a text means, line by line. Each line stands at the start plus the number of bytes of the lines above it.
+-- The text has bytes exactly when no line has a fault, and they are those of its lines in order; else its fault
+-- is that of the first line that has one.
 use Rattle.std.specs.Prelude.{◌≡◌, ◌↔◌, ℕ, ◌+◌, List, [], ◌∷◌, ◌++◌, length, Option, Some, None, Ok, Err}
 use Rattle.std.specs.List.{All, flat_map}
 use Rattle.stmt65.specs.Types.{AsmFaultKind, Listing, Repair}

@@ -1,4 +1,5 @@
-//! The directives that give numbers, and how a table of them is printed. What they code stands in `assembling::entries`.
+//! The directives that give numbers, and how a table of them is printed. What they
+//! code stands in `assembling::entries`.
 
 ghost use Rattle.stmt65.specs.Words.{directive_named, directive_text, entry_len, first_directive_named, order_of, ◌≡◌, ◌≤◌};
 

@@ -6,17 +6,15 @@
 //! `printing`: a [`Statement`] with its [`Expr`]s and [`Operands`] is what one line of a listing says.
 //! [`put_line`] prints it at its [`Columns`], with the [`Remarks`] that stand beside it.
 //!
-//! `reading`: [`read_line`] answers what a line says, a [`SourceLine`], or that it says nothing. `lexer` cuts
-//! a line into parts, `parts` is a cursor over them, and `names`, `expressions`, `operands`,
-//! `operations` and `whole_line` take from it what they are named for. [`Places`] says where the parts and operands of a line stand.
+//! `reading`: [`read_line`] answers what a line says, a [`SourceLine`], or that it says nothing. `lexer` cuts a line
+//! into parts, `parts` is a cursor over them, and `names`, `expressions`, `operands`, `operations` and `whole_line`
+//! take from it what they are named for. [`Places`] says where the parts and operands of a line stand.
 //!
-//! `assembling`: [`assemble`] answers the bytes that a text means from a start, or its first fault. It
-//! goes over the lines once, for the names (`symbols`) and the bytes (`coding`, `emit`); what waits for a name below it (`late`)
-//! is coded after that. [`assemble_source`] does it in
-//! either language, with segments that begin where a [`Layout`] says.
-//! [`assemble_known`] assembles a text whose names are known before, in one pass.
-//! [`line_addresses`] returns the address after each line, which says which line gave a byte, and [`assemble_explained`]
-//! what a fault is about.
+//! `assembling`: [`assemble`] answers the bytes that a text means from a start, or its first fault. It goes over the
+//! lines once, for the names (`symbols`) and the bytes (`coding`, `emit`); what waits for a name below it (`late`) is
+//! coded after that. [`assemble_source`] does it in either language, with segments that begin where a [`Layout`] says.
+//! [`assemble_known`] assembles a text whose names are known before, in one pass. [`line_addresses`] returns the
+//! address after each line, which says which line gave a byte, and [`assemble_explained`] what a fault is about.
 //!
 //! `laws`: that a line parses as a statement exactly when it is a source form of it, and what a text means.
 #![tactic(auto)]

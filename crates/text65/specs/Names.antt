@@ -1,7 +1,7 @@
 -- Blanks, the form of a name, and the words that no name may be.
 --
--- A blank is a space or a TAB. The form of a name is a letter or `_`, then letters, digits and `_`, at most 80 bytes. Reserved are
--- the mnemonics of the three CPUs and the registers A, F, S, X, Y and Z, in any letter case.
+-- A blank is a space or a TAB. The form of a name is a letter or `_`, then letters, digits and `_`, at most 80 bytes.
+-- Reserved are the mnemonics of the three CPUs and the registers A, F, S, X, Y and Z, in any letter case.
 use Rattle.std.specs.Prelude.{ℕ, Bool, false, ◌&&◌, ◌||◌, List, [], ◌∷◌, length, codes, nat_lt, ◌==◌, is_some}
 use Rattle.std.specs.List.{list_any, list_all}
 use Rattle.std.specs.Char.{is_ascii_alphabetic, is_ascii_alphanumeric}

@@ -1,5 +1,6 @@
-//! What the readers of assembler text and of information files share of text: its lines ([`first_line`]), blanks ([`is_blank`]), the form of a
-//! name ([`has_name_form`]), the words that no name may be ([`is_reserved_word`]), and hex digits ([`hex_digit`]).
+//! What the readers of assembler text and of information files share of text: its lines ([`first_line`]),
+//! blanks ([`is_blank`]), the form of a name ([`has_name_form`]), the words that no name may be
+//! ([`is_reserved_word`]), and hex digits ([`hex_digit`]).
 #![tactic(auto)]
 
 mod digits;

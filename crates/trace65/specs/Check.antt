@@ -15,7 +15,8 @@ pub data AreMerged : List NameView → List ℕ → List NameView → Type 0 whe
   label : (a : ℕ) (names : List NameView) (labels : List ℕ) (all : List NameView)
       → AreMerged names labels all → AreMerged names (a ∷ labels) (default_label a ∷ all)
 
--- The new information says what the base says, these ranges after those of the base, and default names for these addresses.
+-- The new information says what the base says, these ranges after those of the base,
+-- and default names for these addresses.
 pub record Says (base : InfoView) (found : List RangeSpec) (labels : List ℕ) (new : InfoView) : Type 0 where
   pub settings : new.settings ≡ base.settings
   pub ranges : new.ranges ≡ base.ranges ++ found

@@ -21,12 +21,13 @@ flow_of m file = record { map = m; tags = file.tags.now }
 abbrev pub Begins : List ℕ → List ℕ → Type 0
 Begins all first = take (length first) all ≡ first
 
--- the ranges have exactly the addresses of the image that no reached instruction and no range of the information file has
+-- the ranges have exactly the addresses of the image that no reached instruction
+-- and no range of the information file has
 abbrev pub HaveTheRest : MapView → MarksView → List RangeSpec → Type 0
 HaveTheRest m reached ranges = HaveAllFree m.image (is_taken m (is_code m (is_marked reached))) ranges
 
--- What is reached is what the entries lead to, those that were given among them. The ranges have the rest of the image and nothing else, and
--- no two of them share an address.
+-- What is reached is what the entries lead to, those that were given among them. The ranges have the rest of the image
+-- and nothing else, and no two of them share an address.
 pub record AreFindings (flow : FlowView) (asked : Tracing) (f : Findings) : Type 0 where
   pub given_first : Begins f.entries.items asked.entries.items
   pub reached : AreReached flow f.entries.items (is_marked f.reached)
@@ -36,12 +37,13 @@ pub record AreFindings (flow : FlowView) (asked : Tracing) (f : Findings) : Type
 
 -- ---- what is written
 
--- what follows the information file: what is found, and a comment on each reached instruction that the listing does not show
+-- what follows the information file: what is found, and a comment on each reached
+-- instruction that the listing does not show
 abbrev pub proposals : Findings → List ℕ → List ℕ
 proposals f unshown = f.proposed.text.items ++ unshown_lines unshown
 
--- After the information file this is accepted, and the whole says what the file says, these ranges and these labels. In the map of all that,
--- each reached instruction is an item that is as long, except those of the list.
+-- After the information file this is accepted, and the whole says what the file says, these ranges and these labels. In
+-- the map of all that, each reached instruction is an item that is as long, except those of the list.
 pub record IsReadBack (o : OptionsView) (file : InfoFile) (m : MapView) (f : Findings) (unshown : List ℕ) : Type 0 where
   pub info : InfoView
   pub accepted : information o (file.bytes.now ++ proposals f unshown) ≡ Ok info

@@ -7,8 +7,8 @@ use Rattle.isa65.specs.declared.cpu.Cpu.{Cpu}
 use Rattle.usage65.specs.Words.{Refusal, TwoOfStandardInput, address_in, addresses_given, cpu_in, given, info_named, is_set, is_taken, or_refused, output_named, ◌>>=◌}
 use Rattle.trace65.specs.declared.request.Tracing.{Tracing}
 
--- what is asked for: the options of da65 that say what the image is, the entries, whether no more is followed, whether the information file
--- is written first, and the output
+-- what is asked for: the options of da65 that say what the image is, the entries, whether no more is followed, whether
+-- the information file is written first, and the output
 pub record TracingView : Type 0 where
   pub options : OptionsView
   pub entries : List ℕ

@@ -67,7 +67,8 @@ pub struct Advice<'a> {
     pub labels: Vec<u16>,
 }
 
-/// Returns the entries that are given: those of the command line, and then those of the groups ENTRY. Fails only if an allocation failed.
+/// Returns the entries that are given: those of the command line, and then those of the groups
+/// ENTRY. Fails only if an allocation failed.
 pub fn given_entries(alloc: Global, given: &[u16], tags: &[Tag]) -> Result<Vec<u16>, AllocError> {
     let mut entries = Vec::from_slice(alloc, given)?;
     for tag in tags {
@@ -78,8 +79,8 @@ pub fn given_entries(alloc: Global, given: &[u16], tags: &[Tag]) -> Result<Vec<u
     Ok(entries)
 }
 
-/// Returns all entries: where reading begins, with those that are given, and, unless no more than the entries are to be followed, those that join
-/// them. Fails only if an allocation failed.
+/// Returns all entries: where reading begins, with those that are given, and, unless no more than the entries are to be
+/// followed, those that join them. Fails only if an allocation failed.
 pub fn followed(steps: &Steps<'_>, given: &[u16], plain: bool) -> Result<Followed, AllocError> {
     let entries = entries_of(steps, given, plain)?;
     if plain {
@@ -127,7 +128,8 @@ fn ground_of<'a>(
     Ok((ground, splits))
 }
 
-/// The pairs of halves, whose addresses lie in the image or little behind the last of these variables. None is at a place that `said` has.
+/// The pairs of halves, whose addresses lie in the image or little behind the last of these
+/// variables. None is at a place that `said` has.
 fn pairs_of(
     survey: &Survey<'_>,
     taken: &Marks,

@@ -146,8 +146,8 @@ fn are_names(new: &Info, base: &Info, labels: &[u16]) -> bool
     given == base.given_count() && label == labels.len()
 }
 
-/// Returns whether the information says what the base says, these ranges after those of the base, default names for these addresses,
-/// and nothing else.
+/// Returns whether the information says what the base says, these ranges after those of the base, default names
+/// for these addresses, and nothing else.
 pub fn says(new: &Info, base: &Info, ranges: &[RangeSpec], labels: &[u16]) -> bool
     /// Returns true only if an information says what another one says, with these ranges and labels, and nothing
     /// else.
@@ -160,8 +160,9 @@ pub fn says(new: &Info, base: &Info, ranges: &[RangeSpec], labels: &[u16]) -> bo
         && are_same_includes(new.includes(), base.includes())
 }
 
-/// Reads an information file with what is found, and returns what it says. Fails with the fault that it would be refused for, and with
-/// `Other` unless it says what the base says, these ranges after those of the base, default names for these addresses, and nothing else.
+/// Reads an information file with what is found, and returns what it says. Fails with the fault that it would be
+/// refused for, and with `Other` unless it says what the base says, these ranges after those of the base, default names
+/// for these addresses, and nothing else.
 pub fn read_back(
     alloc: Global,
     options: &Options,

@@ -1,9 +1,10 @@
 //! Says what the code of an image reaches: `trace65 [options] [image]`.
 //!
-//! In order: the options, then help or version, the information file, its include files, the image, what is found, and
-//! the output, which is created only now. The output is text of an information file: a picture of the image as comments, a range
-//! for each stretch of bytes that nothing speaks for, labels, and lines `#: ..` for addresses that code loads in halves and for
-//! what lies after the image. The status is 0 if the text, the help text or the version was written, otherwise 1.
+//! In order: the options, then help or version, the information file, its include files, the image, what is
+//! found, and the output, which is created only now. The output is text of an information file: a picture of the
+//! image as comments, a range for each stretch of bytes that nothing speaks for, labels, and lines `#: ..` for
+//! addresses that code loads in halves and for what lies after the image. The status is 0 if the text, the help
+//! text or the version was written, otherwise 1.
 #![tactic(auto)]
 
 mod advice;

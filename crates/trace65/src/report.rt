@@ -159,7 +159,8 @@ fn add_unshown(
     Ok(())
 }
 
-/// Reads back the information file with what is found after it. Returns where the reached instructions begin that its listing does not show.
+/// Reads back the information file with what is found after it. Returns where the reached instructions
+/// begin that its listing does not show.
 fn unshown_with(
     alloc: Global,
     options: &Options,
@@ -204,10 +205,12 @@ fn written(
     Ok(text)
 }
 
-/// Returns what is found of the image of this map, whose information the file and its include files gave, and what is written of it: the
-/// information file, if the whole is asked for, what is found, and a comment for each reached instruction that the listing does not show.
+/// Returns what is found of the image of this map, whose information the file and its include files gave, and what is
+/// written of it: the information file, if the whole is asked for, what is found, and a comment for each reached
+/// instruction that the listing does not show.
 ///
-/// Nothing is trusted for the promise: the information file with what is found is read back, and unless it says what it is to say, there is none.
+/// Nothing is trusted for the promise: the information file with what is found is read back, and unless it
+/// says what it is to say, there is none.
 pub fn report_of(
     alloc: Global,
     map: &Map<'_>,

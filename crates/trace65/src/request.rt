@@ -34,8 +34,9 @@ pub struct Tracing {
 
 /// What the words ask for. The first word is the program's name.
 ///
-/// Each option and the name of the image may be given once. Help comes first, then the version, both before any value is
-/// looked at. Then the start, the CPU and the entries are read, in this order. `Memory` is returned only if memory ran out.
+/// Each option and the name of the image may be given once. Help comes first, then the version, both
+/// before any value is looked at. Then the start, the CPU and the entries are read, in this order.
+/// `Memory` is returned only if memory ran out.
 #[tactic(auto, using(crate::proofs::CommandLemmas::app_is_plain))]
 pub fn request_of(alloc: Global, words: &[String]) -> Result<Request<Tracing>, RequestFault>
     /// For all words the request is that of the definition. It says which options there are, and takes help and

@@ -64,8 +64,8 @@ impl<'a> Text<'a> {
         bytes_at(self.advice.steps.image(), usize::from(range.first), len)
     }
 
-    /// Adds the whole: a picture and counts, what is given where it counts for nothing, the ranges, the labels, the lines `#: ..`, and what is only
-    /// likely, what keeps bytes from being code, and where there is room.
+    /// Adds the whole: a picture and counts, what is given where it counts for nothing, the ranges, the labels, the
+    /// lines `#: ..`, and what is only likely, what keeps bytes from being code, and where there is room.
     fn put_all(&mut self) -> Result<(), AllocError> {
         self.put_picture()?;
         self.put_misplaced()?;
@@ -84,7 +84,8 @@ impl<'a> Text<'a> {
     }
 }
 
-/// Returns the text of what is found, with these entries given, and these ranges proposed. Fails only if an allocation failed.
+/// Returns the text of what is found, with these entries given, and these ranges
+/// proposed. Fails only if an allocation failed.
 pub fn text_of(
     advice: &Advice<'_>,
     given: &[u16],

@@ -23,8 +23,8 @@ fn is_unshown(shown: &Map<'_>, steps: &Steps<'_, '_>, reached: &Marks, address: 
     }
 }
 
-/// Returns the addresses where a reached instruction begins but no item of the map that is as long, in their order. Fails only if an allocation
-/// failed.
+/// Returns the addresses where a reached instruction begins but no item of the map that is as long, in their
+/// order. Fails only if an allocation failed.
 #[tactic(auto, unfolding(crate::specs::Unshown::unshown_in))]
 pub fn unshown_of(
     alloc: Global,

@@ -2,7 +2,8 @@
 use Rattle.std.specs.Prelude.{ℕ, List, [], ◌∷◌, Option, Some, None, codes}
 use Rattle.clap.specs.Words.{Text}
 
--- an option: its id, its letter, its long name, what its value is called, and what it is for; one without a value is a flag
+-- an option: its id, its letter, its long name, what its value is called, and what it
+-- is for; one without a value is a flag
 pub record ChoiceView : Type 0 where
   pub id : Text
   pub short : Option ℕ
@@ -42,8 +43,8 @@ help_choice = record { id = codes "help"; short = letter (codes "h"); long = Som
 abbrev pub version_choice : ChoiceView
 version_choice = record { id = codes "version"; short = letter (codes "V"); long = Some (codes "version"); value = None; purpose = codes "version" }
 
--- a program's command line: its name, what its help text says before the options, the options in the order of that text, and
--- the id of a name without an option, which may be left out
+-- a program's command line: its name, what its help text says before the options, the options in the order of that
+-- text, and the id of a name without an option, which may be left out
 pub record ProgramView : Type 0 where
   pub name : Text
   pub usage : Text

@@ -1,7 +1,7 @@
 -- The texts that a program prints about itself.
 --
--- The usage line, and a line for each option: two blanks, names and value in 25 columns, and the purpose. The version is the name, `
--- profile 1` and a line feed.
+-- The usage line, and a line for each option: two blanks, names and value in 25 columns, and the purpose. The version
+-- is the name, ` profile 1` and a line feed.
 use Rattle.std.specs.Prelude.{ℕ, List, [], ◌∷◌, Option, Some, None, ◌++◌, ◌-◌, codes, flat_map, if◌then◌else◌, length, replicate}
 use Rattle.clap.specs.Words.{Row, Text}
 use Rattle.usage65.specs.Choices.{ChoiceView, ProgramView}

@@ -1,7 +1,7 @@
 -- Numbers as they are written on the command line.
 --
--- After `$`, `0x` or `0X` a number is hexadecimal, after `0` octal, else decimal. Without a digit, or with any other byte, it is
--- malformed, even if it is huge; outside its limits it is out of range.
+-- After `$`, `0x` or `0X` a number is hexadecimal, after `0` octal, else decimal. Without a digit, or with any other
+-- byte, it is malformed, even if it is huge; outside its limits it is out of range.
 use Rattle.std.specs.Prelude.{ℕ, List, Result, Ok, Err, ◌||◌, drop, codes, nat_eq, nat_le, length, ◌==◌, if◌then◌else◌}
 use Rattle.std.specs.List.{starts_with}
 use Rattle.std.specs.Str.Parse.{digits_value}

@@ -37,8 +37,8 @@ fn addresses_between(alloc: Global, text: &str) -> Result<Vec<u16>, UsageFault>
     addresses_in(alloc, &parts_of(alloc, text)?)
 }
 
-/// Returns the addresses that an option has, with commas between them; none if it is not given. Fails as `address_in` does for the first
-/// that is none.
+/// Returns the addresses that an option has, with commas between them; none if it is not given. Fails as
+/// `address_in` does for the first that is none.
 pub fn addresses_of(alloc: Global, matches: &ArgMatches, id: &str) -> Result<Vec<u16>, UsageFault>
     /// Returns the addresses of an option, with commas between them, in order; none if it is not given. Fails as for
     /// one address, for the first that is none; or out of memory.

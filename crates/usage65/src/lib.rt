@@ -1,6 +1,6 @@
-//! What the command lines of several programs share: the table of a program's options, from which come the command for `clap` that
-//! reads the program's words, the help text and the version; the values in the matches, the names of files and
-//! that they are apart, and why a command line is refused.
+//! What the command lines of several programs share: the table of a program's options, from which come the command for
+//! `clap` that reads the program's words, the help text and the version; the values in the matches, the names of files
+//! and that they are apart, and why a command line is refused.
 #![tactic(auto)]
 
 mod addresses;

@@ -20,7 +20,8 @@ fn number_in(digits: &[u8], radix: u32, most: u32) -> Result<u32, UsageFault>
     }
 }
 
-/// The number that a text writes: hexadecimal after `$`, `0x` or `0X`, octal after `0`, else decimal. Fails if it is above `most`.
+/// The number that a text writes: hexadecimal after `$`, `0x` or `0X`, octal after `0`, else
+/// decimal. Fails if it is above `most`.
 #[tactic(auto, unfolding(crate::specs::Number::numeral_in))]
 fn numeral_in(text: &[u8], most: u32) -> Result<u32, UsageFault>
     ensures value { result ≡ numeral_in most text.now }
@@ -48,8 +49,8 @@ pub fn address_in(text: &[u8]) -> Result<u16, UsageFault>
     Ok(numeral_in(text, 0xFFFF)? as u16)
 }
 
-/// Returns the byte that a text writes in the same way. Fails with `BadNumber` if the text is not a number, and with `OutOfRange` if
-/// it is above $FF.
+/// Returns the byte that a text writes in the same way. Fails with `BadNumber` if the text is not a number, and
+/// with `OutOfRange` if it is above $FF.
 pub fn byte_in(text: &[u8]) -> Result<u8, UsageFault>
     /// Returns the byte that a text writes in hexadecimal, octal or decimal. Fails if it is not a number, or is
     /// above $FF.
@@ -58,8 +59,8 @@ pub fn byte_in(text: &[u8]) -> Result<u8, UsageFault>
     Ok(numeral_in(text, 0xFF)? as u8)
 }
 
-/// Returns the number from `least` to `most` that decimal digits write. Fails with `BadNumber` if the text is not a number, and with
-/// `OutOfRange` if the number is not in these limits.
+/// Returns the number from `least` to `most` that decimal digits write. Fails with `BadNumber` if the text is not a
+/// number, and with `OutOfRange` if the number is not in these limits.
 #[tactic(auto, unfolding(crate::specs::Number::decimal_in))]
 pub fn decimal_in(text: &[u8], least: u8, most: u8) -> Result<u8, UsageFault>
     /// Returns the number that decimal digits write. Fails if the text is not a number, or the number is outside

@@ -26,8 +26,8 @@ pub struct Program<'a> {
 }
 
 impl<'a> Program<'a> {
-    /// Reads the words. The first word is the program's name. Fails with `Words` if a word fits no option, an option is given
-    /// twice, or a value is missing. `Memory` is returned only if memory ran out.
+    /// Reads the words. The first word is the program's name. Fails with `Words` if a word fits no option, an option is
+    /// given twice, or a value is missing. `Memory` is returned only if memory ran out.
     pub fn matches(&self, alloc: Global, words: &'a [String]) -> Result<ArgMatches<'a>, UsageFault>
         requires { IsPlain (command_of (program_of self.now)) }
         /// Returns clap's matches of the words, by the command of the table: its options in their order, and an

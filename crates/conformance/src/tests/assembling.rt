@@ -1,4 +1,5 @@
-//! What texts assemble to. Proofs compute the bytes and the faults of further small texts, in `MeaningRows` and `TextRows` of `stmt65`.
+//! What texts assemble to. Proofs compute the bytes and the faults of further small texts, in
+//! `MeaningRows` and `TextRows` of `stmt65`.
 
 use crate::tests::asserts::{assert_equal, assert_equal_at};
 use std::alloc::{AllocError, AllocGlobal, Global};
@@ -120,8 +121,8 @@ fn addresses_after_lines(rt: HostRuntime) {
     assert_equal(&rt, &found.as_slice(), &want.as_slice());
 }
 
-/// Texts of repairs, and what they give from $1000 on. They are filled up to the starts of segments; of two segments of one name the
-/// first counts, and one without a start goes on.
+/// Texts of repairs, and what they give from $1000 on. They are filled up to the starts of segments; of two segments of
+/// one name the first counts, and one without a start goes on.
 const REPAIRS: &[(&str, &str)] = &[
     (
         "l: lda #<m\n.segment \"A\"\nm: .word m-l",

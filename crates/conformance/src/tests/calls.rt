@@ -1,4 +1,5 @@
-//! Public functions that allocate nothing, each called once. Proofs hold what they return to worked values, in the files `Rows` of their crates.
+//! Public functions that allocate nothing, each called once. Proofs hold what they return to worked values,
+//! in the files `Rows` of their crates.
 
 use crate::tests::asserts::{assert_equal, assert_that};
 use isa65::{Cpu, DecodeTable, EncodeTable, Mnemonic, Mode, Op, OpcodeSet};

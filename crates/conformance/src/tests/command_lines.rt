@@ -43,8 +43,9 @@ fn start_addresses(rt: HostRuntime) {
     }
 }
 
-/// A command line and what its options are: the names of the information file, the output and the input, the start and the CPU; the level
-/// and the layout, in the order of the help text; and whether `--hexoffs`, `-h` and `-V` stand there.
+/// A command line and what its options are: the names of the information file, the output and the input,
+/// the start and the CPU; the level and the layout, in the order of the help text; and whether
+/// `--hexoffs`, `-h` and `-V` stand there.
 const ROWS: &[(&str, &str)] = &[
     (
         "-i a.info -o a.s -S $C000 --cpu 6502 --comments 4 --mnemonic-column 1 --argument-column 2 --comment-column 120 \

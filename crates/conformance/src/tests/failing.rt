@@ -47,8 +47,8 @@ fn assert_listed<R: Read + Drop>(
     assert_equal(rt, &listing.as_slice(), &THREE_LISTING);
 }
 
-/// A reader that fails after the bytes that are asked of it is not asked again. A run without a message writes none, not even one
-/// without a byte.
+/// A reader that fails after the bytes that are asked of it is not asked again. A run without a message
+/// writes none, not even one without a byte.
 #[test]
 fn no_call_too_many(rt: HostRuntime) {
     for fault in FAULTS {

@@ -1,5 +1,5 @@
-//! An information file that gives everything, and its tokens. Proofs compute what small files say, in `FileRows`, `AcceptedRows` and
-//! `RefusedRows` of `info65`.
+//! An information file that gives everything, and its tokens. Proofs compute what small files say, in `FileRows`,
+//! `AcceptedRows` and `RefusedRows` of `info65`.
 
 use crate::tests::asserts::assert_equal;
 use crate::tests::include_files::put_names;

@@ -1,11 +1,13 @@
-//! A map: what it says of all addresses, as text. Proofs compute what those of small images say, in `ItemRows` and `NameRows` of `map65`.
+//! A map: what it says of all addresses, as text. Proofs compute what those of small images say, in
+//! `ItemRows` and `NameRows` of `map65`.
 
 use crate::tests::asserts::assert_equal;
 use crate::tests::inputs::info_of;
 use map65::{Image, Map, NameBuf};
 use std::alloc::AllocError;
 
-/// Each address with a role or a name: its role, the length of the item that begins there, its cell without private bits, and its name.
+/// Each address with a role or a name: its role, the length of the item that begins there, its
+/// cell without private bits, and its name.
 fn put_map(out: &mut String, map: &Map<'_>) -> Result<(), AllocError> {
     let mut buffer = NameBuf::new();
     for (address, cell) in (0..=u16::MAX).zip(map.cells()) {
@@ -24,8 +26,8 @@ fn put_map(out: &mut String, map: &Map<'_>) -> Result<(), AllocError> {
     Ok(())
 }
 
-/// `jmp $2000`, a skipped byte, a word with a name, a character, and a name after the image. A cell has the role, 16 times the length, and
-/// 128 for a name.
+/// `jmp $2000`, a skipped byte, a word with a name, a character, and a name after the image. A cell has the role, 16
+/// times the length, and 128 for a name.
 const SAID: &str = "1000 Some(Code) 3 49
 1001 Some(Code) 0 1
 1002 Some(Code) 0 1

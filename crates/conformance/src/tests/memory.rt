@@ -150,7 +150,8 @@ da65: warning: skipped bytes, the listing does not assemble to the image
         .byte   "AB"
 "#;
 
-/// A run gives what the row says, with each allocation refused in turn until none is. If one is refused, nothing is written.
+/// A run gives what the row says, with each allocation refused in turn until none is.
+/// If one is refused, nothing is written.
 fn assert_row(rt: &(impl AllocGlobal + Abort), row: &Row<'_>) {
     let mut refusals = Refusals::none();
     for granted in 0..MANY {
@@ -179,15 +180,15 @@ fn each_allocation_refused_in_turn(rt: HostRuntime) {
     }
 }
 
-/// Names are found by four bytes for each slot: there is a slot for two bytes of what gives the names, and there are 16 to
-/// 1,048,576.
+/// Names are found by four bytes for each slot: there is a slot for two bytes of what gives the
+/// names, and there are 16 to 1,048,576.
 fn name_slots(bytes: usize) -> u64 {
     let slots = (bytes as u64 / 2).clamp(16, 1_048_576);
     slots.saturating_mul(4)
 }
 
-/// And they are found by four bytes for each of the 256 addresses of a page that has a name: no row has more than eight such
-/// pages. The list of pages is granted less than 24 KiB.
+/// And they are found by four bytes for each of the 256 addresses of a page that has a name: no row has more than eight
+/// such pages. The list of pages is granted less than 24 KiB.
 const NAME_PAGES: u64 = 8 * 1_024 + 24_576;
 
 /// What a name that is there before an include file counts for, beside the bytes of the file.
@@ -205,7 +206,8 @@ const KEPT: u64 = 4 * 32;
 /// Room for the text of these names, at most.
 const TEXT: u64 = 64;
 
-/// How many bytes are granted for an image of this size, which is read 4,096 bytes at a time into a vector that doubles.
+/// How many bytes are granted for an image of this size, which is read 4,096 bytes
+/// at a time into a vector that doubles.
 fn image_bytes(count: usize) -> u64 {
     if count == 0 {
         return 0;
@@ -246,7 +248,8 @@ fn all_names<'h>(
     included.names(heap)
 }
 
-/// Adds the names of the include files, each of which has these bytes: those of one by itself, and of two over one index, as a run does.
+/// Adds the names of the include files, each of which has these bytes: those of one by itself, and
+/// of two over one index, as a run does.
 fn include_all<'h>(
     heap: &'h Refusing<Global>,
     info: &mut Info<&'h Refusing<Global>>,

@@ -88,8 +88,8 @@ impl<'a> Given<'a> {
         }
     }
 
-    /// What it gives as text: its result, its messages and its listing. Writers that take one byte at each write get the same.
-    /// The map of a listing is built by one allocation.
+    /// What it gives as text: its result, its messages and its listing. Writers that take one byte at each write get
+    /// the same. The map of a listing is built by one allocation.
     pub fn gives(&self, rt: &(impl AllocGlobal + Abort)) -> String {
         let ran = self.run_in(rt, rt.alloc());
         let mut slow = Ran {

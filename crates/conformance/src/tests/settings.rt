@@ -43,7 +43,8 @@ fn information_files_that_are_accepted(rt: HostRuntime) {
     }
 }
 
-/// A command line, an information file, and the message for three bytes. Proofs compute the other refusals, in `RefusedRows` of `info65`.
+/// A command line, an information file, and the message for three bytes. Proofs compute the other
+/// refusals, in `RefusedRows` of `info65`.
 const REFUSED: &[(&[&str], &str, &str)] = &[
     (INPUT, "GLOBAL { INPUTSIZE 4; };", "input is too short"),
     (INPUT, "GLOBAL { INPUTOFFS 4; };", "input is empty"),

@@ -33,8 +33,8 @@ fn writes_of(listing: &str, at_once: usize) -> usize {
     writes
 }
 
-/// A run over a row reads its input up to the first empty read, or not at all if it is refused before, and writes each line and
-/// the messages once.
+/// A run over a row reads its input up to the first empty read, or not at all if it is refused before, and
+/// writes each line and the messages once.
 fn assert_calls(rt: &(impl AllocGlobal + Abort), row: &Row<'_>, at_once: usize) {
     let mut input = Tape::new(&row.input, at_once);
     let mut listing = Counted::new(at_once);
@@ -73,8 +73,9 @@ fn reads_and_writes(rt: HostRuntime) {
     }
 }
 
-/// Settings, how many bytes the input has, how many it gives at each read, and how many reads there are: up to the first
-/// that is empty, or until there is nothing more to ask for. What comes before the image is passed over by reads of its own.
+/// Settings, how many bytes the input has, how many it gives at each read, and how many reads there
+/// are: up to the first that is empty, or until there is nothing more to ask for. What comes before the
+/// image is passed over by reads of its own.
 const READS: &[(&str, usize, usize, usize)] = &[
     ("", 0, CHUNK, 1),
     ("", 3, CHUNK, 2),

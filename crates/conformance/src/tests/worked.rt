@@ -1,5 +1,6 @@
-// Runs as text. A row of a table begins with `= ` and what it shows. Then come a command line, ` < ` and the bytes of the input, the
-// information file, if there is an include file a line `k.inc:` and what it has, a line `--`, and what the run gives.
+// Runs as text. A row of a table begins with `= ` and what it shows. Then come a command line, ` < ` and
+// the bytes of the input, the information file, if there is an include file a line `k.inc:` and what it
+// has, a line `--`, and what the run gives.
 use crate::tests::asserts::assert_same;
 use crate::tests::runs::{Given, WARNING};
 use da65::File;
@@ -56,8 +57,8 @@ impl Row<'_> {
         u16::from_str_radix(digits, 16).expect(rt, "from_str_radix")
     }
 
-    /// A run writes what the row gives: the warnings, and the lines after the header. Its listing assembles to the image,
-    /// unless bytes are skipped.
+    /// A run writes what the row gives: the warnings, and the lines after the header. Its listing assembles to the
+    /// image, unless bytes are skipped.
     fn show(&self, rt: &(impl AllocGlobal + Abort)) {
         let found = self.given().gives(rt);
         let (front, listing) = found.split_once("; da65 listing\n\n").expect(rt, "listing");

@@ -55,8 +55,8 @@ pub record IsNew (e : Entered) : Type 0 where
   pub last : e.last ≡ None
   pub had : (k : Option ℕ) → has_had e k ≡ false
 
--- The groups from the k-th byte on decide the warning, after groups of segments with the names `had`; and all that is asked of these is
--- known by keys.
+-- The groups from the k-th byte on decide the warning, after groups of segments with the names `had`; and all
+-- that is asked of these is known by keys.
 pub record IsKnownFrom (m : MapView) (k : ℕ) (e : Entered) : Type 0 where
   pub keyed : IsKeyed m.info.segments (segment_before m k) e.last
   pub had : List (List ℕ)

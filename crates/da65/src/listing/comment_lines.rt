@@ -11,7 +11,8 @@ use crate::listing::listed_image::ListedImage;
 use info65::Info;
 use std::alloc::Allocator;
 
-/// The comment of the name that is given to this address, if it has one. It is kept out of the lines of groups without a name.
+/// The comment of the name that is given to this address, if it has one. It is kept out
+/// of the lines of groups without a name.
 #[inline(never)]
 #[tactic(auto, unfolding(crate::specs::Comments::comment_at))]
 fn given_comment<A: Allocator>(info: &Info<A>, address: u16) -> Option<&[u8]>

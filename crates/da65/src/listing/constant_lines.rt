@@ -46,8 +46,8 @@ fn is_named_constant<A: Allocator>(
     map.has_name(address) && has_constant(map, address) && put_base(map, address, name)
 }
 
-/// Whether the address of none of these cells of a map has a name. Each cell is looked at, so that the loop has no second way out and
-/// takes many cells at a time.
+/// Whether the address of none of these cells of a map has a name. Each cell is looked at, so that the loop has no
+/// second way out and takes many cells at a time.
 fn are_unnamed(cells: &[u16]) -> bool
     ensures { result ≡ list_all is_unnamed cells.now }
 {
@@ -135,8 +135,8 @@ fn constant_before<A: Allocator>(
     None
 }
 
-/// The address from which on a constant line may follow: the end of an image of which each byte is listed if this address lies in it, else
-/// this address.
+/// The address from which on a constant line may follow: the end of an image of which each byte is listed if this
+/// address lies in it, else this address.
 #[tactic(auto, using(crate::proofs::NextLine::ConstantLemmas::constants_listed))]
 fn after_listed<A: Allocator>(listed: &ListedImage<'_, A>, from: usize) -> usize
     requires { from ≤ 65536 }

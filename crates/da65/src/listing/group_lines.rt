@@ -83,7 +83,8 @@ fn put_group_statement<A: Allocator>(
     has_empty_line(style, statement)
 }
 
-/// Puts the statement of a line of a table, as of `put_group_statement`, in a stack frame of its own: lines of code have a small one.
+/// Puts the statement of a line of a table, as of `put_group_statement`, in a stack frame of its
+/// own: lines of code have a small one.
 #[inline(never)]
 #[tactic(auto, using(crate::proofs::Rules::put_table_line_rules, std::proofs::lemmas::Grind::common_steps))]
 fn put_table_line<A: Allocator>(out: &mut Line, group: ListedGroup<'_, '_, A>) -> bool
@@ -140,7 +141,8 @@ fn put_with_operands<A: Allocator>(out: &mut Line, group: ListedGroup<'_, '_, A>
     }
 }
 
-/// Puts the statement of an item of code that is this instruction, with operands. Most have one, and need no room for two names.
+/// Puts the statement of an item of code that is this instruction, with operands. Most have
+/// one, and need no room for two names.
 #[inline(never)]
 #[tactic(auto, using(crate::proofs::Rules::put_with_operand_rules, std::proofs::lemmas::Grind::common_steps))]
 fn put_with_operand<A: Allocator>(out: &mut Line, group: ListedGroup<'_, '_, A>, op: Op) -> bool
@@ -204,8 +206,8 @@ pub fn put_statement<A: Allocator>(out: &mut Line, group: ListedGroup<'_, '_, A>
     }
 }
 
-/// Replaces the buffer by the label of a group, and its statement if that has room beside it, and returns the next place. Without a
-/// label it is the statement.
+/// Replaces the buffer by the label of a group, and its statement if that has room beside it, and returns the next
+/// place. Without a label it is the statement.
 #[inline(never)]
 #[tactic(auto, using(crate::proofs::Rules::put_label_rules, std::proofs::lemmas::Grind::common_steps))]
 fn put_label<A: Allocator>(out: &mut Line, group: ListedGroup<'_, '_, A>) -> ListingPlace
@@ -226,7 +228,8 @@ fn put_label<A: Allocator>(out: &mut Line, group: ListedGroup<'_, '_, A>) -> Lis
     ListingPlace::Statement { index: group.index }
 }
 
-/// Puts the label and the statement, as of `put_label`. Most groups begin at an address without a name, and need no buffer for one.
+/// Puts the label and the statement, as of `put_label`. Most groups begin at an address
+/// without a name, and need no buffer for one.
 #[inline(always)]
 #[tactic(auto, using(crate::proofs::Rules::put_labelled_rules, std::proofs::lemmas::Grind::common_steps))]
 fn put_labelled<A: Allocator>(out: &mut Line, group: ListedGroup<'_, '_, A>) -> ListingPlace
@@ -241,7 +244,8 @@ fn put_labelled<A: Allocator>(out: &mut Line, group: ListedGroup<'_, '_, A>) -> 
     }
 }
 
-/// Replaces the buffer by the first line of a group from what has this number before its label on, and returns the next place.
+/// Replaces the buffer by the first line of a group from what has this number before its
+/// label on, and returns the next place.
 #[inline(always)]
 #[tactic(auto, using(crate::proofs::Rules::put_group_line_rules, std::proofs::lemmas::Grind::common_steps))]
 pub fn put_group_line<A: Allocator>(

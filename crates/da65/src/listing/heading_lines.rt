@@ -39,7 +39,8 @@ fn is_same_segment(one: Option<&[u8]>, other: Option<&[u8]>) -> bool
     }
 }
 
-/// The segment of the last group before the byte of this index, with which a group begins. Without one it is the default.
+/// The segment of the last group before the byte of this index, with which a group
+/// begins. Without one it is the default.
 fn segment_before<'a, A: Allocator>(listed: &ListedImage<'a, A>, index: usize) -> Option<&'a [u8]>
     requires { index ≤ length listed.now.image.bytes }
     ensures { option_copied result ≡ segment_before listed.now index }
@@ -109,8 +110,8 @@ fn put_comment<A: Allocator>(out: &mut Line, listed: &ListedImage<'_, A>, addres
     }
 }
 
-/// Replaces the buffer by the forward line of an address of the group, if that is defined by name. The buffer for the name has a stack
-/// frame of its own.
+/// Replaces the buffer by the forward line of an address of the group, if that is defined by name. The buffer for
+/// the name has a stack frame of its own.
 #[inline(never)]
 fn put_forward_named<A: Allocator>(
     out: &mut Line,
@@ -145,7 +146,8 @@ fn put_forward<A: Allocator>(out: &mut Line, group: ListedGroup<'_, '_, A>, addr
     put_forward_named(out, group, address)
 }
 
-/// Replaces the buffer by what has this number among the lines that may stand before the label of a group, if that is there.
+/// Replaces the buffer by what has this number among the lines that may stand before
+/// the label of a group, if that is there.
 #[inline(always)]
 #[tactic(auto, using(crate::proofs::Rules::put_heading_rules, std::proofs::lemmas::Grind::common_steps), unfolding(crate::specs::Lines::heading_lines))]
 pub fn put_heading<A: Allocator>(
@@ -203,7 +205,8 @@ fn may_have_head<A: Allocator>(group: ListedGroup<'_, '_, A>) -> bool
     true
 }
 
-/// A number before which a group has no such lines. Most listings have none but forward lines, and most groups have no names.
+/// A number before which a group has no such lines. Most listings have none but forward
+/// lines, and most groups have no names.
 #[inline(always)]
 #[tactic(auto, using(crate::proofs::Rules::first_heading_rules, std::proofs::lemmas::Grind::common_steps))]
 pub fn first_heading<A: Allocator>(group: ListedGroup<'_, '_, A>) -> usize

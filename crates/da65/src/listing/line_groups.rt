@@ -109,8 +109,8 @@ fn limit_at<A: Allocator>(map: &Map<'_, A>, role: RangeType, address: usize) -> 
     }
 }
 
-/// How many bytes the group has that begins with the item at an address of the image: that item, and those that go on, as many as
-/// the line takes. Allocates nothing.
+/// How many bytes the group has that begins with the item at an address of the image: that item, and those that go on,
+/// as many as the line takes. Allocates nothing.
 #[inline(always)]
 #[tactic(auto, using(crate::proofs::Rules::group_len_rules, std::proofs::lemmas::Grind::common_steps), unfolding(crate::specs::Groups::group_len))]
 pub fn group_len<A: Allocator>(map: &Map<'_, A>, address: u16) -> usize

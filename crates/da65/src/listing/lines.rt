@@ -72,7 +72,8 @@ fn is_shown<A: Allocator>(listed: &ListedImage<'_, A>, index: usize) -> bool
     true
 }
 
-/// Replaces the buffer by the first line of the group that begins with the byte of this index, and returns the next place.
+/// Replaces the buffer by the first line of the group that begins with the byte of
+/// this index, and returns the next place.
 #[inline(always)]
 fn put_first_line<A: Allocator>(
     out: &mut Line,
@@ -101,7 +102,8 @@ fn put_next_group<A: Allocator>(
     Some(put_first_line(out, listed, index))
 }
 
-/// Replaces the buffer by the next line of constants from this address on, else by what follows them, and returns the next place.
+/// Replaces the buffer by the next line of constants from this address on, else by what
+/// follows them, and returns the next place.
 fn put_constants<A: Allocator>(
     out: &mut Line,
     listed: &ListedImage<'_, A>,
@@ -206,7 +208,8 @@ impl<'a, A: Allocator> Lines<'a, A> {
         self.next_other(out)
     }
 
-    /// The next line, as of `next_line`, wherever the place is. It has a stack frame of its own, so that that of most lines is small.
+    /// The next line, as of `next_line`, wherever the place is. It has a stack frame of its own, so
+    /// that that of most lines is small.
     #[inline(never)]
     #[tactic(auto, using(crate::proofs::NextLine::NextLemmas::next_lines))]
     fn next_other(&mut self, out: &mut Line) -> bool

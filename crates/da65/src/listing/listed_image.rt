@@ -15,7 +15,8 @@ use map65::Map;
 use std::alloc::{Allocator, Global};
 use std::marker::Model;
 
-/// An image as it is listed: what its information and its map say, and how its lines are written. A contract sees the map.
+/// An image as it is listed: what its information and its map say, and how its lines
+/// are written. A contract sees the map.
 #[derive(Drop)]
 pub struct ListedImage<'a, A: Allocator = Global> {
     map: &'a Map<'a, A>,

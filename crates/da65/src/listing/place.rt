@@ -1,7 +1,7 @@
 //! Where the next line of a listing comes from.
 
-/// Where the next line comes from. An index is that of a byte in the image, and an address one from 0 to 65,536. A group is
-/// known by the index of its first byte.
+/// Where the next line comes from. An index is that of a byte in the image, and an address one from 0 to 65,536. A
+/// group is known by the index of its first byte.
 #[derive(Clone, Copy)]
 pub enum ListingPlace {
     /// The line of this number of the header, 0 to 3.

@@ -25,7 +25,8 @@ pub fn put_plain(out: &mut Line, style: &Style, statement: &Statement<'_>)
     put_line(out, &style.columns, statement, &remarks);
 }
 
-// Remarks, the lines of the header and empty lines are few. Their statements are kept off the stack frame of all other lines.
+// Remarks, the lines of the header and empty lines are few. Their statements are kept
+// off the stack frame of all other lines.
 
 /// Replaces the buffer by a remark.
 #[inline(never)]

@@ -55,8 +55,8 @@ fn word_at(bytes: &[u8], at: usize) -> u16
     u16::from(bytes[at]) + 256 * u16::from(bytes[at + 1])
 }
 
-/// The operand of this kind whose bytes begin at an index of an instruction's, which are those of a group. None if its target lies outside
-/// the address space.
+/// The operand of this kind whose bytes begin at an index of an instruction's, which are those of a group. None if its
+/// target lies outside the address space.
 #[inline(always)]
 pub fn operand_expr<'n, A: Allocator>(
     group: ListedGroup<'_, '_, A>,
@@ -80,7 +80,8 @@ pub fn operand_expr<'n, A: Allocator>(
     }
 }
 
-/// The operands of an instruction, whose bytes are those of a group: none where a target lies outside the address space.
+/// The operands of an instruction, whose bytes are those of a group: none where a
+/// target lies outside the address space.
 #[inline(always)]
 pub fn operands_of<'n, A: Allocator>(
     group: ListedGroup<'_, '_, A>,

@@ -119,10 +119,10 @@ fn list_input<A: Allocator + Copy, R: Source, W: Sink, M: Sink>(
 /// than INPUTSIZE bytes after the first INPUTOFFS; it is empty; it is too large (more than 65,536 bytes,
 /// or it extends past $FFFF). Help and version are ignored.
 ///
-/// The type of the RANGE that has an address says how its byte is listed: as code, where there is none; on
-/// one line with its neighbours of the same type, up to 8 bytes, 16 bytes of text, 4 words or 2 double words; in a table
-/// of addresses or return addresses one entry on a line; or, with SKIP, not at all. If a byte of the image is skipped, a warning follows the listing on `msgs`, and another one if
-/// a segment is entered again.
+/// The type of the RANGE that has an address says how its byte is listed: as code, where there is none; on one line
+/// with its neighbours of the same type, up to 8 bytes, 16 bytes of text, 4 words or 2 double words; in a table of
+/// addresses or return addresses one entry on a line; or, with SKIP, not at all. If a byte of the image is skipped, a
+/// warning follows the listing on `msgs`, and another one if a segment is entered again.
 ///
 /// After INPUTOFFS bytes at most INPUTSIZE bytes are read, or 65,537 without a size. Nothing is read if the
 /// run is refused for its information file, its input name or an include file. All memory is allocated before the

@@ -29,8 +29,8 @@ fn segment_key<A: Allocator>(map: &Map<'_, A>, address: u16) -> Option<u16>
     map.info().segment_key(address)
 }
 
-/// The key of the segment of a group's first byte: that of the group before, `last`, if both lie in one run, since a run has no
-/// segment border inside.
+/// The key of the segment of a group's first byte: that of the group before, `last`, if both lie in one run,
+/// since a run has no segment border inside.
 fn key_after<A: Allocator>(map: &Map<'_, A>, address: u16, last: Option<u16>) -> Option<u16>
     ensures run { is_in_run map.now address ≡ true → result ≡ last }
     ensures first { is_in_run map.now address ≡ false → IsKeyedAt map.now address result }

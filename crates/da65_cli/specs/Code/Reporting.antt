@@ -1,4 +1,5 @@
--- How the result of a run over a buffer and messages that wait becomes the result of the program. These facts tie the code to Delivery.
+-- How the result of a run over a buffer and messages that wait becomes the result of the program.
+-- These facts tie the code to Delivery.
 use Rattle.std.specs.Prelude.{◌≡◌, ◌⊎◌, ℕ, List, Option, Result, Ok, Err}
 use Rattle.std.specs.Io.KnownBytes.{Appends, Keeps, append_known}
 use Rattle.da65.specs.declared.runs.outcome.RunFault.{RunFault}
@@ -20,7 +21,8 @@ pub record IsShortOf (taken out : Option (List ℕ)) : Type 0 where
   pub left : List ℕ
   pub kept : Keeps taken (append_known out left)
 
--- From what the buffer had taken, the messages that wait, and the result of the run: what the output and standard error have.
+-- From what the buffer had taken, the messages that wait, and the result of the run:
+-- what the output and standard error have.
 abbrev pub FlushesThenReports : Result Status RunFault → Result Status RunFault → Option (List ℕ) → Option (List ℕ) → List ℕ → Option (List ℕ) → Option (List ℕ) → Type 0
 FlushesThenReports was (Ok status) taken out messages errors errors' = (was ≡ Ok status) × Keeps taken out × Appends errors errors' messages
 FlushesThenReports was (Err Messages) taken out messages errors errors' = IsListed was × Keeps taken out × AppendsFront errors errors' messages

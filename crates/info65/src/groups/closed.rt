@@ -18,8 +18,8 @@ use crate::syntax::attribute::GroupKind;
 use std::alloc::Allocator;
 use std::marker::Model;
 
-/// What is kept of the groups that are closed. Of a group RANGE that is its range and its name, and of a group LABEL its
-/// name. A contract sees the list of all groups.
+/// What is kept of the groups that are closed. Of a group RANGE that is its range and its name, and of a group LABEL
+/// its name. A contract sees the list of all groups.
 #[derive(Drop)]
 pub struct Closed<'a, A: Allocator> {
     groups: GroupList<'a, A>,
@@ -46,8 +46,8 @@ impl<'a, A: Allocator> Model for Closed<'a, A> {
     ghost invariant = { λ c. AreKept c.groups (groups_seen c.kept.items) c.ranges.items c.names c.ranged.items c.segmented.items };
 }
 
-// Adds a group to those that are read again, if it is one, and returns a list for what is given in the next group: that of
-// this group, if it is not read again.
+// Adds a group to those that are read again, if it is one, and returns a list for what is given in the next group: that
+// of this group, if it is not read again.
 fn keep<'a, A: Allocator>(
     alloc: A,
     kept: &mut Vec<Group<'a, A>, A>,

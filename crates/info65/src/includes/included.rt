@@ -116,8 +116,8 @@ fn with_file<'a, A: Allocator + Copy>(
     Ok(names)
 }
 
-/// An information to which the names of include files are added, file by file. A contract sees it as the information with
-/// the names so far.
+/// An information to which the names of include files are added, file by file. A contract sees it as
+/// the information with the names so far.
 #[derive(Drop)]
 pub struct Inclusion<'a, A: Allocator = Global> {
     info: &'a Info<A>,
@@ -161,8 +161,9 @@ impl<'a, A: Allocator + Copy> Inclusion<'a, A> {
         self.info.includes()
     }
 
-    /// Adds the names of the include file at this place, whose bytes these are. [`read_include`](crate::read_include) says
-    /// which names are added, and when a file is refused. What was read is then gone, and the information is as before.
+    /// Adds the names of the include file at this place, whose bytes these are.
+    /// [`read_include`](crate::read_include) says which names are added, and when a file is refused. What was read
+    /// is then gone, and the information is as before.
     pub fn with(self, index: usize, bytes: &'a [u8]) -> Result<Self, InfoFault>
         requires { index < length self.includes }
         /// Each file is accepted with exactly its names, or refused, as by `read_include`; or out of memory. After

@@ -203,15 +203,14 @@ fn said_again<A: Allocator + Copy, B: Allocator>(
 
 /// Reads an information file under the options of the command line. No information file is the empty one.
 ///
-/// The grammar is that of the da65 Users Guide, with these groups and attributes: GLOBAL with INPUTNAME,
-/// OUTPUTNAME, INPUTOFFS, INPUTSIZE, STARTADDR, CPU, COMMENTS, MNEMONICCOLUMN, ARGUMENTCOLUMN, COMMENTCOLUMN,
-/// TEXTCOLUMN, LABELBREAK, HEXOFFS, NEWLINEAFTERJMP, NEWLINEAFTERRTS and PAGELENGTH; RANGE with START, END,
-/// SIZE, TYPE, NAME and COMMENT; LABEL with ADDR, NAME, SIZE and COMMENT; SEGMENT with START, END and NAME;
-/// ASMINC with FILE, COMMENTSTART and IGNOREUNKNOWN. Include files are read apart, by [`read_include`].
-/// A file is accepted exactly when its tokens are groups that keep every condition; else it is refused for
-/// the first fault from left to right, with that fault's line. A file of more than 1,048,576 bytes is TooLarge at line 1.
-/// It returns Memory at line 0 only if an allocation failed. The time grows with the size of the file: no group is read
-/// again at a closing brace.
+/// The grammar is that of the da65 Users Guide, with these groups and attributes: GLOBAL with INPUTNAME, OUTPUTNAME,
+/// INPUTOFFS, INPUTSIZE, STARTADDR, CPU, COMMENTS, MNEMONICCOLUMN, ARGUMENTCOLUMN, COMMENTCOLUMN, TEXTCOLUMN,
+/// LABELBREAK, HEXOFFS, NEWLINEAFTERJMP, NEWLINEAFTERRTS and PAGELENGTH; RANGE with START, END, SIZE, TYPE, NAME and
+/// COMMENT; LABEL with ADDR, NAME, SIZE and COMMENT; SEGMENT with START, END and NAME; ASMINC with FILE, COMMENTSTART
+/// and IGNOREUNKNOWN. Include files are read apart, by [`read_include`]. A file is accepted exactly when its tokens are
+/// groups that keep every condition; else it is refused for the first fault from left to right, with that fault's line.
+/// A file of more than 1,048,576 bytes is TooLarge at line 1. It returns Memory at line 0 only if an allocation failed.
+/// The time grows with the size of the file: no group is read again at a closing brace.
 #[tactic(auto, unfolding(crate::specs::Reader::information))]
 pub fn read_info<A: Allocator + Copy, B: Allocator>(
     alloc: A,
@@ -244,13 +243,13 @@ pub fn read_info<A: Allocator + Copy, B: Allocator>(
 /// `bytes` is what it holds. Files are meant to be read in the order of their places.
 ///
 /// Lines end by a line feed, and one carriage return at a line's end is dropped. A comment begins at the first
-/// COMMENTSTART byte of a line. What is left is blank, or it is `name = value` or `name := value`: a letter or
-/// `_`, then letters, digits and `_`; and a number 0 to 65,535, in decimal, after `$` in hex, or after `%` in
-/// binary. Spaces and TABs may stand around each part. Any other line is BadInclude. A name of more than 80
-/// bytes is BadName, and a reserved one ReservedName. Then a line whose address has a name already is passed over, and
-/// a name that stands at another address is NameTwice. The first fault is returned, with its line. With
-/// IGNOREUNKNOWN each line that has a fault is passed over. A file of more than 1,048,576 bytes is TooLarge at line 1, with
-/// IGNOREUNKNOWN too. It returns Memory at line 0 only if an allocation failed.
+/// COMMENTSTART byte of a line. What is left is blank, or it is `name = value` or `name := value`: a letter or `_`,
+/// then letters, digits and `_`; and a number 0 to 65,535, in decimal, after `$` in hex, or after `%` in binary. Spaces
+/// and TABs may stand around each part. Any other line is BadInclude. A name of more than 80 bytes is BadName, and a
+/// reserved one ReservedName. Then a line whose address has a name already is passed over, and a name that stands at
+/// another address is NameTwice. The first fault is returned, with its line. With IGNOREUNKNOWN each line that has a
+/// fault is passed over. A file of more than 1,048,576 bytes is TooLarge at line 1, with IGNOREUNKNOWN too. It returns
+/// Memory at line 0 only if an allocation failed.
 ///
 /// If it returns an error, the information is as before.
 pub fn read_include<A: Allocator + Copy>(

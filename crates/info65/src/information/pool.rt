@@ -17,8 +17,8 @@ pub struct Span {
     pub size: u32,
 }
 
-/// A name, by its bytes in the pool. None of the entries of the block that it ends reaches further than `most`, so a search
-/// passes over a block that ends before its address.
+/// A name, by its bytes in the pool. None of the entries of the block that it ends reaches further than `most`, so a
+/// search passes over a block that ends before its address.
 #[derive(Clone, Copy)]
 pub struct Entry {
     pub address: u16,
@@ -28,8 +28,8 @@ pub struct Entry {
     pub most: u32,
 }
 
-/// The names of an information, by address, with the bytes of all of them in one pool. A contract sees the list of the names.
-/// Names are added at the end, and a pool that was not taken over leaves nothing behind.
+/// The names of an information, by address, with the bytes of all of them in one pool. A contract sees the list of the
+/// names. Names are added at the end, and a pool that was not taken over leaves nothing behind.
 #[derive(Drop)]
 pub struct NamePool<A: Allocator = Global> {
     entries: Vec<Entry, A>,
@@ -138,8 +138,8 @@ fn put_optional<A: Allocator>(
     }
 }
 
-// Where the block begins that ends before the n-th entry. Each n has a block, which has as many entries as its lowest bit
-// says, and the blocks that begin in another one end in it. So a search passes over all entries in a few blocks.
+// Where the block begins that ends before the n-th entry. Each n has a block, which has as many entries as its lowest
+// bit says, and the blocks that begin in another one end in it. So a search passes over all entries in a few blocks.
 #[tactic(auto, unfolding(crate::specs::Code::Pool::block_start))]
 fn block_start(end: usize) -> usize
     requires { 0 < end }

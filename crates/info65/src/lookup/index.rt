@@ -18,8 +18,8 @@ use std::marker::Model;
 // The bytes of the longest name.
 const LONGEST_NAME: usize = 80;
 
-/// Names, found by their addresses and by their texts without reading again what gives them. A contract sees the list of
-/// them, in the order in which they were added.
+/// Names, found by their addresses and by their texts without reading again what gives them. A contract sees the list
+/// of them, in the order in which they were added.
 #[derive(Drop)]
 pub struct Index<'a, A: Allocator> {
     names: Vec<Given<'a>, A>,

@@ -32,8 +32,8 @@ fn fill_up<A: Allocator>(cells: &mut Vec<u32, A>, count: usize) -> Result<(), In
     Ok(())
 }
 
-/// A row of numbers, each of which is 0 at first. A contract sees how many there are and the list of them, which is empty
-/// until one is set.
+/// A row of numbers, each of which is 0 at first. A contract sees how many there are and the list of
+/// them, which is empty until one is set.
 #[derive(Drop)]
 pub struct Numbers<A: Allocator> {
     count: usize,

@@ -71,8 +71,8 @@ impl<'a> Lexer<'a> {
         }))
     }
 
-    /// Takes a `;` that comes next, unless a blank or a comment stands before it, and returns whether it did. Most values have a `;` right
-    /// behind them, for which nothing else is tried then.
+    /// Takes a `;` that comes next, unless a blank or a comment stands before it, and returns whether it did. Most
+    /// values have a `;` right behind them, for which nothing else is tried then.
     #[inline(always)]
     #[tactic(auto, using(crate::proofs::TokenLemmas::at_semicolon))]
     pub(crate) fn takes_semicolon(&mut self) -> bool

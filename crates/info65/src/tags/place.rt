@@ -9,8 +9,9 @@ use crate::fault::{InfoFault, InfoFaultKind};
 use crate::syntax::token::{Token, TokenKind};
 use crate::tags::tag::{Tag, TagAttribute, TagKind, is_value, tag_attribute, tag_named};
 
-/// Where the reader is: outside of groups, right after one, before its brace, inside it, before a value, and after one. The definition of
-/// what is read goes from one to the next. The reader itself keeps none, since it would copy a group with each token.
+/// Where the reader is: outside of groups, right after one, before its brace, inside it, before a value, and
+/// after one. The definition of what is read goes from one to the next. The reader itself keeps none, since
+/// it would copy a group with each token.
 #[derive(Clone, Copy)]
 pub(crate) enum Stage {
     Outside,

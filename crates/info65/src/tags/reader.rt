@@ -98,9 +98,9 @@ fn tags_in<A: Allocator>(alloc: A, tokens: Lexer<'_>) -> Result<Vec<Tag, A>, Inf
     }
 }
 
-/// Returns the groups of the lines of an information file that begin with `#:`, in order: ENTRY, INLINE, HALVES, AFTER, DIFFERENCE and NUMBER, in the
-/// grammar of the file itself. Such a line may hold part of a group. Refuses the first fault, at its line of the file; `Memory` is
-/// returned only if memory ran out.
+/// Returns the groups of the lines of an information file that begin with `#:`, in order: ENTRY, INLINE, HALVES, AFTER,
+/// DIFFERENCE and NUMBER, in the grammar of the file itself. Such a line may hold part of a group. Refuses the first
+/// fault, at its line of the file; `Memory` is returned only if memory ran out.
 #[tactic(auto, unfolding(crate::specs::Tags::tags_of))]
 pub fn read_tags<A: Allocator + Copy>(alloc: A, bytes: &[u8]) -> Result<Vec<Tag, A>, InfoFault>
     requires { length bytes.now ≤ 1_048_576 }

@@ -1,4 +1,5 @@
--- How a cell is packed: beside what `Cells` says of it, the bit above the name's says whether a segment border stands before the address.
+-- How a cell is packed: beside what `Cells` says of it, the bit above the name's says whether a
+-- segment border stands before the address.
 use Rattle.std.specs.Prelude.{◌≡◌, ◌==◌, ◌+◌, ◌*◌, ◌/◌, ◌%◌, ◌<◌, ◌&&◌, not, ℕ, Bool, false, List, length, slice_index, Option, Some, None, if◌then◌else◌}
 use Rattle.info65.specs.Words.{SegmentView}
 use Rattle.map65.specs.Types.{RangeType}
@@ -26,7 +27,8 @@ coded n =
     else (if n == 9 then Some role.DwordTable
     else None))))))))
 
--- The cell of a role and an item's length: the role's code in the lowest four bits, the length in the next three, and 0 in the others.
+-- The cell of a role and an item's length: the role's code in the lowest four bits, the length
+-- in the next three, and 0 in the others.
 unfoldable pub cell_of : Option RangeType → ℕ → ℕ
 cell_of r n = code_of r + 16 * n
 
@@ -70,8 +72,8 @@ with_border c = c % 256 + 256
 unfoldable pub are_one_run : ℕ → ℕ → Bool
 are_one_run c d = c % 16 == d % 16 && (not (d % 16 == 0) && not (has_border d))
 
--- while items are marked, the bit for a name says that a given name has the address as its own; in a table whose entries have more than one byte
--- it then cuts the run
+-- while items are marked, the bit for a name says that a given name has the address as its own; in a table whose
+-- entries have more than one byte it then cuts the run
 abbrev pub is_cut : ℕ → Bool
 is_cut c = is_named c && is_wide_cell c
 

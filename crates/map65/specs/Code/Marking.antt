@@ -1,4 +1,5 @@
--- Cells while they are written: first the roles, range by range, then the borders, segment by segment, then the lengths, item by item, and the names.
+-- Cells while they are written: first the roles, range by range, then the borders, segment by segment, then the
+-- lengths, item by item, and the names.
 use Rattle.std.specs.Prelude.{◌≡◌, ◌-◌, ◌/◌, ◌%◌, ◌<◌, ◌≤◌, ◌&&◌, not, ℕ, Bool, true, false, nat_le, nat_lt, List, length, slice_index, take, Option, Some, None, is_some, if◌then◌else◌}
 use Rattle.std.specs.List.{list_any}
 use Rattle.info65.specs.Words.{NameView, covering, covers, name_at}
@@ -38,7 +39,8 @@ pub record ArePainted (image : ImageView) (ranges : List RangeSpec) (cells : Lis
   pub count : length cells ≡ 65536
   pub each : (a : ℕ) → a < 65536 → slice_index cells a ≡ cell_of (role_by image ranges a) 0
 
--- the lower seven bits of all cells hold the role, those of the cells below an address the length too, and the highest the border
+-- the lower seven bits of all cells hold the role, those of the cells below an address the
+-- length too, and the highest the border
 pub record AreMarkedBelow (m : MapView) (at : ℕ) (cells : List ℕ) : Type 0 where
   pub count : length cells ≡ 65536
   pub marked : (a : ℕ) → a < 65536 → a < at → slice_index cells a % 128 ≡ lay_at m a

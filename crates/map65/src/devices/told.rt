@@ -56,8 +56,8 @@ fn progress<E: Drop>(call: Result<usize, E>, bytes: &[u8]) -> Result<usize, Devi
 }
 
 impl<T: Read> Source for Told<T> {
-    /// If the contract of the reader says which bytes are left, the device has the same. A device that always fails meets
-    /// the contract too, so it is partly tested that bytes are passed on.
+    /// If the contract of the reader says which bytes are left, the device has the same. A device that always fails
+    /// meets the contract too, so it is partly tested that bytes are passed on.
     ghost left = { λ t. T.remaining t.inner };
 
     /// A device over a reader counts each failure.

@@ -7,8 +7,8 @@ use info65::TagKind;
 use map65::Marks;
 use std::alloc::AllocError;
 
-/// The table whose halves begin at these addresses: as code reads it, if it is one of these, which are in order; else as one of addresses of
-/// code, or of such addresses less one, if only the address after its first one has a name.
+/// The table whose halves begin at these addresses: as code reads it, if it is one of these, which are in order; else
+/// as one of addresses of code, or of such addresses less one, if only the address after its first one has a name.
 fn table_of(steps: &Steps<'_>, tables: &[Table], low: u16, high: u16) -> Table {
     let index = tables.partition_point(|table| (table.low, table.high) < (low, high));
     if let Some(&table) = tables.get(index)
@@ -27,8 +27,8 @@ fn table_of(steps: &Steps<'_>, tables: &[Table], low: u16, high: u16) -> Table {
     table
 }
 
-/// Returns the halves of the groups HALVES without ADDR: as code reads them, if they are one of these tables, else as addresses of code. Fails
-/// only if an allocation failed.
+/// Returns the halves of the groups HALVES without ADDR: as code reads them, if they are one of these tables, else as
+/// addresses of code. Fails only if an allocation failed.
 pub fn declared_of(steps: &Steps<'_>, tables: &[Table]) -> Result<Vec<Split>, AllocError> {
     let alloc = steps.alloc();
     let mut tables = Vec::from_slice(alloc, tables)?;

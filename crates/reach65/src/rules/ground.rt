@@ -31,8 +31,8 @@ fn clear_span(marks: &mut Marks, from: usize, to: usize) {
 }
 
 impl<'i> Ground<'i> {
-    /// Returns an image without words, of which these bytes are halves of addresses, and texts are known to begin here. Fails only if an
-    /// allocation failed.
+    /// Returns an image without words, of which these bytes are halves of addresses, and texts are known to begin here.
+    /// Fails only if an allocation failed.
     pub fn of(
         alloc: Global,
         image: &'i Image,
@@ -92,8 +92,8 @@ impl<'i> Ground<'i> {
         }
     }
 
-    /// Marks the bytes of the vectors of the CPU at $FFFA to $FFFF that led to code: nothing speaks for them, and a reached instruction begins at the
-    /// word.
+    /// Marks the bytes of the vectors of the CPU at $FFFA to $FFFF that led to code: nothing speaks for them, and a
+    /// reached instruction begins at the word.
     pub fn put_vectors(&mut self, reached: &Marks) {
         for vector in [0xFFFAusize, 0xFFFC, 0xFFFE] {
             if has_vectors(self.image)

@@ -33,7 +33,8 @@ impl Search<'_> {
         !self.code.get(address) && !self.marks.get(address)
     }
 
-    /// Adds the addresses that instructions give that no rule has looked at: those behind them, and those that they begin to load in halves.
+    /// Adds the addresses that instructions give that no rule has looked at: those behind them, and those
+    /// that they begin to load in halves.
     fn put_candidates(&self, found: &mut Vec<Candidate>) -> Result<(), AllocError> {
         for &reason in self.joined.iter().skip(self.looked) {
             let Some(placed) = self.steps.marked(&self.marks, reason) else {
@@ -60,7 +61,8 @@ impl Search<'_> {
         Ok(())
     }
 
-    /// Where the piece of code ends that begins at the address: after the first instruction behind which code does not go on.
+    /// Where the piece of code ends that begins at the address: after the first instruction
+    /// behind which code does not go on.
     fn piece_end(&self, address: u16) -> Option<u16> {
         let mut at = address;
         for _ in 0..ADDRESSES {
@@ -74,8 +76,8 @@ impl Search<'_> {
         None
     }
 
-    /// The beginnings of short pieces of code from the address on, one behind the other, each up to where code does not go on, if the last is
-    /// a sound beginning by itself, or goes up to reached code.
+    /// The beginnings of short pieces of code from the address on, one behind the other, each up to where code does not
+    /// go on, if the last is a sound beginning by itself, or goes up to reached code.
     fn chain_of(&mut self, from: u16) -> Result<Vec<u16>, AllocError> {
         let mut pieces = Vec::new(self.steps.alloc());
         let mut at = from;
@@ -123,8 +125,8 @@ impl Search<'_> {
         Ok(())
     }
 
-    /// Lets sound beginnings join that what is newly reached gives, until there are no more. Each time but the last at least one address
-    /// joins, so there are fewer times than addresses.
+    /// Lets sound beginnings join that what is newly reached gives, until there are no more. Each time but the last at
+    /// least one address joins, so there are fewer times than addresses.
     fn grow(&mut self) -> Result<(), AllocError> {
         let mut candidates = Vec::new(self.steps.alloc());
         for _round in 0..ADDRESSES {
@@ -139,14 +141,15 @@ impl Search<'_> {
         Ok(())
     }
 
-    /// Lets the address of an entry of a table join, if it is a sound beginning, which may be an instruction in the operand of a reached `bit`. Returns
-    /// whether code begins there.
+    /// Lets the address of an entry of a table join, if it is a sound beginning, which may be an instruction in the
+    /// operand of a reached `bit`. Returns whether code begins there.
     fn join_entry(&mut self, to: u16, least: usize) -> Result<bool, AllocError> {
         let least = if self.code.get(to) { 1 } else { least };
         Ok(self.marks.get(to) || self.join(to, Least::Count(least))?)
     }
 
-    /// Lets the sound beginnings join to which the entries of a table lead that reached code reads, up to one that leads to no code, unless it is whole.
+    /// Lets the sound beginnings join to which the entries of a table lead that reached code reads, up to one that
+    /// leads to no code, unless it is whole.
     fn join_table(&mut self, table: Table) -> Result<(), AllocError> {
         let mut is_whole = false;
         for index in 0..table.most() {
@@ -166,8 +169,8 @@ impl Search<'_> {
         Ok(())
     }
 
-    /// Lets the sound beginnings join to which the entries of tables lead, of those that reached code reads, and of those that the information file has in
-    /// halves.
+    /// Lets the sound beginnings join to which the entries of tables lead, of those that reached code reads, and of
+    /// those that the information file has in halves.
     fn join_tables(&mut self) -> Result<(), AllocError> {
         let steps = self.steps;
         let tables = self.readers.tables(steps, &self.marks, &self.code)?;
@@ -195,10 +198,10 @@ pub struct Followed {
     pub calls: Vec<u16>,
 }
 
-/// Returns the entries, and then those that join: the sound beginnings among what the tables of the information file refer to, those
-/// right behind a reached instruction and its text, those whose address reached code has in halves, those to which tables that it reads
-/// lead, and those among the words of rows and in rows of jumps. The
-/// time grows with the number of addresses that are reached. Fails only if an allocation failed.
+/// Returns the entries, and then those that join: the sound beginnings among what the tables of the information file
+/// refer to, those right behind a reached instruction and its text, those whose address reached code has in halves,
+/// those to which tables that it reads lead, and those among the words of rows and in rows of jumps. The time grows
+/// with the number of addresses that are reached. Fails only if an allocation failed.
 pub fn follow(steps: &Steps<'_>, entries: &[u16]) -> Result<Followed, AllocError> {
     let mut search = Search::from(steps, entries)?;
     for &address in &pointers_of(steps)? {

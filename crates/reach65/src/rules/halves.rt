@@ -33,8 +33,9 @@ pub struct Pair {
     pub address: u16,
     /// How much less that is than the address that is meant: 1 for one to which `rts` leads.
     pub less: u16,
-    /// How likely it is meant, if other pairs have one of its bytes: of two the one of the lower rank is likelier. It is 0 for bytes
-    /// that are stored to neighbours, 1 to 6 by the registers, 7 through a pointer, 8 for bytes that are added, and 9 for bytes that are pushed.
+    /// How likely it is meant, if other pairs have one of its bytes: of two the one of the lower rank is likelier. It
+    /// is 0 for bytes that are stored to neighbours, 1 to 6 by the registers, 7 through a pointer, 8 for bytes that are
+    /// added, and 9 for bytes that are pushed.
     rank: u8,
 }
 
@@ -79,8 +80,8 @@ impl Pair {
         usize::from(self.address).saturating_add(usize::from(self.less))
     }
 
-    /// Returns whether it is an address more often than two numbers: its low half is not zero, its high half is not in A if the low one is in X or
-    /// Y, and the first load is not one of Y and the second one of X.
+    /// Returns whether it is an address more often than two numbers: its low half is not zero, its high half is not in
+    /// A if the low one is in X or Y, and the first load is not one of Y and the second one of X.
     pub fn is_plausible(&self) -> bool {
         self.meant() % 256 != 0
             && self.rank != 4
@@ -127,8 +128,8 @@ impl<'a> Code<'a> {
         self.steps.behind(self.marks, placed)
     }
 
-    /// The pair of two loads of one register, each with what keeps it: two stores to neighbours, or `pha` for `rts`, where the high half comes
-    /// first.
+    /// The pair of two loads of one register, each with what keeps it: two stores to neighbours, or `pha` for `rts`,
+    /// where the high half comes first.
     fn kept_twice(&self, one: Placed<'a>, then: Placed<'a>) -> Option<Pair> {
         let two = self.behind(then)?;
         let last = self.behind(two)?;
@@ -146,8 +147,8 @@ impl<'a> Code<'a> {
         }
     }
 
-    /// The pair that is stored through a pointer: `lda #`, `sta (p),y` here, and the same again after one `iny` or `dey`, with other
-    /// instructions between them.
+    /// The pair that is stored through a pointer: `lda #`, `sta (p),y` here, and the same again after one `iny` or
+    /// `dey`, with other instructions between them.
     fn stored_twice(&self, one: Placed<'a>, store: Placed<'a>) -> Option<Pair> {
         let pointer = stored_through(store.step)?;
         if one.step.op.mnemonic != Lda {
@@ -173,8 +174,8 @@ impl<'a> Code<'a> {
         None
     }
 
-    /// The pair that is added to a number: `clc`, `adc #`, and `adc #` again, with one instruction between them that takes the low half away,
-    /// and one that brings the high half of the number.
+    /// The pair that is added to a number: `clc`, `adc #`, and `adc #` again, with one instruction between them that
+    /// takes the low half away, and one that brings the high half of the number.
     fn added_twice(&self, first: Placed<'a>) -> Option<Pair> {
         if first.step.op.mnemonic != Clc {
             return None;
@@ -214,8 +215,8 @@ impl<'a> Code<'a> {
     }
 }
 
-/// Returns the pairs of which the instruction is the first: two loads of different registers, one right behind the other, or one of
-/// the forms above; a `ldy #` may stand before a store through a pointer.
+/// Returns the pairs of which the instruction is the first: two loads of different registers, one right behind the
+/// other, or one of the forms above; a `ldy #` may stand before a store through a pointer.
 pub fn pairs_at(steps: &Steps<'_>, marks: &Marks, first: Placed<'_>) -> [Option<Pair>; 3] {
     Code { steps, marks }.pairs_of(first)
 }
@@ -233,7 +234,8 @@ fn stored_through(step: &Step) -> Option<u8> {
     }
 }
 
-/// Whether code from elsewhere enters between the two loads, or an instruction between them shares a byte with another one.
+/// Whether code from elsewhere enters between the two loads, or an instruction between
+/// them shares a byte with another one.
 fn is_broken(survey: &Survey<'_>, pair: Pair) -> bool {
     let first = pair.low.min(pair.high).saturating_sub(1);
     let second = pair.low.max(pair.high).saturating_sub(1);
@@ -248,7 +250,8 @@ fn is_broken(survey: &Survey<'_>, pair: Pair) -> bool {
     false
 }
 
-/// Whether a pair is sure to be meant as an address: it is plausible, nothing breaks it, and its instructions are listed.
+/// Whether a pair is sure to be meant as an address: it is plausible, nothing breaks
+/// it, and its instructions are listed.
 fn is_sure(survey: &Survey<'_>, items: &Marks, pair: Pair) -> bool {
     pair.is_plausible()
         && !is_broken(survey, pair)
@@ -263,9 +266,10 @@ pub struct Halves {
     pub likely: Vec<Pair>,
 }
 
-/// Returns each pair of immediates in reached code that is an address, by the places of their low bytes: no reached instruction has that
-/// address, or a routine begins there; it lies in the image, or behind it before `limit`; each byte is in one pair, of two the likelier; and none is at
-/// a place that `said` has. A pair that is not sure, or not in `items`, which are listed, is only likely. Fails only if an allocation failed.
+/// Returns each pair of immediates in reached code that is an address, by the places of their low bytes: no reached
+/// instruction has that address, or a routine begins there; it lies in the image, or behind it before `limit`; each
+/// byte is in one pair, of two the likelier; and none is at a place that `said` has. A pair that is not sure, or not in
+/// `items`, which are listed, is only likely. Fails only if an allocation failed.
 pub fn halves_of(
     survey: &Survey<'_>,
     items: &Marks,

@@ -10,8 +10,8 @@ fn is_code(map: &Map<'_>, taken: &Marks, at: usize) -> bool {
     address(at).is_some_and(|address| taken.get(address) && map.is_code(address))
 }
 
-/// Returns marks of where the instructions begin that are listed: each begins where the one before it ends, and neither a range nor a border of a
-/// segment cuts it. Fails only if an allocation failed.
+/// Returns marks of where the instructions begin that are listed: each begins where the one before it ends, and neither
+/// a range nor a border of a segment cuts it. Fails only if an allocation failed.
 pub fn items_of(steps: &Steps<'_>, taken: &Marks) -> Result<Marks, AllocError> {
     let (alloc, map) = (steps.alloc(), steps.map());
     let mut borders = Vec::new(alloc);

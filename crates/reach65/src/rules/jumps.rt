@@ -42,8 +42,8 @@ impl Search<'_> {
         Ok(is_new && count.saturating_mul(3) <= good.saturating_mul(4))
     }
 
-    /// Lets the jumps of rows join, three at least one behind the other, of which three quarters lead to code. Fails only if an
-    /// allocation failed.
+    /// Lets the jumps of rows join, three at least one behind the other, of which three quarters lead to code.
+    /// Fails only if an allocation failed.
     pub fn join_jumps(&mut self) -> Result<(), AllocError> {
         let image = self.steps.image();
         let (start, end) = ends(image);

@@ -9,8 +9,8 @@ use crate::rules::tables::Split;
 use info65::TagKind;
 use std::alloc::AllocError;
 
-/// The address that gets a label for one that a group HALVES has: the one after it, if a routine begins there and no instruction at the address
-/// itself, since `rts` goes on after the address that it takes.
+/// The address that gets a label for one that a group HALVES has: the one after it, if a routine begins there and no
+/// instruction at the address itself, since `rts` goes on after the address that it takes.
 fn meant(survey: &Survey<'_>, address: u16) -> u16 {
     match address.checked_add(1) {
         Some(next) if survey.is_routine(usize::from(next)) && !survey.reached.get(address) => next,
@@ -18,8 +18,9 @@ fn meant(survey: &Survey<'_>, address: u16) -> u16 {
     }
 }
 
-/// Returns the addresses that get labels, in order: of the pairs and the variables, of the tables from which operands are counted, in tables of
-/// halves, and those that groups HALVES and BASE give by themselves, but for those that a name of the file covers. Fails only if an allocation failed.
+/// Returns the addresses that get labels, in order: of the pairs and the variables, of the tables from which operands
+/// are counted, in tables of halves, and those that groups HALVES and BASE give by themselves, but for those that a
+/// name of the file covers. Fails only if an allocation failed.
 pub fn labels_of(
     survey: &Survey<'_>,
     pairs: &[Pair],

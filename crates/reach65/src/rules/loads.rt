@@ -14,8 +14,8 @@ fn loaded_from(step: &Step) -> Option<u16> {
     }
 }
 
-/// Marks two neighbouring bytes that nothing speaks for, if reached code loads both, one right after the other or with a store between, and they
-/// form an address of the image that no reached code has, or where a routine begins.
+/// Marks two neighbouring bytes that nothing speaks for, if reached code loads both, one right after the other or with
+/// a store between, and they form an address of the image that no reached code has, or where a routine begins.
 pub fn mark_loaded(ground: &mut Ground<'_>, survey: &Survey<'_>) {
     let steps = survey.steps;
     for &at in &survey.users {

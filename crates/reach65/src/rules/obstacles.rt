@@ -20,7 +20,8 @@ pub struct Obstacle {
     pub bytes: usize,
 }
 
-/// Returns where code cannot go on, of an instruction at the address that is not fine: there, behind it, or where it leads.
+/// Returns where code cannot go on, of an instruction at the address that is not fine:
+/// there, behind it, or where it leads.
 pub fn obstacle_of(steps: &Steps<'_>, address: u16) -> u16 {
     let Some(step) = steps.at(address) else {
         return address;
@@ -38,8 +39,8 @@ pub fn obstacle_of(steps: &Steps<'_>, address: u16) -> u16 {
     address
 }
 
-/// Returns those of the obstacles of a search that keep the most bytes from being code, three at most, from the worst on. Fails only if an allocation
-/// failed.
+/// Returns those of the obstacles of a search that keep the most bytes from being code, three at most, from the worst
+/// on. Fails only if an allocation failed.
 pub fn worst_of(search: &Search<'_>) -> Result<Vec<Obstacle>, AllocError> {
     let alloc = search.steps.alloc();
     let mut sorted = Vec::from_slice(alloc, &search.obstacles)?;

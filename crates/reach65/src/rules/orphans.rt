@@ -40,8 +40,8 @@ fn is_unled(survey: &Survey<'_>, address: u16) -> bool {
         && !survey.goals.get(address)
 }
 
-/// Marks the words of data that are the address of a reached routine to which nothing else refers, where two words at most are it. `words` has
-/// where such words may begin. Fails only if an allocation failed.
+/// Marks the words of data that are the address of a reached routine to which nothing else refers, where two words at
+/// most are it. `words` has where such words may begin. Fails only if an allocation failed.
 pub fn mark_orphans(
     ground: &mut Ground<'_>,
     survey: &Survey<'_>,

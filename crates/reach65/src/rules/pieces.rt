@@ -29,7 +29,8 @@ pub struct Pieces<'a> {
     begins: Vec<Begins>,
 }
 
-/// Adds a byte before the characters of each alphabet that stand behind it. Returns how long the longest text is that begins with it, or 0.
+/// Adds a byte before the characters of each alphabet that stand behind it. Returns how long the
+/// longest text is that begins with it, or 0.
 fn longest_with(tails: &mut [Chars; 3], byte: u8) -> u32 {
     let mut longest = 0u32;
     for (chars, &alphabet) in tails.iter_mut().zip(&ALPHABETS) {
@@ -84,7 +85,8 @@ fn begins_backward(alloc: Global, ground: &Ground<'_>) -> Result<Vec<Begins>, Al
 }
 
 impl<'a> Pieces<'a> {
-    /// Looks at the addresses that nothing speaks for. The time grows with the size of the image. Fails only if an allocation failed.
+    /// Looks at the addresses that nothing speaks for. The time grows with the size of the image.
+    /// Fails only if an allocation failed.
     pub fn of(alloc: Global, ground: &'a Ground<'a>) -> Result<Pieces<'a>, AllocError> {
         let (start, end) = ends(ground.image);
         Ok(Pieces {
@@ -123,9 +125,9 @@ impl<'a> Pieces<'a> {
         }
     }
 
-    /// Returns what is proposed for the address and those after it, and where that ends: an ADDRTABLE for words that are addresses, an
-    /// RTSTABLE for words that are less one, a BYTETABLE for filler, a TEXTTABLE for a text of ASCII and one that is known, a BYTETABLE
-    /// for another text, and a BYTETABLE up to where any of these begins.
+    /// Returns what is proposed for the address and those after it, and where that ends: an ADDRTABLE for words that
+    /// are addresses, an RTSTABLE for words that are less one, a BYTETABLE for filler, a TEXTTABLE for a text of ASCII
+    /// and one that is known, a BYTETABLE for another text, and a BYTETABLE up to where any of these begins.
     pub fn piece_at(&self, first: u16) -> (RangeType, usize) {
         let ground = self.ground;
         let at = usize::from(first);

@@ -47,8 +47,8 @@ fn leads(ground: &Ground<'_>, texts: &Marks, at: usize) -> bool {
     ground.word(at).is_some_and(|word| texts.get(word) && ground.is_plain(usize::from(word)))
 }
 
-/// Marks the words that are where texts begin, in rows of three at least that stand at the same distance from each other, each of another text than
-/// the one before. Fails only if an allocation failed.
+/// Marks the words that are where texts begin, in rows of three at least that stand at the same distance from each
+/// other, each of another text than the one before. Fails only if an allocation failed.
 pub fn mark_pointers(alloc: Global, ground: &mut Ground<'_>) -> Result<(), AllocError> {
     let (texts, has_any) = text_marks(alloc, ground)?;
     if !has_any {

@@ -12,8 +12,8 @@ use std::alloc::{AllocError, Global};
 /// The most entries of a table that an index of a byte reaches.
 const MOST: usize = 256;
 
-/// A table of addresses that reached code reads: where its low and its high bytes begin, how much less they are than the addresses, and whether code
-/// begins there.
+/// A table of addresses that reached code reads: where its low and its high bytes begin, how much less they are than
+/// the addresses, and whether code begins there.
 #[derive(Clone, Copy)]
 pub struct Table {
     pub low: u16,
@@ -63,8 +63,8 @@ impl Table {
         usize::from(self.low.abs_diff(self.high)).min(MOST)
     }
 
-    /// Returns whether one of two tables of halves begins right behind the other: three quarters of the entries up to there lead to what reads as
-    /// code.
+    /// Returns whether one of two tables of halves begins right behind the other: three quarters of the entries up to
+    /// there lead to what reads as code.
     pub fn is_whole(&self, steps: &Steps<'_>) -> bool {
         if !self.is_code || self.has_words() {
             return false;
@@ -77,7 +77,8 @@ impl Table {
         1 < count && bad <= count / 4
     }
 
-    /// Returns the tables of halves without the entries that code has, if it has the first one: an index may begin at another number than 0.
+    /// Returns the tables of halves without the entries that code has, if it has the first one: an index
+    /// may begin at another number than 0.
     fn behind(self, code: &Marks) -> Table {
         for index in 0..MOST {
             let (low, high) = self.places(index);
@@ -138,7 +139,8 @@ impl Readers {
         Ok(())
     }
 
-    /// The table that this instruction and those behind it read: two loads with an index, each pushed or stored to one byte of a pointer.
+    /// The table that this instruction and those behind it read: two loads with an index, each pushed or
+    /// stored to one byte of a pointer.
     fn table_at(&self, steps: &Steps<'_>, reached: &Marks, at: u16) -> Option<Table> {
         let first = steps.marked(reached, at)?;
         if first.step.op.mode == Mode::Absindx {
@@ -168,7 +170,8 @@ impl Readers {
         Some(Table { is_code, ..table })
     }
 
-    /// Returns the tables that reached code reads, which has these bytes, in the order of the instructions. Fails only if an allocation failed.
+    /// Returns the tables that reached code reads, which has these bytes, in the order of the instructions.
+    /// Fails only if an allocation failed.
     pub fn tables(
         &self,
         steps: &Steps<'_>,

@@ -15,8 +15,8 @@ fn leading(ground: &Ground<'_>, survey: &Survey<'_>, less: u16, at: usize) -> Op
         .then_some(word)
 }
 
-/// How many words a row has that begins at the address: each is the address of a routine, less so much, there are three at least, and the first
-/// two are different.
+/// How many words a row has that begins at the address: each is the address of a routine, less so much, there are three
+/// at least, and the first two are different.
 fn row_len(ground: &Ground<'_>, survey: &Survey<'_>, less: u16, from: usize, end: usize) -> usize {
     let Some(one) = leading(ground, survey, less, from) else {
         return 0;
@@ -32,7 +32,8 @@ fn row_len(ground: &Ground<'_>, survey: &Survey<'_>, less: u16, from: usize, end
     if ROW <= count { count } else { 0 }
 }
 
-/// Returns where words begin that may be an address of a routine, or less one, or that of a name. Fails only if an allocation failed.
+/// Returns where words begin that may be an address of a routine, or less one, or that of a
+/// name. Fails only if an allocation failed.
 pub fn words_of(ground: &Ground<'_>, survey: &Survey<'_>) -> Result<Vec<u16>, AllocError> {
     let (alloc, info) = (survey.steps.alloc(), survey.steps.map().info());
     let mut named = Marks::none(alloc)?;
@@ -52,7 +53,8 @@ pub fn words_of(ground: &Ground<'_>, survey: &Survey<'_>) -> Result<Vec<u16>, Al
     Ok(found)
 }
 
-/// Marks the words of rows that are addresses of routines, and those of rows that are such addresses less one. `words` has where rows may begin.
+/// Marks the words of rows that are addresses of routines, and those of rows that are such addresses less
+/// one. `words` has where rows may begin.
 pub fn mark_rows(ground: &mut Ground<'_>, survey: &Survey<'_>, words: &[u16]) {
     let (_, end) = ends(ground.image);
     for &first in words {

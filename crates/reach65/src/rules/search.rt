@@ -1,4 +1,5 @@
-//! The search for code, with trials: an entry joins if all that is reached from it reads as code, else all is as before.
+//! The search for code, with trials: an entry joins if all that is reached from it
+//! reads as code, else all is as before.
 
 use crate::rules::bytes::bytes_at;
 use crate::rules::obstacles::{Obstacle, obstacle_of};
@@ -10,8 +11,8 @@ use isa65::Mnemonic;
 use map65::{ADDRESSES, Image, Marks, is_inside};
 use std::alloc::{AllocError, Global};
 
-/// How many instructions all trials that fail may look at. Few programs come near it: what is no code fails after a few. It keeps
-/// the time in proportion to the image, whatever that has.
+/// How many instructions all trials that fail may look at. Few programs come near it: what is no code fails after a
+/// few. It keeps the time in proportion to the image, whatever that has.
 const PATIENCE: usize = 0x1_0000;
 
 /// How many bytes behind what was added may belong to a text that it begins with.
@@ -29,9 +30,9 @@ pub enum Least {
     Behind(usize),
 }
 
-/// The entries; the addresses that are marked, and those of them that are still to be looked at; those that were marked since the last
-/// trial began; and how many instructions the trials that failed have looked at. An address is to be looked at from when it is marked, so
-/// each is looked at once.
+/// The entries; the addresses that are marked, and those of them that are still to be looked at; those that were marked
+/// since the last trial began; and how many instructions the trials that failed have looked at. An address is to be
+/// looked at from when it is marked, so each is looked at once.
 #[derive(Drop)]
 pub struct Search<'a> {
     pub steps: &'a Steps<'a>,
@@ -129,7 +130,8 @@ impl<'a> Search<'a> {
         Ok(())
     }
 
-    /// Marks all that is reached. If each instruction is to be fine, it stops at the first that is not, and returns where code cannot go on.
+    /// Marks all that is reached. If each instruction is to be fine, it stops at the first that is not, and
+    /// returns where code cannot go on.
     fn run(&mut self, fine: bool) -> Result<Option<u16>, AllocError> {
         for _ in 0..ADDRESSES + 1 {
             let Some(address) = self.todo.pop() else {
@@ -196,7 +198,8 @@ impl<'a> Search<'a> {
         })
     }
 
-    /// Tries an address: returns whether it is a sound beginning of so many instructions at least. Keeps what was added, if it is to.
+    /// Tries an address: returns whether it is a sound beginning of so many instructions at least.
+    /// Keeps what was added, if it is to.
     fn tries(&mut self, address: u16, least: Least, keeps: bool) -> Result<bool, AllocError> {
         if self.is_vain(address) {
             return Ok(false);
@@ -220,7 +223,8 @@ impl<'a> Search<'a> {
         Ok(joins)
     }
 
-    /// Whether a trial of the address is not worth while: none is left, or no instruction begins there that is not marked.
+    /// Whether a trial of the address is not worth while: none is left, or no instruction
+    /// begins there that is not marked.
     fn is_vain(&mut self, address: u16) -> bool {
         if self.is_tired() || self.marks.get(address) {
             return true;
@@ -274,8 +278,8 @@ impl<'a> Search<'a> {
         PATIENCE < self.wasted
     }
 
-    /// Adds an address to the entries, with what is reached from it, if it is a sound beginning of so many instructions at least. Returns
-    /// whether it is.
+    /// Adds an address to the entries, with what is reached from it, if it is a sound beginning of so many instructions
+    /// at least. Returns whether it is.
     pub fn join(&mut self, address: u16, least: Least) -> Result<bool, AllocError> {
         self.tries(address, least, true)
     }

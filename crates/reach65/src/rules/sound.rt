@@ -10,8 +10,8 @@ pub fn begins(steps: &Steps<'_>, address: Option<u16>) -> bool {
     address.is_some_and(|address| steps.at(address).is_some())
 }
 
-/// Returns whether that many instructions from the address on read as code, or fewer up to one behind which code does not go on: each decodes,
-/// and none is `brk`.
+/// Returns whether that many instructions from the address on read as code, or fewer up to one behind which code does
+/// not go on: each decodes, and none is `brk`.
 pub fn reads_on(steps: &Steps<'_>, from: Option<u16>, count: usize) -> bool {
     let mut at = from;
     for _ in 0..count {
@@ -39,8 +39,8 @@ fn is_filled(steps: &Steps<'_>, stored: &Marks, to: u16) -> bool {
     stored.get(to) || steps.map().info().covering(to).is_some()
 }
 
-/// Whether the instruction leads to another one by its operand, or a jump leaves the image. One to $0000 is filled in at run time, and the
-/// zero page has code only where it is filled.
+/// Whether the instruction leads to another one by its operand, or a jump leaves the image. One to $0000 is filled in
+/// at run time, and the zero page has code only where it is filled.
 fn leads_well(steps: &Steps<'_>, stored: &Marks, step: &Step) -> bool {
     let Some(to) = step.to else {
         return !is_branch(step);
@@ -54,8 +54,8 @@ fn leads_well(steps: &Steps<'_>, stored: &Marks, step: &Step) -> bool {
             || is_filled(steps, stored, to))
 }
 
-/// Returns whether the instruction is no `brk`, and instructions begin where it leads. `stored` has the addresses of the zero page that the
-/// image stores to.
+/// Returns whether the instruction is no `brk`, and instructions begin where it leads. `stored` has the addresses of
+/// the zero page that the image stores to.
 pub fn is_fine(steps: &Steps<'_>, stored: &Marks, step: &Step) -> bool {
     step.op.mnemonic != Mnemonic::Brk
         && (is_last(step.op.mnemonic) || begins(steps, step.next))
@@ -70,8 +70,8 @@ pub fn holder_of(steps: &Steps<'_>, marks: &Marks, address: u16) -> Option<u16> 
     })
 }
 
-/// Whether the operand of a `bit` at the first address is an instruction at the second one, which ends where the `bit` ends: `.byte $2C` skips
-/// that instruction.
+/// Whether the operand of a `bit` at the first address is an instruction at the second one, which ends where the `bit`
+/// ends: `.byte $2C` skips that instruction.
 fn hides(steps: &Steps<'_>, outer: u16, inner: u16) -> bool {
     steps.at(outer).is_some_and(|step| {
         step.op.mnemonic == Mnemonic::Bit
@@ -80,7 +80,8 @@ fn hides(steps: &Steps<'_>, outer: u16, inner: u16) -> bool {
     })
 }
 
-/// Whether the instruction of the address has the one so far behind it, where another one begins: that is marked, and not hidden in a `bit`.
+/// Whether the instruction of the address has the one so far behind it, where another one begins: that
+/// is marked, and not hidden in a `bit`.
 fn clashes(steps: &Steps<'_>, marks: &Marks, outer: u16, distance: u16) -> bool {
     let inner = outer.saturating_add(distance);
     usize::from(distance) < steps.len_at(outer)
@@ -88,7 +89,8 @@ fn clashes(steps: &Steps<'_>, marks: &Marks, outer: u16, distance: u16) -> bool 
         && !(distance == 1 && hides(steps, outer, inner))
 }
 
-/// Returns whether the instruction of the address, which is marked, shares no byte with another one, but for one in the operand of a `bit`.
+/// Returns whether the instruction of the address, which is marked, shares no byte with another one,
+/// but for one in the operand of a `bit`.
 pub fn is_apart(steps: &Steps<'_>, marks: &Marks, address: u16) -> bool {
     [1u16, 2].iter().all(|&distance| {
         let outer = address.wrapping_sub(distance);

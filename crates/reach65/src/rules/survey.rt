@@ -117,7 +117,8 @@ impl<'a> Survey<'a> {
         Ok(())
     }
 
-    /// Returns whether a routine begins at the address, which may lie past $FFFF: it is reached, and it is called, or no code goes on to it.
+    /// Returns whether a routine begins at the address, which may lie past $FFFF: it is reached, and it is
+    /// called, or no code goes on to it.
     pub fn is_routine(&self, at: usize) -> bool {
         self.reached.get_at(at)
             && self.code.get_at(at)

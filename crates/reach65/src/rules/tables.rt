@@ -13,7 +13,8 @@ pub struct Split {
     pub count: usize,
 }
 
-/// Whether the entry of the table is an address of the image: one where code begins, or, for a table of data, one that no code has.
+/// Whether the entry of the table is an address of the image: one where code begins, or, for a
+/// table of data, one that no code has.
 fn is_entry(ground: &Ground<'_>, survey: &Survey<'_>, table: Table, index: usize) -> bool {
     table.entry(ground.image, index).is_some_and(|address| {
         let is_led_to = survey.reached.get(address) && survey.code.get(address);
@@ -42,7 +43,8 @@ fn entry_count(ground: &Ground<'_>, survey: &Survey<'_>, table: Table) -> usize 
     count
 }
 
-/// Marks the words of the tables, and returns the tables of halves whose entries are addresses. Fails only if an allocation failed.
+/// Marks the words of the tables, and returns the tables of halves whose entries are
+/// addresses. Fails only if an allocation failed.
 pub fn mark_tables(
     ground: &mut Ground<'_>,
     survey: &Survey<'_>,

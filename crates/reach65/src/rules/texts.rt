@@ -92,8 +92,8 @@ impl Chars {
         }
     }
 
-    /// Returns whether they are a text of the alphabet: there are five at least, or eight with the high bit set, and half of them are letters
-    /// or blanks.
+    /// Returns whether they are a text of the alphabet: there are five at least, or eight with the high bit set, and
+    /// half of them are letters or blanks.
     pub fn are_text(self, alphabet: Alphabet) -> bool {
         let least = if alphabet == Alphabet::High { 8 } else { 5 };
         least <= self.count && self.count <= self.letters.saturating_mul(2)

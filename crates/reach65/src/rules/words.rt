@@ -54,7 +54,8 @@ fn is_gone_on(search: &Search<'_>, address: u16) -> bool {
     })
 }
 
-/// Whether a reached instruction begins at the address. For a word that is one less, none right before it goes on to it, either.
+/// Whether a reached instruction begins at the address. For a word that is one less, none
+/// right before it goes on to it, either.
 fn is_entered(search: &Search<'_>, less: u16, address: u16) -> bool {
     search.steps.at(address).is_some() && (less == 0 || !is_gone_on(search, address))
 }
@@ -68,8 +69,8 @@ fn begins_code(search: &mut Search<'_>, less: u16, address: u16) -> Result<bool,
 }
 
 impl<'i> DataWords<'i> {
-    /// Looks at an image of which these instructions are reached. What leads to the end of a routine is hopeful, as far as that is known
-    /// from the instructions after it: few bytes of data do. That saves trials, and no more.
+    /// Looks at an image of which these instructions are reached. What leads to the end of a routine is hopeful, as far
+    /// as that is known from the instructions after it: few bytes of data do. That saves trials, and no more.
     pub fn of(search: &Search<'i>) -> Result<DataWords<'i>, AllocError> {
         let steps = search.steps;
         let alloc = steps.alloc();
@@ -139,7 +140,8 @@ impl<'i> DataWords<'i> {
         Ok(false)
     }
 
-    /// Lets the sound beginnings among the words of a row join, up to one that leads to no code. Marks where the words begin.
+    /// Lets the sound beginnings among the words of a row join, up to one that leads to no
+    /// code. Marks where the words begin.
     fn join_row(
         &self,
         search: &mut Search<'_>,

@@ -43,8 +43,8 @@ pub record IsOf {A : Type 0} (l : Late A) (s : State) : Type 0 where
   pub cpu : l.cpu ≡ s.cpu
   pub above : l.count ≡ length s.above
 
--- what comes of late lines by all names, where the bytes of other lines stand before each and after the last; `rest` is what comes of the
--- lines below
+-- what comes of late lines by all names, where the bytes of other lines stand before each and after the last;
+-- `rest` is what comes of the lines below
 unfoldable pub coded_late : {A : Type 0} → List Definition → Layout → List (Late A) → List ℕ → Result (List ℕ) AsmFault → Result (List ℕ) AsmFault
 coded_late all layout [] settled rest = with_front settled rest
 coded_late all layout (l ∷ ls) settled rest =

@@ -40,7 +40,8 @@ line_operation source = operation_in (source_of source)
 abbrev pub IsCoding : Option CodeCoded → State → Operation → Type 0
 IsCoding coded s operation = option_map coded_of coded ≡ coding s operation
 
--- what the bytes of a line stand for in its state, the address after it, what it defines, and whether it enters a segment past its start
+-- what the bytes of a line stand for in its state, the address after it, what it defines, and
+-- whether it enters a segment past its start
 pub record IsPlaced (p : Placed) (s : State) (source : SourceLine) : Type 0 where
   pub coded : IsCoding p.coded s (operation_in source)
   pub next : p.next ≡ held (next_of s source)

@@ -199,7 +199,8 @@ fn of_operation<'a, L: Allocator + Clone, A: Allocator + Clone, B: Allocator>(
     }
 }
 
-/// What a fault of a line is about, by names among which are all of the line that have a definition, and the address after the line.
+/// What a fault of a line is about, by names among which are all of the line that have a
+/// definition, and the address after the line.
 pub fn explain<'a, L: Allocator + Clone, A: Allocator + Clone, B: Allocator>(
     kind: AsmFaultKind,
     names: &KnownNames<'_, '_, A>,

@@ -37,8 +37,8 @@ pub struct Assembly<'a, 'b, A: Allocator> {
     pub names: Symbols<'a, &'b A>,
 }
 
-/// The bytes that a text means, as [`assemble_source`](crate::assemble_source) answers them, with the address after each line and
-/// what the lines define; all of one reading.
+/// The bytes that a text means, as [`assemble_source`](crate::assemble_source) answers them, with the address after
+/// each line and what the lines define; all of one reading.
 pub fn assemble_lines<'a, 'b, L: Allocator + Clone, A: Allocator>(
     alloc: &'b A,
     source: &Source<'a, '_, '_, L>,

@@ -138,7 +138,8 @@ fn take_down<A: Allocator>(
     Ok(())
 }
 
-/// The names that the text defines, and the work on its lines. Takes down the address after each line, if these are wanted.
+/// The names that the text defines, and the work on its lines. Takes down the address
+/// after each line, if these are wanted.
 #[tactic(auto, using(crate::proofs::PassLaws::passed))]
 pub fn first_pass<'a, 'b, 'l, 'n, L: Allocator + Clone, A: Allocator, C: Allocator>(
     alloc: &'b A,
@@ -209,8 +210,8 @@ pub fn assemble_explained<'a, L: Allocator + Clone, A: Allocator + Clone>(
     second_pass(&mut state, &names, &work, out)
 }
 
-/// The bytes that a text means in its language from its start, with its segments where the layout says; or the fault of its lowest
-/// line that has one, and on that line the lowest.
+/// The bytes that a text means in its language from its start, with its segments where the layout says; or the fault of
+/// its lowest line that has one, and on that line the lowest.
 ///
 /// The text is lines that end by a line feed. Each stands at the start plus the number of bytes before
 /// it, and is coded by the CPU of the last `.setcpu` line above, else by the 6502. An operand has

@@ -5,8 +5,8 @@ ghost use Rattle.std.specs.Prelude.{◌≡◌};
 use std::alloc::AllocError;
 use thiserror::Error;
 
-/// What is wrong with a line of a text. Of several kinds on a line the first of this order counts: the kinds up to `OutOfRange` as they
-/// stand here, then `PastStart`, then `PastEnd`.
+/// What is wrong with a line of a text. Of several kinds on a line the first of this order counts: the kinds up to
+/// `OutOfRange` as they stand here, then `PastStart`, then `PastEnd`.
 #[derive(Clone, Copy, Debug, PartialEq, Eq, Error)]
 pub enum AsmFaultKind {
     /// The line is none that the assembler knows.

@@ -129,7 +129,8 @@ fn put_entry<A: Allocator>(
     }
 }
 
-/// Adds the bytes of a fragment if it has room for its value, and returns whether it has; `next` is the address after the statement.
+/// Adds the bytes of a fragment if it has room for its value, and returns whether it has;
+/// `next` is the address after the statement.
 #[tactic(auto, unfolding(crate::specs::Coding::fragment_fits, crate::specs::Coding::fragment_bytes))]
 pub fn put_fragment<A: Allocator + Clone, B: Allocator>(
     out: &mut Vec<u8, B>,

@@ -1,4 +1,5 @@
-//! A text whose names are known before it is read: it is assembled in one pass, in which no line waits for a name below it.
+//! A text whose names are known before it is read: it is assembled in one pass, in
+//! which no line waits for a name below it.
 
 ghost use Rattle.std.specs.Prelude.{◌≡◌, ◌++◌, IfOk, IfSome, Ok, take};
 ghost use Rattle.std.specs.Bool.{OnTrue};
@@ -39,8 +40,8 @@ fn count_after<A: Allocator + Clone>(
     }
 }
 
-/// Adds the bytes of a line above which so many definitions stand, and goes on below it. Returns how many stand there, or `None` if the
-/// line has a fault or does not define the next of them.
+/// Adds the bytes of a line above which so many definitions stand, and goes on below it. Returns how many stand there,
+/// or `None` if the line has a fault or does not define the next of them.
 #[tactic(auto, unfolding(crate::specs::Code::MeaningViews::held_after))]
 fn follow<'a, L: Allocator + Clone, A: Allocator + Clone, B: Allocator, C: Allocator>(
     out: &mut Vec<u8, C>,
@@ -65,7 +66,8 @@ fn follow<'a, L: Allocator + Clone, A: Allocator + Clone, B: Allocator, C: Alloc
     Ok(Some(count))
 }
 
-/// The bytes that a text means, if it defines these names in this order, and nothing else. `None` if it does not, or has a fault.
+/// The bytes that a text means, if it defines these names in this order, and nothing else.
+/// `None` if it does not, or has a fault.
 #[tactic(auto, using(crate::proofs::KnownLaws::knows))]
 pub fn assemble_known<'b, L: Allocator + Clone, A: Allocator, B: Allocator + Clone>(
     alloc: &'b A,

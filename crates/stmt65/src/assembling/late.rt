@@ -96,7 +96,8 @@ fn is_faultless<'a, A: Allocator + Clone, B: Allocator>(
     fit.has_room && fault_of(above, source, placed, fit).is_none()
 }
 
-/// Codes a line if its names all stand above it and it has no fault. If not, returns whether it has a fault whatever stands below it.
+/// Codes a line if its names all stand above it and it has no fault. If not, returns whether it
+/// has a fault whatever stands below it.
 #[tactic(auto, using(crate::proofs::PassLaws::settles_over))]
 pub fn settle<'a, A: Allocator + Clone, B: Allocator>(
     work: &mut Work<'a, A>,

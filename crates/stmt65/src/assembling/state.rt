@@ -155,7 +155,8 @@ pub fn select(opcodes: &mut EncodeTable, cpu: Option<Cpu>)
     }
 }
 
-/// Tables the opcodes of a CPU. A function of its own, since the table takes 3 KiB of the stack, which are cleared whenever it is entered.
+/// Tables the opcodes of a CPU. A function of its own, since the table takes 3 KiB of the stack,
+/// which are cleared whenever it is entered.
 #[inline(never)]
 fn table(opcodes: &mut EncodeTable, cpu: Cpu)
     ensures { opcodes.new ≡ cpu }

@@ -42,8 +42,9 @@ impl Definition<'_> {
     }
 }
 
-/// Definitions in their order, and the first one of each name. The first name that has a slot takes it. The names whose slot was taken
-/// before stand in a tree, so names that share a slot on purpose cost no more than a look-up in the tree.
+/// Definitions in their order, and the first one of each name. The first name that has a slot takes
+/// it. The names whose slot was taken before stand in a tree, so names that share a slot on purpose
+/// cost no more than a look-up in the tree.
 #[derive(Drop)]
 pub struct Symbols<'a, A: Allocator = Global> {
     definitions: Vec<Definition<'a>, A>,

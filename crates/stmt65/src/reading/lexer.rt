@@ -89,7 +89,8 @@ fn is_character(bytes: &[u8]) -> bool
     }
 }
 
-/// The part that begins with the first byte, which begins none of a listing but itself, and how many of the bytes after it belong to it.
+/// The part that begins with the first byte, which begins none of a listing but itself, and how
+/// many of the bytes after it belong to it.
 fn alone_at(language: Language, bytes: &[u8]) -> (Part<'_>, usize)
     requires { 0 < length bytes.now }
     ensures part { part_of result.0 ≡ (cut_by (alone_at language) bytes.now).0 }

@@ -3,8 +3,8 @@
 ghost use Rattle.stmt65.specs.Words.{◌<◌, digit_value, digits_value, held, min, numeral_of, ◌≡◌};
 ghost use Rattle.stmt65.specs.Parts.{number_of};
 
-/// A number as it is written: decimal digits, `$` and hex digits, `%` and binary digits, or a character between apostrophes. It may be
-/// of any size.
+/// A number as it is written: decimal digits, `$` and hex digits, `%` and binary digits, or a character
+/// between apostrophes. It may be of any size.
 #[derive(Clone, Copy, Debug)]
 pub struct Numeral<'a> {
     pub text: &'a [u8],

@@ -7,7 +7,8 @@ use crate::reading::lexer::{Part, first_part};
 use crate::reading::numeral::Numeral;
 use std::marker::Model;
 
-/// The parts of a line that are left, which contracts see as their list. The first of them is cut already, so that each is cut once.
+/// The parts of a line that are left, which contracts see as their list. The first of them is
+/// cut already, so that each is cut once.
 #[derive(Drop)]
 pub struct Parts<'a> {
     language: Language,

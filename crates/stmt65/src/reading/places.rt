@@ -25,8 +25,8 @@ pub struct PlacedPart<'a> {
     pub span: Span,
 }
 
-/// An operand of a line: a string, or an expression and which half of it is meant, and where it stands. The place of an expression
-/// has no `<`, `>` and no parentheses.
+/// An operand of a line: a string, or an expression and which half of it is meant, and where it stands. The place of an
+/// expression has no `<`, `>` and no parentheses.
 #[derive(Clone, Copy)]
 pub struct Operand<'a> {
     /// A string, an expression, or the half of one. A number is an expression.
@@ -186,7 +186,8 @@ impl<'a> Places<'a> {
         Head { name, operation }
     }
 
-    /// Passes over what is added and subtracted after the first part of an expression, and returns where the expression ends.
+    /// Passes over what is added and subtracted after the first part of an expression, and
+    /// returns where the expression ends.
     fn pass_terms(&mut self, to: usize) -> usize {
         let mut to = to;
         for _ in 0..self.line.len() {

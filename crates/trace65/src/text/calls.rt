@@ -1,4 +1,5 @@
-//! Comments for what keeps bytes from being code, and for calls after which nothing decodes: text that the called routine reads may follow them.
+//! Comments for what keeps bytes from being code, and for calls after which nothing decodes: text that the
+//! called routine reads may follow them.
 
 use crate::advice::Advice;
 use crate::text::Text;
@@ -10,8 +11,8 @@ use std::alloc::AllocError;
 /// How many instructions after a call are looked at.
 const STEPS: usize = 8;
 
-/// The routine of the call at the address, the address, and whether nothing decodes after the call. A call that is not reached counts if its routine
-/// is, or lies outside the image.
+/// The routine of the call at the address, the address, and whether nothing decodes after the call. A call that is not
+/// reached counts if its routine is, or lies outside the image.
 fn call_at(advice: &Advice<'_>, at: u16) -> Option<(u16, u16, bool)> {
     let step = advice.steps.at(at)?;
     let routine = step.to?;
@@ -44,7 +45,8 @@ fn name_of(advice: &Advice<'_>, address: u16) -> &'static str {
 }
 
 impl Text<'_> {
-    /// Adds a comment for each routine after half of whose calls nothing decodes at least, by address, unless a group INLINE of the file has it.
+    /// Adds a comment for each routine after half of whose calls nothing decodes at least, by address, unless a
+    /// group INLINE of the file has it.
     pub fn put_calls(&mut self) -> Result<(), AllocError> {
         let advice = self.advice;
         let calls = calls_of(advice)?;

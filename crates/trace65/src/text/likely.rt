@@ -1,4 +1,5 @@
-//! Comments for words in data that are likely addresses, and for operands that are likely counted from a table behind them.
+//! Comments for words in data that are likely addresses, and for operands that are
+//! likely counted from a table behind them.
 
 use crate::advice::Advice;
 use crate::text::Text;
@@ -16,7 +17,8 @@ fn is_meant(advice: &Advice<'_>, address: u16) -> bool {
 }
 
 impl Text<'_> {
-    /// Adds a comment instead, if the word is the operand of a call or a jump in bytes that are not reached. Returns whether it is.
+    /// Adds a comment instead, if the word is the operand of a call or a jump in bytes that are
+    /// not reached. Returns whether it is.
     fn put_call(&mut self, at: u16, word: u16) -> Result<bool, AllocError> {
         let before = at.saturating_sub(1);
         let ground = &self.advice.ground;
@@ -34,7 +36,8 @@ impl Text<'_> {
         Ok(true)
     }
 
-    /// Adds a comment for each word that is likely an address: nothing speaks for its bytes, they differ, and no row of words has them.
+    /// Adds a comment for each word that is likely an address: nothing speaks for its bytes, they
+    /// differ, and no row of words has them.
     pub fn put_words(&mut self) -> Result<(), AllocError> {
         let advice = self.advice;
         for &at in &advice.words {

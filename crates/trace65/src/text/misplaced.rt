@@ -1,4 +1,5 @@
-//! Comments for what is given where it counts for nothing: an entry or a range outside the image, and an entry inside a reached instruction.
+//! Comments for what is given where it counts for nothing: an entry or a range outside the image, and
+//! an entry inside a reached instruction.
 
 use crate::text::Text;
 use map65::is_inside;

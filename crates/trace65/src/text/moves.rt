@@ -1,4 +1,5 @@
-//! The lines of labels, and the lines `#: ..`: for addresses that code loads in halves, and for what lies after the image.
+//! The lines of labels, and the lines `#: ..`: for addresses that code loads in
+//! halves, and for what lies after the image.
 
 use crate::text::Text;
 use files65::put_address;
@@ -55,8 +56,8 @@ impl Text<'_> {
         Ok(())
     }
 
-    /// Adds the line of what lies after the image, up to the greatest address of the pairs and the variables, if one lies there, and unless the
-    /// file says it.
+    /// Adds the line of what lies after the image, up to the greatest address of the pairs and the variables, if one
+    /// lies there, and unless the file says it.
     pub fn put_after(&mut self) -> Result<(), AllocError> {
         let advice = self.advice;
         let mut last = advice.variables.last().copied().unwrap_or(0);

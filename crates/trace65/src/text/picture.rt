@@ -28,8 +28,8 @@ fn character(len: usize, code: usize, both: usize) -> u8 {
 }
 
 impl Text<'_> {
-    /// Adds a picture of the image, with what its characters stand for, and the counts of its bytes; and what usually helps, in the order that helped,
-    /// if code and ranges have less than half of the image.
+    /// Adds a picture of the image, with what its characters stand for, and the counts of its bytes; and what usually
+    /// helps, in the order that helped, if code and ranges have less than half of the image.
     pub fn put_picture(&mut self) -> Result<(), AllocError> {
         self.put(b"# a character for 64 bytes: # code that is reached, + partly,\n")?;
         self.put(b"# r in a range of the information file, . neither\n")?;

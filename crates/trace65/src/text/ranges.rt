@@ -19,7 +19,8 @@ fn shown(byte: u8) -> u8 {
     }
 }
 
-/// Whether bytes have the high bit, and each stands behind a letter without it: programs mark the last letter of a word so.
+/// Whether bytes have the high bit, and each stands behind a letter without it:
+/// programs mark the last letter of a word so.
 fn mark_ends(bytes: &[u8]) -> bool {
     let mut before = 0u8;
     let mut mark = false;

@@ -21,7 +21,8 @@ fn table_of(range: RangeSpec, less: u16) -> Split {
 }
 
 impl Text<'_> {
-    /// Adds why code does not begin at the address: the first instruction on the way that is none, or `brk`, else it shares a byte with other code.
+    /// Adds why code does not begin at the address: the first instruction on the way that is none, or `brk`, else
+    /// it shares a byte with other code.
     fn put_reason(&mut self, address: u16) -> Result<(), AllocError> {
         let mut at = address;
         for _ in 0..ADDRESSES {
@@ -39,8 +40,8 @@ impl Text<'_> {
         self.put(b"it does not read as code")
     }
 
-    /// Adds the comments for a table, for so many addresses at most; for one in halves, which `--plain` does not follow, only for those that do not
-    /// read as code.
+    /// Adds the comments for a table, for so many addresses at most; for one in halves, which `--plain` does not
+    /// follow, only for those that do not read as code.
     fn put_table(&mut self, split: Split, left: &mut usize) -> Result<(), AllocError> {
         let advice = self.advice;
         let (steps, map) = (advice.steps, advice.steps.map());
@@ -64,8 +65,8 @@ impl Text<'_> {
         Ok(())
     }
 
-    /// Adds a comment for each address in a table of the information file to which reading does not lead, at most 16 for each range, and for all
-    /// tables of halves.
+    /// Adds a comment for each address in a table of the information file to which reading does not lead, at most 16
+    /// for each range, and for all tables of halves.
     pub fn put_pointers(&mut self) -> Result<(), AllocError> {
         let advice = self.advice;
         for &range in advice.steps.map().info().ranges() {
