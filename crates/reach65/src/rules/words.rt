@@ -22,14 +22,15 @@ pub struct DataWords<'i> {
     worth: Vec<u16>,
 }
 
-/// Whether the two words of these bytes differ, and both may lead to code, themselves or as one less.
-fn is_worth(hopeful: &Marks, bytes: [u8; 4]) -> bool {
-    let [low, high, next_low, next_high] = bytes;
-    let one = usize::from(u16::from_le_bytes([low, high]));
-    let two = usize::from(u16::from_le_bytes([next_low, next_high]));
+/// Whether the word at the address and the one behind it differ, and both may lead to code, themselves or as one less.
+fn is_worth(image: &Image, hopeful: &Marks, at: usize) -> bool {
+    let (Some(one), Some(two)) = (word(image, at), word(image, at.saturating_add(2))) else {
+        return false;
+    };
+    let (to, then) = (usize::from(one), usize::from(two));
     one != two
-        && (hopeful.get_at(one) && hopeful.get_at(two)
-            || hopeful.get_at(one + 1) && hopeful.get_at(two + 1))
+        && (hopeful.get_at(to) && hopeful.get_at(then)
+            || hopeful.get_at(to + 1) && hopeful.get_at(then + 1))
 }
 
 /// Whether code may go on at a later address, if there is one: an earlier one is not known yet.
@@ -92,8 +93,11 @@ impl<'i> DataWords<'i> {
             }
         }
         let mut worth = Vec::new(alloc);
-        for (at, &bytes) in addresses(image).zip(image.bytes().array_windows::<4>()) {
-            if !reached.get(at) && !search.code.get(at) && is_worth(&hopeful, bytes) {
+        for at in addresses(image) {
+            if !reached.get(at)
+                && !search.code.get(at)
+                && is_worth(image, &hopeful, usize::from(at))
+            {
                 worth.push(at)?;
             }
         }
