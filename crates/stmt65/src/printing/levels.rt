@@ -45,27 +45,25 @@ fn put_characters(out: &mut Line, bytes: &[u8])
 
 /// Appends what stands after a statement from level 2 on, with the statement's address and bytes.
 #[inline(never)]
-fn put_remarked(out: &mut Line, columns: &Columns, remarks: &Remarks)
-    requires level { 2 ≤ remarks.now.level }
+fn put_remarked(out: &mut Line, columns: &Columns, level: u8, address: u16, bytes: &[u8])
+    requires level { 2 ≤ level }
     requires room { array_vec_len out.old ≤ 340 }
-    requires few { length remarks.now.bytes.now ≤ 16 }
-    ensures items { Prints out.old (level_fields columns.now remarks.now.level remarks.now.address
-        remarks.now.bytes.now) out.new }
+    requires few { length bytes.now ≤ 16 }
+    ensures items { Prints out.old (level_fields columns.now level address bytes.now) out.new }
     ensures len { array_vec_len out.new ≤ 511 }
 {
-    let level = remarks.level.get();
     start_field(out, columns.comment);
     put(out, b"; ");
-    put_digits4(out, remarks.address);
+    put_digits4(out, address);
     if level < 3 {
         return;
     }
-    put_spaced_bytes(out, remarks.bytes);
+    put_spaced_bytes(out, bytes);
     if level < 4 {
         return;
     }
     start_field(out, columns.text);
-    put_characters(out, remarks.bytes);
+    put_characters(out, bytes);
 }
 
 /// Appends what stands after the statement. Below level 2 that is nothing.
@@ -77,7 +75,8 @@ pub(super) fn put_after(out: &mut Line, columns: &Columns, statement: &Statement
         (remarks_seen remarks.now)) out.new }
     ensures len { array_vec_len out.new ≤ 511 }
 {
-    if statement.has_bytes() && 2 <= remarks.level.get() {
-        put_remarked(out, columns, remarks);
+    let level = remarks.level.get();
+    if statement.has_bytes() && 2 <= level {
+        put_remarked(out, columns, level, remarks.address, remarks.bytes);
     }
 }
