@@ -213,7 +213,7 @@ def test_html65(as65, html65, shows, text):
     """The page is at most seven times as long as the listing of random bytes."""
     listing = text("random")
     ours = instructions(html65.path, f"-S 0 -o a.html {write('a.s', listing)}")
-    shows(298, ours, instructions(as65.path, "-S 0 -o ours.bin a.s"))
+    shows(311, ours, instructions(as65.path, "-S 0 -o ours.bin a.s"))
     assert len(read("a.html")) <= 7 * len(listing)
 
 
