@@ -56,7 +56,11 @@ impl<V: Value, B: Bus<V>> Machine<V, B> {
     /// Moves the bits of an operand, with this bit at one end; the bit at the other end goes to the carry.
     fn shift(&mut self, operand: Operand, operation: Operation, bit: V) {
         let value = self.load(operand);
-        let out = if operation == Operation::ShiftLeft { 7 } else { 0 };
+        let out = if operation == Operation::ShiftLeft {
+            7
+        } else {
+            0
+        };
         self.registers.flags[CARRY] = value.alone(Operation::Bit(out));
         let shifted = self.seen(V::apply(operation, value, value, bit));
         self.store(operand, shifted);
