@@ -1,5 +1,6 @@
 -- The parts of a text that is printed, where what follows it ends its last word.
-use Rattle.stmt65.proofs.Lemmas.{◌%◌, ◌+◌, ◌++◌, ◌/◌, ◌<◌, Bool, List, [], and_parts, ap, arith, decimal_is_IsNumeral, decimal_nonempty, digit_from_value, drop, drop-drop, drop_at, eqb, false, length, ltb, ltb-true, min, nat_tests, refl, replicate, suc, sym, take_at, true, zero, ℕ, ◌∙◌, ◌∷◌, ◌≡◌, ◌≤◌}
+use Rattle.std.specs.Prelude.{◌%◌, ◌++◌, ◌+◌, ◌/◌, ◌<◌, ◌∷◌, ◌≡◌, ◌≤◌}
+use Rattle.stmt65.proofs.Lemmas.{Bool, List, [], and_parts, ap, arith, decimal_is_IsNumeral, decimal_nonempty, digit_from_value, drop, drop-drop, drop_at, eqb, false, length, ltb, ltb-true, min, nat_tests, refl, replicate, suc, sym, take_at, true, zero, ℕ, ◌∙◌}
 use Rattle.stmt65.specs.Words.{AllDigits, Define, Listing, Mark, Number, Text, Word, begins_with, decimal, digit_value, hex2, hex4, hex_digit, is_ascii_digit, is_ascii_hexdigit, is_blank, is_text_byte, is_word_byte, is_word_start, list_all, offset_text, part_at, parts, prefix_len}
 use Rattle.stmt65.specs.Parts.{number_of}
 use Rattle.stmt65.proofs.Cases.{by_test}

@@ -1,5 +1,6 @@
 -- Lists joined by commas, one after the other as a loop reads them.
-use Rattle.stmt65.proofs.Lemmas.{◌+◌, ◌++◌, ◌-◌, ◌<◌, List, None, Option, Some, [], ap, append_assoc, arith, drop, false, length, map-append, refl, suc, sym, true, ◌∙◌, ◌∷◌, ◌≡◌, ◌≤◌, length-append}
+use Rattle.std.specs.Prelude.{◌++◌, ◌+◌, ◌-◌, ◌<◌, ◌∷◌, ◌≡◌, ◌≤◌}
+use Rattle.stmt65.proofs.Lemmas.{List, None, Option, Some, [], ap, append_assoc, arith, drop, false, length, map-append, refl, suc, sym, true, ◌∙◌, length-append}
 use Rattle.stmt65.specs.Words.{◌>>=◌, Part, is_mark, is_nil, joined, list_of, map}
 use Rattle.stmt65.proofs.Cases.{by_list, mark_is}
 

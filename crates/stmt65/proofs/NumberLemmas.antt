@@ -1,5 +1,6 @@
 -- A number that is read digit by digit, and stops at the greatest number of 64 bits.
-use Rattle.stmt65.proofs.Lemmas.{◌*◌, ◌+◌, ◌++◌, ◌<◌, List, [], ap, arith, get_or, length, min, refl, take, take_more, ℕ, ◌∙◌, ◌∷◌, ◌≡◌}
+use Rattle.std.specs.Prelude.{◌*◌, ◌++◌, ◌+◌, ◌<◌, ◌∷◌, ◌≡◌}
+use Rattle.stmt65.proofs.Lemmas.{List, [], ap, arith, get_or, length, min, refl, take, take_more, ℕ, ◌∙◌}
 use Rattle.stmt65.specs.Words.{digit_value, digits_value, digits_value_after}
 
 digits_value_after-push : (r n : ℕ) (xs : List ℕ) (d : ℕ) → digits_value_after r n (xs ++ d ∷ []) ≡ digits_value_after r n xs * r + digit_value d

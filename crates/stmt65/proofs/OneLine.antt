@@ -1,6 +1,7 @@
 -- A printed line has no line feed before its end.
-use Rattle.stmt65.proofs.Lemmas.{◌%◌, ◌++◌, ◌/◌, ◌<◌, Bool, List, None, Option, Some, [], and_parts, arith, cpu_name, decimal_is_IsNumeral, eqb, false, list_all-append, ltb, nat_tests, refl, replicate, reverse, suc, true, zero, ℕ, ◌∙◌, ◌∷◌, ◌≡◌}
-use Rattle.stmt65.specs.Words.{◌==◌, Adc, Columns, Datum, Directive, ExprView, Field, HasLabelName, HasNames, Imp, IsInWidth, IsPrintable, Mnemonic, Mode, OperandKind, OperandsView, RemarksView, Row, StatementView, bytes_text, character, codes, comma_list, cpu_text, cut_text, datum_text, decimal, digits2, directive_text, distance_text, entries, entry_text, fields_of, filled, flat_map, has_name_form, hex2, hex4, hex_digit, in_order, in_pattern, instr_fields, is_ascii_digit, is_name, is_text_byte, kind_text, kind_texts, label_fields, level_fields, line_of, list_all, map, named_text, next_text, not, numbers_text, offset_text, operand_text, order_of, prefix_text, quoted, text_of, with_fields}
+use Rattle.std.specs.Prelude.{◌%◌, ◌++◌, ◌/◌, ◌<◌, ◌==◌, ◌∷◌, ◌≡◌}
+use Rattle.stmt65.proofs.Lemmas.{Bool, List, None, Option, Some, [], and_parts, arith, cpu_name, decimal_is_IsNumeral, eqb, false, list_all-append, ltb, nat_tests, refl, replicate, reverse, suc, true, zero, ℕ, ◌∙◌}
+use Rattle.stmt65.specs.Words.{Adc, Columns, Datum, Directive, ExprView, Field, HasLabelName, HasNames, Imp, IsInWidth, IsPrintable, Mnemonic, Mode, OperandKind, OperandsView, RemarksView, Row, StatementView, bytes_text, character, codes, comma_list, cpu_text, cut_text, datum_text, decimal, digits2, directive_text, distance_text, entries, entry_text, fields_of, filled, flat_map, has_name_form, hex2, hex4, hex_digit, in_order, in_pattern, instr_fields, is_ascii_digit, is_name, is_text_byte, kind_text, kind_texts, label_fields, level_fields, line_of, list_all, map, named_text, next_text, not, numbers_text, offset_text, operand_text, order_of, prefix_text, quoted, text_of, with_fields}
 use Rattle.isa65.specs.declared.row.OperandKind.TheVariants as kind
 use Rattle.isa65.specs.declared.row.Row.TheVariants as row
 use Rattle.stmt65.specs.declared.directive.Directive.TheVariants as directive

@@ -1,5 +1,6 @@
 -- The parts of a line, step by step.
-use Rattle.stmt65.proofs.Lemmas.{◌+◌, ◌-◌, ◌<◌, List, [], add-one, ap, arith, drop, eqb, false, get_or, length, lt-ltb, ne_eqb, refl, suc, take, take_rest, true, zero, ℕ, ◌∙◌, ◌∷◌, ◌≡◌, ◌≢◌}
+use Rattle.std.specs.Prelude.{◌+◌, ◌-◌, ◌<◌, ◌∷◌, ◌≡◌, ◌≢◌}
+use Rattle.stmt65.proofs.Lemmas.{List, [], add-one, ap, arith, drop, eqb, false, get_or, length, lt-ltb, ne_eqb, refl, suc, take, take_rest, true, zero, ℕ, ◌∙◌}
 use Rattle.stmt65.specs.Words.{Language, Number, Part, Word, hex_len, is_ascii_digit, is_blank, is_word_byte, is_word_start, nat_lt, part_at, parts, parts_after, prefix_len}
 
 pub parts_after-drop : (l : Language) (skip : ℕ) (bs : List ℕ) → parts_after l skip bs ≡ parts l (drop skip bs)

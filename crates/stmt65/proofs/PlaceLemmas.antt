@@ -1,7 +1,8 @@
 -- Where the parts of a line stand.
-use Rattle.stmt65.proofs.Lemmas.{◌+◌, ◌++◌, ◌-◌, ◌<◌, List, [], add-one, and_parts, ap, arith, drop, drop-drop, eqb-true, false, get_or, length, length-drop, refl, suc, sym, take, take_rest, true, zero, ℕ, ◌∙◌, ◌∷◌, ◌≡◌, ◌≢◌}
+use Rattle.std.specs.Prelude.{◌&&◌, ◌++◌, ◌+◌, ◌-◌, ◌<◌, ◌==◌, ◌∷◌, ◌≡◌, ◌≢◌}
+use Rattle.stmt65.proofs.Lemmas.{List, [], add-one, and_parts, ap, arith, drop, drop-drop, eqb-true, false, get_or, length, length-drop, refl, suc, sym, take, take_rest, true, zero, ℕ, ◌∙◌}
 use Rattle.stmt65.specs.Signs.{apostrophe, colon, dollar, equals, percent, quote}
-use Rattle.stmt65.specs.Words.{◌&&◌, ◌==◌, Language, Listing, Part, Repair, alone_at, begins_with, hex_len, is_ascii_digit, is_binary_digit, is_blank, is_character, is_text_byte, is_word_start, nat_lt, part_at, part_text, parts, prefix_len}
+use Rattle.stmt65.specs.Words.{Language, Listing, Part, Repair, alone_at, begins_with, hex_len, is_ascii_digit, is_binary_digit, is_blank, is_character, is_text_byte, is_word_start, nat_lt, part_at, part_text, parts, prefix_len}
 use Rattle.stmt65.proofs.Cases.{by_test}
 use Rattle.stmt65.proofs.PartLemmas.{parts_blank, parts_here}
 

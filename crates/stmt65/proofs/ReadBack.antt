@@ -1,6 +1,7 @@
 -- The line of a statement is a spelling of that statement, so it reads as it.
-use Rattle.stmt65.proofs.Lemmas.{◌++◌, ◌-◌, ◌<◌, Bool, List, None, Option, [], and_parts, ap, append-nil, append_assoc, arith, bytes_eq-Decides, eqb, eqb-true, false, inl, inr, length, ltb, ltb-true, nat_tests, ne_eqb, refl, replicate, suc, sym, true, ℕ, ◌∙◌, ◌∷◌, ◌≡◌, length-append}
-use Rattle.stmt65.specs.Words.{Adc, AreOperands, AreWordWide, Assignment, Automatic, Code, Columns, Cpu, Define, Directive, Empty, ExprView, HasLabelName, HasName, HasNames, HasNamesIn, Imp, Instr, IsInWidth, IsLong, IsOperand, IsPrintable, IsSome, IsSpelling, IsValue, IsWordWide, IsWrittenIn, Item, Listing, Mark, MayBeForced, MayBeLabelled, Mnemonic, Mode, NameValue, Nothing, Number, NumberDatum, NumberValue, One, OperandKind, OperandsView, Operation, Part, Pattern, PlaceAssignment, RemarksView, Row, Segment, SetCpu, Some, Spells, Statement, StatementView, TargetView, Word, Zero, alone, begins_with, bytes_text, codes, cpu_text, cut_text, data_list, data_text, definition_fields, directive_text, distance_text, entries, entry_value, fields_of, filled, form_items, has_bytes, has_name_form, hex2, hex4, instr_fields, is_ascii_alphabetic, is_name, is_text_byte, is_word_byte, is_word_start, kind_text, label_fields, level_fields, line_of, list_all, long_text, map, mark, named_text, number, numbers_text, offset_text, operand_text, operation_items, parts, plain_line, prefix_items, prefix_text, quoted, quoted_name, reading_of, remark_fields, return_text, row_form, row_of, row_operands, sized, source_form, source_line, source_value, str_to_ascii_lowercase, string, text_of, value, value_list, with_fields, with_label, with_operands, word, zero_page_row, ◌||◌}
+use Rattle.std.specs.Prelude.{◌++◌, ◌-◌, ◌<◌, ◌||◌, ◌∷◌, ◌≡◌}
+use Rattle.stmt65.proofs.Lemmas.{Bool, List, None, Option, [], and_parts, ap, append-nil, append_assoc, arith, bytes_eq-Decides, eqb, eqb-true, false, inl, inr, length, ltb, ltb-true, nat_tests, ne_eqb, refl, replicate, suc, sym, true, ℕ, ◌∙◌, length-append}
+use Rattle.stmt65.specs.Words.{Adc, AreOperands, AreWordWide, Assignment, Automatic, Code, Columns, Cpu, Define, Directive, Empty, ExprView, HasLabelName, HasName, HasNames, HasNamesIn, Imp, Instr, IsInWidth, IsLong, IsOperand, IsPrintable, IsSome, IsSpelling, IsValue, IsWordWide, IsWrittenIn, Item, Listing, Mark, MayBeForced, MayBeLabelled, Mnemonic, Mode, NameValue, Nothing, Number, NumberDatum, NumberValue, One, OperandKind, OperandsView, Operation, Part, Pattern, PlaceAssignment, RemarksView, Row, Segment, SetCpu, Some, Spells, Statement, StatementView, TargetView, Word, Zero, alone, begins_with, bytes_text, codes, cpu_text, cut_text, data_list, data_text, definition_fields, directive_text, distance_text, entries, entry_value, fields_of, filled, form_items, has_bytes, has_name_form, hex2, hex4, instr_fields, is_ascii_alphabetic, is_name, is_text_byte, is_word_byte, is_word_start, kind_text, label_fields, level_fields, line_of, list_all, long_text, map, mark, named_text, number, numbers_text, offset_text, operand_text, operation_items, parts, plain_line, prefix_items, prefix_text, quoted, quoted_name, reading_of, remark_fields, return_text, row_form, row_of, row_operands, sized, source_form, source_line, source_value, str_to_ascii_lowercase, string, text_of, value, value_list, with_fields, with_label, with_operands, word, zero_page_row}
 use Rattle.isa65.specs.declared.row.OperandKind.TheVariants as kind
 use Rattle.isa65.specs.declared.row.Pattern.TheVariants as pattern
 use Rattle.isa65.specs.declared.row.Row.TheVariants as row

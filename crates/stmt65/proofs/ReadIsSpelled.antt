@@ -1,5 +1,6 @@
 -- What is read is spelled so.
-use Rattle.stmt65.proofs.Lemmas.{◌++◌, Bool, List, None, Option, Some, [], ap, append-nil, append_assoc, arith, cond, drop, false, inl, inr, length, refl, suc, sym, true, zero, ℕ, ◌∙◌, ◌∷◌, ◌≡◌}
+use Rattle.std.specs.Prelude.{◌++◌, ◌∷◌, ◌≡◌}
+use Rattle.stmt65.proofs.Lemmas.{Bool, List, None, Option, Some, [], ap, append-nil, append_assoc, arith, cond, drop, false, inl, inr, length, refl, suc, sym, true, zero, ℕ, ◌∙◌}
 use Rattle.stmt65.specs.Words.{◌>>=◌, AddressSize, Automatic, Data, Define, Direct, DirectX, DirectY, Directive, Form, IfSome, Immediate, Instr, IsDatum, IsItem, IsList, IsPlus, IsSpelling, IsValue, Item, Listing, Mark, Number, One, Operation, Part, Plain, SetCpu, Spells, Text, Two, Value, Values, Word, codes, constant_of, data_list, data_of, define, directive_named, directive_text, form_items, further_at, has_name_form, immediate_of, inner_at, is_absolute, is_define, is_mark, is_name, is_number_here, is_word_here, joined, less_one, line_at, list_of, mark, mark_datum, mnemonic_named, name, named_at, next_datum, next_value, number, number_in, operation_at, operation_items, other_at, prefix_items, quoted_name, reading_of, same, segment_of, set_cpu_of, sized, string, tail_at, text_in, text_of, value, value_list, values_of, whole, word, word_datum}
 use Rattle.stmt65.specs.declared.source_line.AddressSize.TheVariants.{Absolute}
 use Rattle.stmt65.specs.Reading.{form_of, instruction_of, operation_of}

@@ -1,6 +1,7 @@
 -- A line that says something has the same parts where a blank and a remark follow it.
-use Rattle.stmt65.proofs.Lemmas.{◌++◌, ◌<◌, Bool, List, [], and_parts, ap, arith, drop, drop-append-le, eqb, eqb-true, false, inl, inr, length, length-drop, list_all-append, nat_tests, prefix_len-append, prefix_len-le-length, refl, suc, take-append-le, true, zero, ℕ, ◌∙◌, ◌∷◌, ◌≡◌, ◌≤◌}
-use Rattle.stmt65.specs.Words.{Assignment, Datum, Direct, Form, Instr, IsDatum, IsItem, IsList, IsMinus, IsPlus, IsSpelling, IsValue, Item, Listing, Mark, Minus, NameValue, None, NumberDatum, NumberValue, One, Operation, Part, PlaceAssignment, Plain, Some, SourceLine, Spells, Statement, StringDatum, Value, Zero, begins_with, form_items, is_blank, is_text_byte, line_items, list_all, not, operation_items, part_at, parts, parts_after, prefix_len, ◌||◌}
+use Rattle.std.specs.Prelude.{◌++◌, ◌<◌, ◌||◌, ◌∷◌, ◌≡◌, ◌≤◌}
+use Rattle.stmt65.proofs.Lemmas.{Bool, List, [], and_parts, ap, arith, drop, drop-append-le, eqb, eqb-true, false, inl, inr, length, length-drop, list_all-append, nat_tests, prefix_len-append, prefix_len-le-length, refl, suc, take-append-le, true, zero, ℕ, ◌∙◌}
+use Rattle.stmt65.specs.Words.{Assignment, Datum, Direct, Form, Instr, IsDatum, IsItem, IsList, IsMinus, IsPlus, IsSpelling, IsValue, Item, Listing, Mark, Minus, NameValue, None, NumberDatum, NumberValue, One, Operation, Part, PlaceAssignment, Plain, Some, SourceLine, Spells, Statement, StringDatum, Value, Zero, begins_with, form_items, is_blank, is_text_byte, line_items, list_all, not, operation_items, part_at, parts, parts_after, prefix_len}
 use Rattle.stmt65.specs.Spelling as item
 use Rattle.stmt65.specs.declared.source_line.Minus.TheVariants.{One as MinusOne}
 use Rattle.stmt65.proofs.Cases.{by_test}

@@ -1,5 +1,6 @@
 -- A listing means in a repair what it means by itself.
-use Rattle.stmt65.proofs.Lemmas.{All-head, All-tail, List, None, Option, Some, [], and_parts, ap, arith, eqb, eqb-true, false, map, refl, suc, sym, true, zero, ℕ, ◌∙◌, ◌∷◌, ◌≡◌}
+use Rattle.std.specs.Prelude.{◌∷◌, ◌≡◌}
+use Rattle.stmt65.proofs.Lemmas.{All-head, All-tail, List, None, Option, Some, [], and_parts, ap, arith, eqb, eqb-true, false, map, refl, suc, sym, true, zero, ℕ, ◌∙◌}
 use Rattle.isa65.specs.declared.cpu.Cpu.TheVariants.{M65C02, M65SC02}
 use Rattle.stmt65.specs.Words.{All, Asl, Cpu, Definition, Empty, Imp, Inc, Instr, IsFaultless, IsSpelling, KeepsListings, Language, Line, Listing, M6502, Mnemonic, Operation, Repair, Ror, SourceLine, State, Statement, after, coding, encoded, fault_of, has_no_form, initial, lines_below, meaning_in, meaning_of, names_of, part_at, parts, parts_after, reading_of, readings, table_of, takes_accumulator, text_lines, ways}
 use Rattle.stmt65.specs.Types.{Dec, Lsr, Rol}

@@ -1,5 +1,6 @@
 -- The stretches of a text, from the front on.
-use Rattle.stmt65.proofs.Lemmas.{◌+◌, ◌++◌, Bool, List, [], and_parts, ap, arith, drop, false, length, refl, suc, true, ℕ, ◌∙◌, ◌∷◌, ◌≡◌, ◌≤◌}
+use Rattle.std.specs.Prelude.{◌++◌, ◌+◌, ◌∷◌, ◌≡◌, ◌≤◌}
+use Rattle.stmt65.proofs.Lemmas.{Bool, List, [], and_parts, ap, arith, drop, false, length, refl, suc, true, ℕ, ◌∙◌}
 use Rattle.stmt65.specs.Words.{Datum, EndsStretch, NumberDatum, StringDatum, cut_text, is_plain, list_all, onto_stretch, prefix_len}
 use Rattle.stmt65.proofs.Cases.{by_test}
 use Rattle.stmt65.proofs.Lexed.{begins}

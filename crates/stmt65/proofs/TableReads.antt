@@ -1,6 +1,7 @@
 -- The texts of tables are lists, joined by commas, of what the tables say.
-use Rattle.stmt65.proofs.Lemmas.{◌%◌, ◌*◌, ◌+◌, ◌++◌, ◌/◌, ◌<◌, Bool, List, [], and_parts, ap, append-nil, append_assoc, arith, digits_value_push, drop, eq-eqb, eqb-true, false, flat_map-append, length, length-drop, length-reverse, length-take-le, list_all-append, ltb, ltb-true, map-id, nat_tests, refl, reverse, reverse-append, subst, suc, suc-mul, sym, take, take-append-drop, true, zero, ℕ, ◌∙◌, ◌∷◌, ◌≡◌, ◌≤◌}
-use Rattle.stmt65.specs.Words.{◌&&◌, ◌==◌, AreBytes, BigEndian, ByteOrder, Datum, Directive, IsDatum, IsList, IsValue, Listing, LittleEndian, Number, NumberDatum, Part, StringDatum, bytes_text, comma_list, cut_text, data_text, datum_text, digits2, digits_value, entries, entry_len, entry_text, entry_value, flat_map, hex2, hex_digit, in_order, is_ascii_hexdigit, is_plain, is_text_byte, list_all, low_number, map, nat_lt, numbers_text, order_of, parts, pieces}
+use Rattle.std.specs.Prelude.{◌%◌, ◌&&◌, ◌*◌, ◌++◌, ◌+◌, ◌/◌, ◌<◌, ◌==◌, ◌∷◌, ◌≡◌, ◌≤◌}
+use Rattle.stmt65.proofs.Lemmas.{Bool, List, [], and_parts, ap, append-nil, append_assoc, arith, digits_value_push, drop, eq-eqb, eqb-true, false, flat_map-append, length, length-drop, length-reverse, length-take-le, list_all-append, ltb, ltb-true, map-id, nat_tests, refl, reverse, reverse-append, subst, suc, suc-mul, sym, take, take-append-drop, true, zero, ℕ, ◌∙◌}
+use Rattle.stmt65.specs.Words.{AreBytes, BigEndian, ByteOrder, Datum, Directive, IsDatum, IsList, IsValue, Listing, LittleEndian, Number, NumberDatum, Part, StringDatum, bytes_text, comma_list, cut_text, data_text, datum_text, digits2, digits_value, entries, entry_len, entry_text, entry_value, flat_map, hex2, hex_digit, in_order, is_ascii_hexdigit, is_plain, is_text_byte, list_all, low_number, map, nat_lt, numbers_text, order_of, parts, pieces}
 use Rattle.stmt65.specs.declared.directive.Directive.TheVariants.{Word}
 use Rattle.stmt65.specs.Parts.{number_of}
 use Rattle.stmt65.proofs.Lexed.{Ends, parts_mark, parts_text, hex_is_digit, hex_value, below_16, parts_hex, parts_hex2, number_of-hex2}

@@ -1,5 +1,6 @@
 -- The texts of tables, from the front on.
-use Rattle.stmt65.proofs.Lemmas.{◌++◌, ◌<◌, List, [], ap, append-nil, append_assoc, arith, drop, get_or, length, length-take-le, prefix_len-le-length, refl, sym, take, take-append-drop, ℕ, ◌∙◌, ◌∷◌, ◌≡◌, ◌≤◌}
+use Rattle.std.specs.Prelude.{◌++◌, ◌<◌, ◌∷◌, ◌≡◌, ◌≤◌}
+use Rattle.stmt65.proofs.Lemmas.{List, [], ap, append-nil, append_assoc, arith, drop, get_or, length, length-take-le, prefix_len-le-length, refl, sym, take, take-append-drop, ℕ, ◌∙◌}
 use Rattle.stmt65.specs.Words.{Directive, comma_list, cut_text, data_text, datum_text, entries, entry_len, entry_text, flat_map, hex2, is_plain, next_text, numbers_text, prefix_len, quoted}
 use Rattle.stmt65.proofs.Cases.{by_test}
 use Rattle.stmt65.proofs.SpacingLemmas.{run_passes}

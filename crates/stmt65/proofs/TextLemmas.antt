@@ -1,5 +1,6 @@
 -- The meaning of a text, line by line.
-use Rattle.stmt65.proofs.Lemmas.{◌+◌, ◌++◌, All-cons, All-head, All-tail, List, None, Option, Some, [], ap, arith, length, length-append, length-replicate, refl, sym, ℕ, ◌∙◌, ◌∷◌, ◌≡◌}
+use Rattle.std.specs.Prelude.{◌++◌, ◌+◌, ◌∷◌, ◌≡◌}
+use Rattle.stmt65.proofs.Lemmas.{All-cons, All-head, All-tail, List, None, Option, Some, [], ap, arith, length, length-append, length-replicate, refl, sym, ℕ, ◌∙◌}
 use Rattle.stmt65.specs.Words.{All, AsmFault, AsmFaultKind, Definition, Entry, Err, Fill, Fragment, IsFaultless, IsFirstFault, Line, MeansBytes, MeansFault, Ok, Result, SourceLine, StandsAtItsBytes, State, after, bytes_of, coded, coding_len, entry_in, fault_of, flat_map, fragment_bytes, fragment_len, fragments_of, initial, line_bytes, lines_below, low, meaning_of, next_of, or_zero, unless, with_front}
 use Rattle.stmt65.proofs.EntryLaws.{entry_bytes-length}
 

@@ -1,5 +1,6 @@
 -- The bytes of a slice have 8 bits.
-use Rattle.stmt65.proofs.Lemmas.{◌<◌, List, [], get_or, lt-ltb, refl, suc, ℕ, ◌∷◌}
+use Rattle.std.specs.Prelude.{◌<◌, ◌∷◌}
+use Rattle.stmt65.proofs.Lemmas.{List, [], get_or, lt-ltb, refl, suc, ℕ}
 use Rattle.stmt65.specs.Words.{AreBytes}
 
 pub each_in_width : (xs : List ℕ) → ((i : ℕ) → get_or xs i 0 < 256) → AreBytes xs

@@ -2,7 +2,8 @@
 use Rattle.stmt65.specs.declared.reading.places.PlacedPart.{PlacedPart}
 use Rattle.stmt65.specs.declared.reading.places.Span.{Span}
 use Rattle.stmt65.specs.Code.PartViews.{part_of}
-use Rattle.stmt65.specs.Types.{◌++◌, ◌-◌, Language, List, Option, Some, [], drop, get_or, length, take, ℕ, ◌∷◌, ◌≡◌, ◌≤◌}
+use Rattle.std.specs.Prelude.{◌++◌, ◌-◌, ◌∷◌, ◌≡◌, ◌≤◌}
+use Rattle.stmt65.specs.Types.{Language, List, Option, Some, [], drop, get_or, length, take, ℕ}
 use Rattle.stmt65.specs.Signs.{quote, colon, semicolon, equals}
 use Rattle.stmt65.specs.Parts.{Part, Word, Number, Text, Define, Mark}
 use Rattle.stmt65.specs.SourceLine.{Value, Datum, NumberDatum, StringDatum, ValueDatum, HalfDatum}

@@ -47,7 +47,7 @@ pub use Rattle.isa65.specs.declared.row.Pattern.TheVariants.{Direct, DirectX, Di
 pub use Rattle.isa65.specs.declared.row.Row.{Row}
 pub use Rattle.isa65.specs.declared.row.Row.TheVariants.{Implied}
 -- What they are said with: words of the crates below.
-pub use Rattle.std.specs.Prelude.{Bool, Err, IfSome, IsSome, List, MatchOption, None, Ok, Option, Result, Some, [], codes, drop, false, get_or, if◌then◌else◌, is_some, length, map, max, min, nat_le, nat_lt, not, option_and_then, replicate, reverse, slice_index, suc, take, true, zero, ℕ, ◌%◌, ◌&&◌, ◌*◌, ◌++◌, ◌+◌, ◌-◌, ◌/◌, ◌<◌, ◌==◌, ◌||◌, ◌↔◌, ◌∷◌, ◌≡◌, ◌≤◌, ◌⊎◌}
+pub use Rattle.std.specs.Prelude.{Bool, Err, IfSome, IsSome, List, MatchOption, None, Ok, Option, Result, Some, [], codes, drop, false, get_or, is_some, length, map, max, min, nat_le, nat_lt, not, option_and_then, replicate, reverse, slice_index, suc, take, true, zero, ℕ}
 pub use Rattle.std.specs.List.{All, filter, find, flat_map, list_all, list_any, prefix_len, slice_get}
 pub use Rattle.std.specs.Char.{digit_value, is_ascii_alphabetic, is_ascii_digit, is_ascii_hexdigit}
 pub use Rattle.std.specs.Str.{bytes_eq, str_to_ascii_lowercase}

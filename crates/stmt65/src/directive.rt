@@ -1,7 +1,8 @@
 //! The directives that give numbers, and how a table of them is printed. What they
 //! code stands in `assembling::entries`.
 
-ghost use Rattle.stmt65.specs.Words.{directive_named, directive_text, entry_len, first_directive_named, order_of, ◌≡◌, ◌≤◌};
+ghost use Rattle.std.specs.Prelude.{◌≡◌, ◌≤◌};
+ghost use Rattle.stmt65.specs.Words.{directive_named, directive_text, entry_len, first_directive_named, order_of};
 
 use crate::reading::names::is_word;
 use isa65::ByteOrder;

@@ -1,5 +1,6 @@
 -- What the code's reading of a line stands for.
-use Rattle.stmt65.specs.Types.{◌+◌, Numeral, map, option_copied, ℕ}
+use Rattle.std.specs.Prelude.{◌+◌}
+use Rattle.stmt65.specs.Types.{Numeral, map, option_copied, ℕ}
 use Rattle.stmt65.specs.declared.source_line.Value.{Value as CodeValue}
 use Rattle.stmt65.specs.declared.source_line.Value.TheVariants as code_value
 use Rattle.stmt65.specs.declared.source_line.Form.{Form as CodeForm}

@@ -1,7 +1,7 @@
 //! Numbers in hex digits and in decimal.
 
-ghost use Rattle.std.specs.Prelude.{decimal};
-ghost use Rattle.stmt65.specs.Words.{◌+◌, Extends, array_vec_len, digits2, digits4, distance_text, hex2, hex4, in_hex, offset_text, ◌≡◌, ◌≤◌};
+ghost use Rattle.std.specs.Prelude.{decimal, ◌+◌, ◌≡◌, ◌≤◌};
+ghost use Rattle.stmt65.specs.Words.{Extends, array_vec_len, digits2, digits4, distance_text, hex2, hex4, in_hex, offset_text};
 
 use crate::printing::fields::put;
 use crate::printing::line::Line;

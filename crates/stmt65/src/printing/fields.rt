@@ -1,6 +1,7 @@
 //! The fields of a line.
 
-ghost use Rattle.stmt65.specs.Words.{◌+◌, ◌<◌, Extends, array_vec_len, filled, length, max, replicate, ◌≡◌, ◌≤◌};
+ghost use Rattle.std.specs.Prelude.{◌+◌, ◌<◌, ◌≡◌, ◌≤◌};
+ghost use Rattle.stmt65.specs.Words.{Extends, array_vec_len, filled, length, max, replicate};
 
 use crate::printing::columns::Column;
 use crate::printing::line::Line;

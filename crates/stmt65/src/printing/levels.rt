@@ -1,6 +1,7 @@
 //! What stands after a statement that has bytes, by the comment level.
 
-ghost use Rattle.stmt65.specs.Words.{◌+◌, Extends, Prints, array_vec_len, character, fields_after, flat_map, len_with, length, level_fields, map, remarks_seen, spaced_byte, statement_seen, ◌≡◌, ◌≤◌};
+ghost use Rattle.std.specs.Prelude.{◌+◌, ◌≡◌, ◌≤◌};
+ghost use Rattle.stmt65.specs.Words.{Extends, Prints, array_vec_len, character, fields_after, flat_map, len_with, length, level_fields, map, remarks_seen, spaced_byte, statement_seen};
 
 use crate::printing::columns::Columns;
 use crate::printing::digits::{put_digits2, put_digits4};

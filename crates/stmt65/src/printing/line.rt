@@ -1,6 +1,7 @@
 //! Printing a statement as a line.
 
-ghost use Rattle.stmt65.specs.Words.{◌+◌, ◌++◌, ◌<◌, AreBytes, AreWordWide, Extends, IfSome, IsInWidth, IsNameLong, IsPrintable, IsTable, IsWrittenIn, MayBeLabelled, Prints, ReadsBack, [], array_vec_len, bytes_text, codes, cut_text, data_text, directive_text, fields_of, filled, in_hex, instr_fields, is_absolute, label_fields, len_with, length, line_of, named_text, numbers_text, operands_seen, option_copied, option_map, quoted, remark_fields, remarks_seen, return_text, statement_seen, target_seen, with_fields, with_operands, ◌∷◌, ◌≡◌, ◌≤◌};
+ghost use Rattle.std.specs.Prelude.{◌++◌, ◌+◌, ◌<◌, ◌∷◌, ◌≡◌, ◌≤◌};
+ghost use Rattle.stmt65.specs.Words.{AreBytes, AreWordWide, Extends, IfSome, IsInWidth, IsNameLong, IsPrintable, IsTable, IsWrittenIn, MayBeLabelled, Prints, ReadsBack, [], array_vec_len, bytes_text, codes, cut_text, data_text, directive_text, fields_of, filled, in_hex, instr_fields, is_absolute, label_fields, len_with, length, line_of, named_text, numbers_text, operands_seen, option_copied, option_map, quoted, remark_fields, remarks_seen, return_text, statement_seen, target_seen, with_fields, with_operands};
 ghost use Rattle.stmt65.specs.Views as view;
 
 use crate::directive::Directive;

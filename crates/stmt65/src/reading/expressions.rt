@@ -1,7 +1,8 @@
 //! Expressions: a number, the sum of two, a name with an optional number added and an optional `-1`, a name less a
 //! number, or the difference of two names; and what is an address or is halved.
 
-ghost use Rattle.stmt65.specs.Words.{Reads, bracketed_in, halved_in, length, less_at, less_one, named_at, next_address, next_value, number_at, numeral_of, value_of, ◌≡◌, ◌≤◌};
+ghost use Rattle.std.specs.Prelude.{◌≡◌, ◌≤◌};
+ghost use Rattle.stmt65.specs.Words.{Reads, bracketed_in, halved_in, length, less_at, less_one, named_at, next_address, next_value, number_at, numeral_of, value_of};
 
 use crate::language::Language;
 use crate::reading::lexer::Part;

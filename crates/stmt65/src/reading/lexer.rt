@@ -1,6 +1,7 @@
 //! The parts of a line, each taken as long as it can be.
 
-ghost use Rattle.stmt65.specs.Words.{◌<◌, Language, MatchOption, [], alone_at, cut_by, false, hex_len, is_ascii_digit, is_ascii_hexdigit, is_binary_digit, is_blank, is_character, is_text_byte, is_word_byte, is_word_start, length, part_at, part_of, parts, prefix_len, slice_index, true, ◌∷◌, ◌≡◌, ◌≤◌};
+ghost use Rattle.std.specs.Prelude.{◌<◌, ◌∷◌, ◌≡◌, ◌≤◌};
+ghost use Rattle.stmt65.specs.Words.{Language, MatchOption, [], alone_at, cut_by, false, hex_len, is_ascii_digit, is_ascii_hexdigit, is_binary_digit, is_blank, is_character, is_text_byte, is_word_byte, is_word_start, length, part_at, part_of, parts, prefix_len, slice_index, true};
 
 use crate::language::Language;
 use text65::{is_blank, is_word_byte};

@@ -1,6 +1,7 @@
 //! Words without regard to letter case, and names.
 
-ghost use Rattle.stmt65.specs.Words.{is_name, same, ◌≡◌};
+ghost use Rattle.std.specs.Prelude.{◌≡◌};
+ghost use Rattle.stmt65.specs.Words.{is_name, same};
 
 use text65::{has_name_form, is_reserved_word};
 

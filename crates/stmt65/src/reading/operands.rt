@@ -1,6 +1,7 @@
 //! The written forms of an operand.
 
-ghost use Rattle.stmt65.specs.Words.{Gives, half_form, immediate_of, inner_at, sized, tail_at, value_of, whole, ◌≡◌};
+ghost use Rattle.std.specs.Prelude.{◌≡◌};
+ghost use Rattle.stmt65.specs.Words.{Gives, half_form, immediate_of, inner_at, sized, tail_at, value_of, whole};
 ghost use Rattle.stmt65.specs.Code.SourceLineViews.{form_of as form_of_code};
 ghost use Rattle.stmt65.specs.Reading.{form_of};
 

@@ -1,6 +1,7 @@
 //! A cursor over the parts of a line.
 
-ghost use Rattle.stmt65.specs.Words.{MatchOption, OnFalse, OnTrue, Reads, [], drop, is_define, is_mark, is_nil, is_number_here, is_word_here, length, number_in, numeral_of, part_of, parts, ◌∷◌, ◌≡◌, ◌≤◌};
+ghost use Rattle.std.specs.Prelude.{◌∷◌, ◌≡◌, ◌≤◌};
+ghost use Rattle.stmt65.specs.Words.{MatchOption, OnFalse, OnTrue, Reads, [], drop, is_define, is_mark, is_nil, is_number_here, is_word_here, length, number_in, numeral_of, part_of, parts};
 
 use crate::language::Language;
 use crate::reading::lexer::{Part, first_part};

@@ -1,6 +1,7 @@
 //! Where the parts of a line stand.
 
-ghost use Rattle.stmt65.specs.Words.{◌<◌, Gives, GoesOver, IfSome, IsAmong, IsRemarkOf, MatchOption, ReadsAs, StandsIn, [], bytes_in, datum_of, drop, false, get_or, is_blank, length, part_of, part_text, parts, parts_left, prefix_len, take, value_alone, value_of, ◌∷◌, ◌≡◌, ◌≤◌};
+ghost use Rattle.std.specs.Prelude.{◌<◌, ◌∷◌, ◌≡◌, ◌≤◌};
+ghost use Rattle.stmt65.specs.Words.{Gives, GoesOver, IfSome, IsAmong, IsRemarkOf, MatchOption, ReadsAs, StandsIn, [], bytes_in, datum_of, drop, false, get_or, is_blank, length, part_of, part_text, parts, parts_left, prefix_len, take, value_alone, value_of};
 
 use crate::language::Language;
 use crate::reading::expressions::next_value;

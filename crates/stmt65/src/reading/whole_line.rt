@@ -1,6 +1,7 @@
 //! What a line says.
 
-ghost use Rattle.stmt65.specs.Words.{Gives, GivesIfOk, None, Some, constant_of, line_at, number_of_name, operation_at, option_copied, option_map, parts, reading_of, source_of, stated, ◌≡◌};
+ghost use Rattle.std.specs.Prelude.{◌≡◌};
+ghost use Rattle.stmt65.specs.Words.{Gives, GivesIfOk, None, Some, constant_of, line_at, number_of_name, operation_at, option_copied, option_map, parts, reading_of, source_of, stated};
 ghost use Rattle.stmt65.specs.Code.SourceLineViews.{operation_of};
 
 use crate::language::Language;

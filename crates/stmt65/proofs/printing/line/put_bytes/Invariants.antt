@@ -1,4 +1,5 @@
-use Rattle.stmt65.specs.Words.{◌*◌, ◌+◌, ◌++◌, flat_map, hex2, length, next_text, take, ◌≡◌}
+use Rattle.std.specs.Prelude.{◌*◌, ◌++◌, ◌+◌, ◌≡◌}
+use Rattle.stmt65.specs.Words.{flat_map, hex2, length, next_text, take}
 use Rattle.stmt65.proofs.printing.line.put_bytes.Given as goal
 
 abbrev pub invariant-loop-byte : goal.invariant-loop-byte

@@ -1,4 +1,5 @@
-use Rattle.stmt65.specs.Words.{◌*◌, ◌+◌, ◌++◌, digits2, flat_map, length, take, ◌≡◌}
+use Rattle.std.specs.Prelude.{◌*◌, ◌++◌, ◌+◌, ◌≡◌}
+use Rattle.stmt65.specs.Words.{digits2, flat_map, length, take}
 use Rattle.stmt65.proofs.printing.tables.put_all.Given as goal
 
 abbrev pub invariant-loop-byte : goal.invariant-loop-byte

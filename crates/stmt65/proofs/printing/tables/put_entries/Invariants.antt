@@ -1,4 +1,5 @@
-use Rattle.stmt65.specs.Words.{◌<◌, Lists, entries, entry_text, len_with, length}
+use Rattle.std.specs.Prelude.{◌<◌}
+use Rattle.stmt65.specs.Words.{Lists, entries, entry_text, len_with, length}
 use Rattle.stmt65.proofs.printing.tables.put_entries.Given as goal
 
 abbrev pub invariant-entries : goal.invariant-entries

@@ -1,4 +1,5 @@
-use Rattle.stmt65.proofs.Lemmas.{arith, eqb-true, length, sym, ◌∙◌, ◌≡◌, ◌≤◌}
+use Rattle.std.specs.Prelude.{◌≡◌, ◌≤◌}
+use Rattle.stmt65.proofs.Lemmas.{arith, eqb-true, length, sym, ◌∙◌}
 use Rattle.stmt65.proofs.TableTexts.{text_step, text_end}
 use Rattle.stmt65.proofs.printing.tables.put_text.Goals as goal
 

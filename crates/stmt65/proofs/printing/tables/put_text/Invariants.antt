@@ -1,4 +1,5 @@
-use Rattle.stmt65.specs.Words.{◌<◌, Lists, cut_text, datum_text, len_with, length}
+use Rattle.std.specs.Prelude.{◌<◌}
+use Rattle.stmt65.specs.Words.{Lists, cut_text, datum_text, len_with, length}
 use Rattle.stmt65.proofs.printing.tables.put_text.Given as goal
 
 abbrev pub invariant-data : goal.invariant-data
