@@ -1,10 +1,10 @@
 -- What is kept of closed groups says what all of them say.
-use Rattle.std.proofs.Common.{◌≡◌, ◌∙◌, List, [], ◌∷◌, ◌++◌, ap, ap₂, length, refl, sym}
+use Rattle.std.proofs.Common.{◌≡◌, ◌∙◌, Bool, List, [], ◌∷◌, ◌++◌, ap, ap₂, length, refl, sym}
 use Rattle.std.specs.Prelude.{nat_lt}
 use Rattle.std.specs.List.{flat_map}
 use Rattle.std.proofs.lemmas.Grind.{flat_map-append}
 use Rattle.std.proofs.lemmas.List.{append-nil}
-use Rattle.info65.specs.Words.{AreAllFormed, AreFormed, AssignmentView, Attribute, GroupKind, GroupView, given_before, global_given, global_part, has_room, include_part, includes_of, is_given, kept_of, kept_part, segment_part, segments_of}
+use Rattle.info65.specs.Words.{AreAllFormed, AreFormed, AreMarked, AreRanged, AreSetAlike, AssignmentView, Attribute, GroupKind, GroupView, RangeSpec, SegmentView, given_before, global_given, global_part, has_room, include_part, includes_of, is_given, kept_of, kept_part, segment_part, segments_of}
 use Rattle.info65.specs.declared.syntax.attribute.Attribute.TheVariants as attribute
 use Rattle.info65.specs.declared.syntax.attribute.GroupKind.TheVariants as kind
 
@@ -58,3 +58,11 @@ formed_kept (g ∷ gs) f = more g.kind g.given f.0 (formed_kept gs f.1)
     more kind.Range given f rest = rest
     more kind.Label given f rest = rest
     more _ given f rest = (f, rest)
+
+-- ---- while there is made room for a group
+
+pub ranged_alike : (ranges : List RangeSpec) (old new : List Bool) → AreSetAlike old new → AreRanged ranges old → AreRanged ranges new
+ranged_alike ranges old new same m = record { ordered = m.ordered; ranged = λ a low. same a low ∙ m.ranged a low }
+
+pub marked_alike : (segments : List SegmentView) (old new : List Bool) → AreSetAlike old new → AreMarked segments old → AreMarked segments new
+marked_alike segments old new same m = record { ordered = m.ordered; marked = λ a low. same a low ∙ m.marked a low }

@@ -1,7 +1,7 @@
 -- One token more, at each place.
 use Rattle.std.proofs.Common.{◌≡◌, ◌∙◌, ℕ, Bool, ◌&&◌, List, [], ◌∷◌, ◌++◌, true, false, refl, ap, inl, inr, sym}
 use Rattle.std.specs.Prelude.{Result, Ok, Err, Some, None}
-use Rattle.info65.specs.Words.{AssignmentView, Attribute, Expected, Fails, GroupKind, GroupView, InfoFault, KindView, Leads, OptionsView, Stage, Stream, TokenKind, TokenView, UnknownGroup, ValueView, after_group, assigned, at_attribute, at_brace, at_group, at_semicolon, attribute_at, closed, closed_by, closing_fault, ended, fault, finish, group, group_named, inside, is_semicolon, kind_seen, one, opened, opening, outside, place_after, read, read_from, read_token, refused, semicolon, step, valued, wanted, with_token, ◌>>=◌}
+use Rattle.info65.specs.Words.{AssignmentView, Attribute, Expected, Fails, GroupKind, Grows, GroupView, InfoFault, KindView, Leads, OptionsView, Stage, Stream, TokenKind, TokenView, UnknownGroup, ValueView, after_group, assigned, at_attribute, at_brace, at_end, at_group, at_semicolon, attribute_at, closed, closed_by, closing_fault, ended, fault, finish, group, group_named, inside, is_semicolon, kind_seen, one, opened, opening, outside, place_after, read, read_from, read_token, refused, semicolon, step, valued, wanted, with_token, ◌>>=◌}
 use Rattle.info65.specs.Reader.{value_at}
 use Rattle.info65.specs.declared.syntax.token.TokenKind.TheVariants as kind
 
@@ -94,15 +94,16 @@ pub attribute_refused : (o : OptionsView) (k : GroupKind) (given : List Assignme
 unfolding step
 attribute_refused o k given b t x rest is isnt other = token_refused o (inside k given) b t rest _ (ap (at_attribute b k given t) is ∙ attribute_no k given b t x isnt other)
 
-pub close_read : (o : OptionsView) (k : GroupKind) (given : List AssignmentView) (b : List GroupView) (t : TokenView) (x : TokenKind) (rest : Stream) → t.kind ≡ kind_seen x → x ≡ kind.CloseBrace → step o (inside k given) b t ≡ closed_by b k given t.line (closing_fault b k given)
+close_read : (o : OptionsView) (k : GroupKind) (given : List AssignmentView) (b : List GroupView) (t : TokenView) (x : TokenKind) (rest : Stream) → t.kind ≡ kind_seen x → x ≡ kind.CloseBrace → step o (inside k given) b t ≡ closed_by b k given t.line (closing_fault b k given)
 unfolding step
 close_read o k given b t x rest is brace = ap (at_attribute b k given t) (is ∙ ap kind_seen brace)
 
-pub close_taken : (o : OptionsView) (k : GroupKind) (given : List AssignmentView) (b : List GroupView) (t : TokenView) (x : TokenKind) (rest : Stream) → t.kind ≡ kind_seen x → x ≡ kind.CloseBrace → closed_by b k given t.line (closing_fault b k given) ≡ Ok (closed, b ++ group k given ∷ []) → read_token o (inside k given) b t rest ≡ read o closed (b ++ group k given ∷ []) rest
-close_taken o k given b t x rest is brace whole = token_taken o (inside k given) closed b (b ++ group k given ∷ []) t rest (close_read o k given b t x rest is brace ∙ whole)
-
-pub close_refused : (o : OptionsView) (k : GroupKind) (given : List AssignmentView) (b : List GroupView) (t : TokenView) (x : TokenKind) (rest : Stream) (e : InfoFault) → t.kind ≡ kind_seen x → x ≡ kind.CloseBrace → closed_by b k given t.line (closing_fault b k given) ≡ Err e → read_token o (inside k given) b t rest ≡ Err e
-close_refused o k given b t x rest e is brace whole = token_refused o (inside k given) b t rest e (close_read o k given b t x rest is brace ∙ whole)
+-- the end of a group
+pub close_grows : {X : Type 0} (o : OptionsView) (k : GroupKind) (given : List AssignmentView) (b now : List GroupView) (t : TokenView) (x : TokenKind) (rest : Stream) (r : Result X InfoFault) → t.kind ≡ kind_seen x → x ≡ kind.CloseBrace
+    → Grows (at_end b k given t.line) r (λ v. Ok (closed, now)) → Grows (read_token o (inside k given) b t rest) r (λ v. read o closed now rest)
+close_grows o k given b now t x rest (Ok v) is brace whole = token_taken o (inside k given) closed b now t rest (close_read o k given b t x rest is brace ∙ whole)
+close_grows o k given b now t x rest (Err e) is brace (inl whole) = inl (token_refused o (inside k given) b t rest e (close_read o k given b t x rest is brace ∙ whole))
+close_grows o k given b now t x rest (Err e) is brace (inr memory) = inr memory
 
 pub value_taken : (o : OptionsView) (k : GroupKind) (given : List AssignmentView) (a : Attribute) (b : List GroupView) (t : TokenView) (rest : Stream) (v : ValueView) → value_at o b a t ≡ Ok v → read_token o (valued k given a) b t rest ≡ read o (assigned k (given ++ one a v ∷ [])) b rest
 unfolding step
@@ -144,3 +145,7 @@ between_group o false b t old new is other = read_next o outside b t old new is
 pub fails_along : {A : Type 0} {r s : Result A InfoFault} {e : InfoFault} → r ≡ s → Fails e s → Fails e r
 fails_along is (inl h) = inl (is ∙ h)
 fails_along is (inr h) = inr h
+
+pub grows_along : {X R : Type 0} {r s : Result R InfoFault} (x : Result X InfoFault) (on : X → Result R InfoFault) → r ≡ s → Grows s x on → Grows r x on
+grows_along (Ok x) on is h = is ∙ h
+grows_along (Err e) on is h = fails_along is h

@@ -1,6 +1,6 @@
 -- The segments of an accepted file: what their groups say, and that no two share an address.
 use Rattle.std.proofs.Common.{◌≡◌, ◌∙◌, ◌≤◌, ◌<◌, ◌+◌, ◌-◌, ◌||◌, ℕ, Bool, List, [], ◌∷◌, ◌++◌, true, false, ap, arith, drop, get_or, length, map, refl, subst, sym}
-use Rattle.std.specs.Prelude.{All, Any, IfSome, Option, Some, None, Result, Ok, Err}
+use Rattle.std.specs.Prelude.{All, Any, IfSome, Option, Some, None, Result, Ok, Err, option_map, option_to_list}
 use Rattle.std.specs.List.{flat_map, list_any}
 use Rattle.std.proofs.lemmas.Bool.Decides.{nat_tests}
 use Rattle.std.proofs.lemmas.List.{append-nil, at_drop_all, at_drop_more}
@@ -8,7 +8,8 @@ use Rattle.std.proofs.lemmas.List.Elements.{All-append, All-cons, All-map, All-n
 use Rattle.std.proofs.lemmas.List.Folds.{Any-from_list_any, list_any-append, list_any-from_Any, list_any_at}
 use Rattle.std.proofs.lemmas.List.Quantifiers.{all_pairs_push}
 use Rattle.std.proofs.lemmas.Grind.{flat_map-append}
-use Rattle.info65.specs.Words.{AreFormed, AreGroups, AreMarked, AreSegments, AssignmentView, Group, GroupKind, GroupView, HasForm, InfoFaultKind, IsSegment, RangeSpec, SaysSegment, SegmentView, SegmentsApart, SegmentsOverlap, SegmentsShare, ValueView, a_name, an_address, any_in, as_name, closing_fault, contains, form_of, group_seen, has_address, meets, overlaps, segment_fault, segment_from, segment_in, segment_part, segments_of, tokens_of, value_in}
+use Rattle.info65.specs.Words.{AreFormed, AreGroups, AreMarked, AreSegments, AssignmentView, Group, GroupKind, GroupView, HasForm, InfoFaultKind, IsSegment, RangeSpec, SaysSegment, SegmentView, SegmentsApart, SegmentsOverlap, SegmentsShare, ValueView, a_name, an_address, any_in, as_name, closing_fault, contains, form_of, group_seen, has_address, meets, overlaps, parts_seen, segment_fault, segment_from, segment_in, segment_part, segments_of, tokens_of, value_in}
+use Rattle.info65.specs.Types.{SegmentParts}
 use Rattle.info65.specs.SegmentLaws.{AreSaid, Share}
 use Rattle.info65.specs.Segments.{AreApart}
 use Rattle.info65.specs.Values.{as_address}
@@ -116,6 +117,10 @@ ordered_part _ given x e = All-nil (λ (x : SegmentView). x.first ≤ x.last)
 
 pub part_ordered : (g : GroupView) (s : SegmentView) → s ∷ [] ≡ segment_part g → s.first ≤ s.last
 part_ordered g s is = (rw (← is) at (ordered_part g.kind g.given (segment_in g.given) refl)) 0 s (omega arith)
+
+pub some_ordered : (g : GroupView) (o : Option SegmentParts) → option_to_list (option_map parts_seen o) ≡ segment_part g → IfSome o (λ s. s.first ≤ s.last)
+some_ordered g None is = tt
+some_ordered g (Some s) is = part_ordered g (parts_seen s) is
 
 -- a group that says a segment marks it
 pub marked_more : (before : List GroupView) (g : GroupView) (s : SegmentView) (old new : List Bool) → s ∷ [] ≡ segment_part g

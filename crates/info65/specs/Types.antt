@@ -2,6 +2,7 @@
 pub use Rattle.info65.specs.declared.fault.InfoFault.{InfoFault}
 pub use Rattle.info65.specs.declared.fault.InfoFaultKind.{InfoFaultKind}
 pub use Rattle.info65.specs.declared.fault.InfoFaultKind.TheVariants.{AddressTwice, BadByte, BadInclude, BadName, BadNumber, Expected, GivenTwice, Missing, NameConflict, NameTwice, OpenString, OutOfRange, RangesOverlap, ReservedName, SegmentsOverlap, TooLarge, UnknownAttribute, UnknownGroup}
+pub use Rattle.info65.specs.declared.groups.contents.Contents.{Contents}
 pub use Rattle.info65.specs.declared.groups.include_groups.NamedFile.{NamedFile}
 pub use Rattle.info65.specs.declared.groups.segment_groups.SegmentParts.{SegmentParts}
 pub use Rattle.info65.specs.declared.information.name.Given.{Given}

@@ -7,16 +7,16 @@ pub use Rattle.info65.specs.Code.Classes.{bit_of}
 unfoldable pub use Rattle.info65.specs.Code.Classes.{classes_of}
 pub use Rattle.info65.specs.Code.Groups.{IsAtMost, MayClose, assigned_seen, assignment_seen, global_seen, group_seen, groups_seen, value_seen}
 pub use Rattle.info65.specs.Code.Includes.{Includes, ReadsFile, name_result_seen, named_seen, with_added}
-pub use Rattle.info65.specs.Code.Index.{AreMarked, AreRanged, AreSetToo, IsFoundAt, IsIndex, StandsIn, numbered, stands_by, text_at}
+pub use Rattle.info65.specs.Code.Index.{AreMarked, AreRanged, AreSetAlike, AreSetToo, IsFoundAt, IsIndex, StandsIn, numbered, stands_by, text_at}
 unfoldable pub use Rattle.info65.specs.Code.Index.{any_in}
-pub use Rattle.info65.specs.Code.Kept.{kept_part}
+pub use Rattle.info65.specs.Code.Kept.{AreContents, kept_part}
 unfoldable pub use Rattle.info65.specs.Code.Kept.{kept_of}
 pub use Rattle.info65.specs.Code.Lookup.{IsRangeFault, IsSegmentFault, RangesToo, SegmentsToo}
 pub use Rattle.info65.specs.Code.Names.{given_part, given_seen}
 pub use Rattle.info65.specs.Code.Numbers.{IsSet, NumbersView, SamePages}
 pub use Rattle.info65.specs.Code.Pool.{AreAbove, AreBlocks, IsPool, IsWithin, ReachTo, blank_entry, bytes_of, entry_covers, entry_seen, optional, reach_of, span_of}
 unfoldable pub use Rattle.info65.specs.Code.Pool.{block_start}
-pub use Rattle.info65.specs.Code.Reading.{Advances, Leads, Moves, ReadsGroup, TakesToken, is_semicolon, place_after}
+pub use Rattle.info65.specs.Code.Reading.{Advances, Grows, Leads, Moves, ReadsGroup, TakesToken, is_semicolon, place_after}
 pub use Rattle.info65.specs.Code.Results.{Adds, Fails, Gives, MayName, Sees}
 pub use Rattle.info65.specs.Code.SegmentTable.{AreFound, AreKeys, AreStarts, IsHolder, IsKeyAt, IsOrder, IsPlace, IsRest, IsSlotted, IsSplit, IsStart, blank_start, key_found, start_at}
 pub use Rattle.info65.specs.Code.Segments.{parts_seen, segment_seen, segments_seen}

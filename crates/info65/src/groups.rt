@@ -2,6 +2,7 @@
 
 pub(crate) mod closed;
 mod comments;
+pub(crate) mod contents;
 mod group_list;
 pub(crate) mod group_values;
 pub(crate) mod include_groups;

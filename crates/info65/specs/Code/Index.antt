@@ -50,6 +50,10 @@ any_in table first (suc n) = get_or table first false || any_in table (first + 1
 abbrev pub AreSetToo : ℕ → ℕ → List Bool → List Bool → Type 0
 AreSetToo first last old new = (a : ℕ) → a < 0x1_0000 → get_or new a false ≡ (get_or old a false || (nat_le first a && nat_le a last))
 
+-- the same cells are set
+abbrev pub AreSetAlike : List Bool → List Bool → Type 0
+AreSetAlike old new = (a : ℕ) → a < 0x1_0000 → get_or new a false ≡ get_or old a false
+
 -- the cells say which addresses belong to a range
 pub record AreRanged (ranges : List RangeSpec) (table : List Bool) : Type 0 where
   pub ordered : All (λ r. r.first ≤ r.last) ranges

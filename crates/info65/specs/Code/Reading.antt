@@ -1,13 +1,12 @@
 -- What the parts of the reader return, against what is read of the whole.
-use Rattle.std.specs.Prelude.{◌≡◌, Bool, true, false, List, [], ◌∷◌, ◌++◌, Result, Ok, Err}
-use Rattle.info65.specs.Code.Groups.{group_seen}
+use Rattle.std.specs.Prelude.{◌≡◌, Bool, true, false, List, Result, Ok, Err}
 use Rattle.info65.specs.Code.Results.{Fails}
 use Rattle.info65.specs.Groups.{GroupView}
 use Rattle.info65.specs.Lexemes.{KindView, semicolon}
 use Rattle.info65.specs.Reader.{Stage, closed, outside, read, read_token}
 use Rattle.info65.specs.Tokens.{Stream, TokenView}
 use Rattle.info65.specs.Views.{OptionsView}
-use Rattle.info65.specs.Types.{Group, InfoFault}
+use Rattle.info65.specs.Types.{InfoFault}
 
 abbrev pub is_semicolon : KindView → Bool
 is_semicolon semicolon = true
@@ -43,7 +42,6 @@ abbrev pub TakesToken : {X : Type 0} → List GroupView → Stage → TokenView 
 TakesToken before place t result next =
     (o : OptionsView) (rest : Stream) → Leads (read_token o place before t rest) result (λ x. read o (next x) before rest)
 
--- a part reads on to the end of a group
-abbrev pub ReadsGroup : {Z : Type 0} → OptionsView → List GroupView → Result (List GroupView) InfoFault
-    → Result (Group Z) InfoFault → Stream → Type 0
-ReadsGroup o before whole result new = Grows whole result (λ g. read o closed (before ++ group_seen g ∷ []) new)
+-- a part reads on to the end of a group, with which these are the groups
+abbrev pub ReadsGroup : {X : Type 0} → OptionsView → Result (List GroupView) InfoFault → Result X InfoFault → List GroupView → Stream → Type 0
+ReadsGroup o whole result groups new = Grows whole result (λ x. read o closed groups new)

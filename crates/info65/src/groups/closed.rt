@@ -1,18 +1,21 @@
 //! The groups of an information file that are closed.
 
-ghost use Rattle.std.specs.Prelude.{◌≡◌, ◌++◌, ◌∷◌, IfErr, IfOk, Ok, OnOk, [], option_to_list};
-ghost use Rattle.info65.specs.Words.{Gives, MayClose, assigned_seen, by_address, closing_fault, given_part, group, group_seen, groups_seen, kept_of, kept_part, name_part, names_said, out_of_memory, range_part, ranges_of};
+ghost use Rattle.std.specs.Prelude.{◌≡◌, ◌<◌, ◌++◌, ◌∷◌, IfErr, IfOk, IfSome, Ok, OnOk, [], length};
+ghost use Rattle.std.specs.Result.{result_err};
+ghost use Rattle.std.specs.Vec.{vec_capacity, vec_len};
+ghost use Rattle.info65.specs.Words.{AreContents, AreSetAlike, Gives, Grows, MayClose, assigned_seen, at_end, by_address, closed, closing_fault, group, group_seen, groups_seen, kept_of, kept_part, names_said, out_of_memory, ranges_of};
 
 use crate::fault::{InfoFault, InfoFaultKind};
+use crate::groups::contents::{Contents, NOTHING};
 use crate::groups::group_list::GroupList;
 use crate::groups::include_groups::include_in;
-use crate::groups::label_groups::{label_in, range_name};
-use crate::groups::range_groups::{add_range, range_fault, range_part};
-use crate::groups::segment_groups::{mark_segment, segment_fault};
-use crate::information::name::Given;
+use crate::groups::label_groups::label_contents;
+use crate::groups::range_groups::{add_range, range_contents};
+use crate::groups::segment_groups::{mark_segment, segment_contents};
 use crate::information::pool::NamePool;
 use crate::information::range::RangeSpec;
 use crate::lookup::index::Index;
+use crate::lookup::marks::widen;
 use crate::syntax::assignment::{Assignment, Group};
 use crate::syntax::attribute::GroupKind;
 use std::alloc::Allocator;
@@ -46,42 +49,55 @@ impl<'a, A: Allocator> Model for Closed<'a, A> {
     ghost invariant = { λ c. AreKept c.groups (groups_seen c.kept.items) c.ranges.items c.names c.ranged.items c.segmented.items };
 }
 
+// Makes room for a group that says this, where what is kept and the tables of addresses grow.
+fn make_room<'a, A: Allocator>(
+    kept: &mut Vec<Group<'a, A>, A>,
+    ranges: &mut Vec<RangeSpec, A>,
+    ranged: &mut Vec<bool, A>,
+    segmented: &mut Vec<bool, A>,
+    contents: Contents<'a>,
+) -> Result<(), InfoFault>
+    ensures kept { kept.new.items ≡ kept.old.items }
+    ensures ranges { ranges.new.items ≡ ranges.old.items }
+    ensures ranged { AreSetAlike ranged.old.items ranged.new.items }
+    ensures segmented { AreSetAlike segmented.old.items segmented.new.items }
+    ensures more_kept { OnOk result (vec_len kept.new < vec_capacity kept.new) }
+    ensures more_ranges { OnOk result (
+        IfSome contents.entry.range (λ _. vec_len ranges.new < vec_capacity ranges.new)) }
+    ensures range_cells { OnOk result (
+        IfSome contents.entry.range (λ _. length ranged.new.items ≡ 0x1_0000)) }
+    ensures segment_cells { OnOk result (
+        IfSome contents.entry.segment (λ _. length segmented.new.items ≡ 0x1_0000)) }
+    ensures err { IfErr result (λ e. e ≡ out_of_memory) }
+{
+    kept.reserve(1)?;
+    if contents.range.is_some() {
+        ranges.reserve(1)?;
+        widen(ranged)?;
+    }
+    if contents.segment.is_some() {
+        widen(segmented)?;
+    }
+    Ok(())
+}
+
 // Adds a group to those that are read again, if it is one, and returns a list for what is given in the next group: that
-// of this group, if it is not read again.
+// of this group, if it is not read again. There is room for it.
 fn keep<'a, A: Allocator>(
     alloc: A,
     kept: &mut Vec<Group<'a, A>, A>,
     group: Group<'a, A>,
-) -> Result<Vec<Assignment<'a>, A>, InfoFault>
-    ensures done { OnOk result (groups_seen kept.new.items ≡ groups_seen kept.old.items ++ kept_part (group_seen group.entry)) }
-    ensures err { IfErr result (λ e. e ≡ out_of_memory) }
+) -> Vec<Assignment<'a>, A>
+    requires { vec_len kept.old < vec_capacity kept.old }
+    ensures { groups_seen kept.new.items ≡ groups_seen kept.old.items ++ kept_part (group_seen group.entry) }
 {
     let Group { kind, given } = group;
     match kind {
-        GroupKind::Range | GroupKind::Label => Ok(given),
+        GroupKind::Range | GroupKind::Label => given,
         GroupKind::Global | GroupKind::Segment | GroupKind::Include => {
-            kept.push(Group { kind, given })?;
-            Ok(Vec::new(alloc))
+            kept.push_reserved(Group { kind, given });
+            Vec::new(alloc)
         }
-    }
-}
-
-// The name that a group without a fault says, if it says one. This is the range that it says.
-fn name_part<'a>(
-    kind: GroupKind,
-    given: &[Assignment<'a>],
-    range: Option<RangeSpec>,
-) -> Option<Given<'a>>
-    requires { option_to_list range ≡ range_part (group kind (assigned_seen given.now)) }
-    ensures { given_part result ≡ name_part (group kind (assigned_seen given.now)) }
-{
-    match kind {
-        GroupKind::Range => match range {
-            Some(range) => range_name(given, range),
-            None => None,
-        },
-        GroupKind::Label => label_in(given).ok(),
-        GroupKind::Global | GroupKind::Segment | GroupKind::Include => None,
     }
 }
 
@@ -113,53 +129,71 @@ impl<'a, A: Allocator + Copy> Closed<'a, A> {
         self.kept.as_slice()
     }
 
-    /// The first fault of a group after these, where it closes.
+    // What a group after these says where it closes, or its first fault.
     #[tactic(auto, using(std::proofs::lemmas::Grind::common_steps), unfolding(crate::specs::Closing::closing_fault))]
-    pub fn closing_fault(&self, kind: GroupKind, given: &[Assignment<'a>]) -> Option<InfoFaultKind>
-        ensures { result ≡ closing_fault self.now kind (assigned_seen given.now) }
+    fn contents(
+        &self,
+        kind: GroupKind,
+        given: &[Assignment<'a>],
+    ) -> Result<Contents<'a>, InfoFaultKind>
+        ensures fault { result_err result ≡ closing_fault self.now kind (assigned_seen given.now) }
+        ensures contents { IfOk result (AreContents (group kind (assigned_seen given.now))) }
     {
         match kind {
-            GroupKind::Global => None,
-            GroupKind::Range => range_fault(self.ranged.as_slice(), &self.names, given),
-            GroupKind::Label => self.names.label_fault(given),
-            GroupKind::Segment => segment_fault(self.segmented.as_slice(), given),
-            GroupKind::Include => include_in(given).err(),
+            GroupKind::Global => Ok(NOTHING),
+            GroupKind::Range => range_contents(self.ranged.as_slice(), &self.names, given),
+            GroupKind::Label => label_contents(&self.names, given),
+            GroupKind::Segment => segment_contents(self.segmented.as_slice(), given),
+            GroupKind::Include => match include_in(given) {
+                Ok(_) => Ok(NOTHING),
+                Err(fault) => Err(fault),
+            },
         }
     }
 
-    /// These groups and one more, which has no fault, and a list for what is given in the next group.
-    pub fn with(
-        self,
+    // Adds a group, which has no fault and says this, and returns a list for what is given in the next group.
+    fn add(
+        &mut self,
         alloc: A,
         group: Group<'a, A>,
-    ) -> Result<(Self, Vec<Assignment<'a>, A>), InfoFault>
-        requires { MayClose self group }
-        ensures { Gives (λ c. c.0) result (Ok (self.entry ++ group_seen group.entry ∷ [])) }
+        contents: Contents<'a>,
+    ) -> Result<Vec<Assignment<'a>, A>, InfoFault>
+        requires fine { MayClose self.old group }
+        requires contents { AreContents (group_seen group) contents }
+        ensures done { OnOk result (self.new ≡ self.old ++ group_seen group.entry ∷ []) }
+        ensures err { IfErr result (λ e. e ≡ out_of_memory) }
     {
-        let Closed {
-            groups,
-            mut kept,
-            mut ranges,
-            mut ranged,
-            mut names,
-            mut segmented,
-        } = self;
-        let range = range_part(&group);
-        let name = name_part(group.kind, group.given.as_slice(), range);
-        names.add_optional(name)?;
-        add_range(&mut ranges, &mut ranged, range)?;
-        mark_segment(&mut segmented, &group)?;
-        let groups = groups.with(&group);
-        let spare = keep(alloc, &mut kept, group)?;
-        let closed = Closed {
-            groups,
-            kept,
-            ranges,
-            ranged,
-            names,
-            segmented,
-        };
-        Ok((closed, spare))
+        // What can fail comes first, so that what is kept is that of these groups, whatever fails.
+        make_room(
+            &mut self.kept,
+            &mut self.ranges,
+            &mut self.ranged,
+            &mut self.segmented,
+            contents,
+        )?;
+        self.names.add_optional(contents.name)?;
+        add_range(&mut self.ranges, &mut self.ranged, contents.range);
+        mark_segment(&mut self.segmented, contents.segment);
+        self.groups.add(&group);
+        Ok(keep(alloc, &mut self.kept, group))
+    }
+
+    /// Adds a group, unless it has a fault where it closes, on this line. Returns a list for what is given in the next
+    /// group.
+    pub fn close(
+        &mut self,
+        alloc: A,
+        kind: GroupKind,
+        given: Vec<Assignment<'a>, A>,
+        line: u32,
+    ) -> Result<Vec<Assignment<'a>, A>, InfoFault>
+        ensures { Grows (at_end self.old kind (assigned_seen given.entry.items) line) result
+            (λ _. Ok (closed, self.new)) }
+    {
+        match self.contents(kind, given.as_slice()) {
+            Ok(contents) => self.add(alloc, Group { kind, given }, contents),
+            Err(fault) => Err(InfoFault::new(line, fault)),
+        }
     }
 
     /// The ranges of the groups, in their order, and the names that they say, by address.

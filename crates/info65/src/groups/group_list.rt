@@ -57,16 +57,14 @@ impl<'a, A: Allocator> GroupList<'a, A> {
         GroupList { last: None }
     }
 
-    /// These groups and one more.
-    pub fn with(self, group: &Group<'a, A>) -> Self
-        ensures { result ≡ self.entry ++ group_seen group.now ∷ [] }
+    /// Adds a group.
+    pub fn add(&mut self, group: &Group<'a, A>)
+        ensures { self.new ≡ self.old ++ group_seen group.now ∷ [] }
     {
-        let GroupList { last: before } = self;
         let longer = Longer {
-            before,
+            before: self.last.take(),
             group: Snapshot::of(group),
         };
-        let last = Some(Snapshot::of(&longer));
-        GroupList { last }
+        self.last = Some(Snapshot::of(&longer));
     }
 }

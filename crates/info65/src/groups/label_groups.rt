@@ -1,15 +1,20 @@
 //! The names that groups LABEL and RANGE say.
 
-ghost use Rattle.std.specs.Prelude.{◌≡◌, ◌<◌, Ok, option_copied, option_map};
-ghost use Rattle.info65.specs.Words.{Sees, assigned_seen, given_seen, label_in, label_sized, range_name};
+ghost use Rattle.std.specs.Prelude.{◌≡◌, IfOk, option_copied, option_map};
+ghost use Rattle.std.specs.Result.{result_err};
+ghost use Rattle.info65.specs.Words.{AreContents, Sees, assigned_seen, given_seen, group, label_fault, label_in, label_sized, range_name};
+ghost use Rattle.info65.specs.declared.syntax.attribute.GroupKind.TheVariants.{Label};
 
 use crate::fault::InfoFaultKind;
 use crate::groups::comments::comment_in;
+use crate::groups::contents::Contents;
 use crate::groups::group_values::value_in;
 use crate::information::name::Given;
 use crate::information::range::RangeSpec;
+use crate::lookup::index::Index;
 use crate::syntax::assignment::{Assignment, as_address, as_name, as_number};
 use crate::syntax::attribute::Attribute;
+use std::alloc::Allocator;
 
 /// The name that a group LABEL says by what is given in it. It is Missing where ADDR or NAME is not given,
 /// and OutOfRange where its addresses go past $FFFF.
@@ -45,6 +50,27 @@ fn label_sized<'a>(
         })
     } else {
         Err(InfoFaultKind::OutOfRange)
+    }
+}
+
+/// What a group LABEL says at its closing brace, or its fault, after the names of the index.
+pub fn label_contents<'a, A: Allocator + Copy>(
+    names: &Index<'a, A>,
+    given: &[Assignment<'a>],
+) -> Result<Contents<'a>, InfoFaultKind>
+    ensures fault { result_err result ≡ label_fault names.now (label_in (assigned_seen given.now)) }
+    ensures contents { IfOk result (AreContents (group Label (assigned_seen given.now))) }
+{
+    match label_in(given) {
+        Err(fault) => Err(fault),
+        Ok(name) => match names.name_fault(name) {
+            Some(fault) => Err(fault),
+            None => Ok(Contents {
+                range: None,
+                name: Some(name),
+                segment: None,
+            }),
+        },
     }
 }
 

@@ -1,17 +1,21 @@
 //! The ranges that groups RANGE say.
 
-ghost use Rattle.std.specs.Prelude.{◌≡◌, ◌≤◌, ◌++◌, IfErr, IfSome, OnOk, option_to_list};
-ghost use Rattle.info65.specs.Words.{Adds, IsRangeFault, RangeSpec, RangesToo, assigned_seen, group_seen, last_from, out_of_memory, range_between, range_fault, range_in, range_of_parts, range_part};
+ghost use Rattle.std.specs.Prelude.{◌≡◌, ◌≤◌, ◌<◌, ◌++◌, IfOk, IfSome, length, option_to_list};
+ghost use Rattle.std.specs.Result.{result_err};
+ghost use Rattle.std.specs.Vec.{vec_capacity, vec_len};
+ghost use Rattle.info65.specs.Words.{AreContents, IsRangeFault, RangeSpec, RangesToo, assigned_seen, group, last_from, range_between, range_in, range_of_parts};
+ghost use Rattle.info65.specs.declared.syntax.attribute.GroupKind.TheVariants.{Range};
 
-use crate::fault::{InfoFault, InfoFaultKind};
+use crate::fault::InfoFaultKind;
 use crate::groups::comments::lacks_name;
+use crate::groups::contents::Contents;
 use crate::groups::group_values::value_in;
 use crate::groups::label_groups::range_name;
 use crate::information::range::{RangeSpec, RangeType};
 use crate::lookup::index::Index;
 use crate::lookup::marks::{is_marked, mark};
-use crate::syntax::assignment::{Assignment, Group, as_address, as_number, as_type};
-use crate::syntax::attribute::{Attribute, GroupKind};
+use crate::syntax::assignment::{Assignment, as_address, as_number, as_type};
+use crate::syntax::attribute::Attribute;
 use std::alloc::Allocator;
 
 /// The range that a group RANGE says by what is given in it. It is Missing where START, TYPE, or both END
@@ -71,50 +75,49 @@ fn range_between(first: u16, role: RangeType, last: Option<u64>) -> Result<Range
     }
 }
 
-/// The fault of a group RANGE at its closing brace, after ranges that the table marks and the names of the index.
-pub fn range_fault<'a, A: Allocator + Copy>(
+/// What a group RANGE says at its closing brace, or its fault, after ranges that the table marks and the names of the
+/// index.
+pub fn range_contents<'a, A: Allocator + Copy>(
     table: &[bool],
     names: &Index<'a, A>,
     given: &[Assignment<'a>],
-) -> Option<InfoFaultKind>
-    ensures { IsRangeFault table.now names.now (assigned_seen given.now) result }
+) -> Result<Contents<'a>, InfoFaultKind>
+    ensures fault { IsRangeFault table.now names.now (assigned_seen given.now) (result_err result) }
+    ensures contents { IfOk result (AreContents (group Range (assigned_seen given.now))) }
 {
     match range_in(given) {
-        Err(fault) => Some(fault),
+        Err(fault) => Err(fault),
         Ok(range) => {
             if is_marked(table, range.first, range.last) {
-                Some(InfoFaultKind::RangesOverlap)
-            } else {
-                names.optional_name_fault(range_name(given, range))
+                return Err(InfoFaultKind::RangesOverlap);
+            }
+            let name = range_name(given, range);
+            match names.optional_name_fault(name) {
+                Some(fault) => Err(fault),
+                None => Ok(Contents {
+                    range: Some(range),
+                    name,
+                    segment: None,
+                }),
             }
         }
     }
 }
 
-/// The range of a group RANGE.
-pub fn range_part<A: Allocator>(group: &Group<A>) -> Option<RangeSpec>
-    ensures { option_to_list result ≡ range_part (group_seen group.now) }
-{
-    match group.kind {
-        GroupKind::Range => range_in(group.given.as_slice()).ok(),
-        GroupKind::Global | GroupKind::Label | GroupKind::Segment | GroupKind::Include => None,
-    }
-}
-
-/// Adds and marks the range of a group, if it says one.
+/// Adds and marks the range of a group, if it says one. There is room for it.
 pub fn add_range<A: Allocator>(
     ranges: &mut Vec<RangeSpec, A>,
     table: &mut Vec<bool, A>,
     range: Option<RangeSpec>,
-) -> Result<(), InfoFault>
-    requires { IfSome range (λ r. r.first ≤ r.last) }
-    ensures done { Adds result ranges.old ranges.new (option_to_list range) }
-    ensures marked { OnOk result (RangesToo range table.old.items table.new.items) }
-    ensures err { IfErr result (λ e. e ≡ out_of_memory) }
+)
+    requires ordered { IfSome range (λ r. r.first ≤ r.last) }
+    requires room { IfSome range (λ _. vec_len ranges.old < vec_capacity ranges.old) }
+    requires cells { IfSome range (λ _. length table.old.items ≡ 0x1_0000) }
+    ensures done { ranges.new.items ≡ ranges.old.items ++ option_to_list range }
+    ensures marked { RangesToo range table.old.items table.new.items }
 {
     if let Some(range) = range {
-        ranges.push(range)?;
-        mark(table, range.first, range.last)?;
+        ranges.push_reserved(range);
+        mark(table, range.first, range.last);
     }
-    Ok(())
 }

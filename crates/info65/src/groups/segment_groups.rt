@@ -1,9 +1,12 @@
 //! The segments that groups SEGMENT say.
 
-ghost use Rattle.std.specs.Prelude.{◌≡◌, ◌≤◌, IfErr, IfOk, Ok, OnOk, Some, option_map, option_to_list};
-ghost use Rattle.info65.specs.Words.{Gives, IsSegmentFault, Sees, SegmentsToo, assigned_seen, group_seen, groups_seen, out_of_memory, parts_seen, segment_fault, segment_from, segment_in, segment_part, segment_seen, segments_of, segments_seen};
+ghost use Rattle.std.specs.Prelude.{◌≡◌, ◌≤◌, IfErr, IfOk, IfSome, Ok, Some, length, option_map, option_to_list};
+ghost use Rattle.std.specs.Result.{result_err};
+ghost use Rattle.info65.specs.Words.{AreContents, Gives, IsSegmentFault, Sees, SegmentsToo, assigned_seen, group, group_seen, groups_seen, out_of_memory, parts_seen, segment_from, segment_in, segment_part, segment_seen, segments_of, segments_seen};
+ghost use Rattle.info65.specs.declared.syntax.attribute.GroupKind.TheVariants.{Segment};
 
 use crate::fault::{InfoFault, InfoFaultKind};
+use crate::groups::contents::Contents;
 use crate::groups::group_values::value_in;
 use crate::information::segment::SegmentSpec;
 use crate::lookup::marks::{is_marked, mark};
@@ -50,18 +53,25 @@ fn segment_from<'a>(
     }
 }
 
-/// The fault of a group SEGMENT at its closing brace, after segments that the table marks.
-pub fn segment_fault(table: &[bool], given: &[Assignment]) -> Option<InfoFaultKind>
-    ensures { IsSegmentFault table.now (assigned_seen given.now) result }
+/// What a group SEGMENT says at its closing brace, or its fault, after segments that the table marks.
+pub fn segment_contents<'a>(
+    table: &[bool],
+    given: &[Assignment<'a>],
+) -> Result<Contents<'a>, InfoFaultKind>
+    ensures fault { IsSegmentFault table.now (assigned_seen given.now) (result_err result) }
+    ensures contents { IfOk result (AreContents (group Segment (assigned_seen given.now))) }
 {
     match segment_in(given) {
-        Err(fault) => Some(fault),
+        Err(fault) => Err(fault),
         Ok(segment) => {
             if is_marked(table, segment.first, segment.last) {
-                Some(InfoFaultKind::SegmentsOverlap)
-            } else {
-                None
+                return Err(InfoFaultKind::SegmentsOverlap);
             }
+            Ok(Contents {
+                range: None,
+                name: None,
+                segment: Some(segment),
+            })
         }
     }
 }
@@ -76,18 +86,15 @@ fn segment_part<'a, A: Allocator>(group: &Group<'a, A>) -> Option<SegmentParts<'
     }
 }
 
-/// Marks the segment of the group, if it says one.
-pub fn mark_segment<A: Allocator, B: Allocator>(
-    table: &mut Vec<bool, B>,
-    group: &Group<A>,
-) -> Result<(), InfoFault>
-    ensures marked { OnOk result (SegmentsToo group.now table.old.items table.new.items) }
-    ensures err { IfErr result (λ e. e ≡ out_of_memory) }
+/// Marks the segment of a group, if it says one.
+pub fn mark_segment<A: Allocator>(table: &mut Vec<bool, A>, segment: Option<SegmentParts>)
+    requires ordered { IfSome segment (λ s. s.first ≤ s.last) }
+    requires cells { IfSome segment (λ _. length table.old.items ≡ 0x1_0000) }
+    ensures { SegmentsToo segment.entry table.old.items table.new.items }
 {
-    if let Some(segment) = segment_part(group) {
-        mark(table, segment.first, segment.last)?;
+    if let Some(segment) = segment {
+        mark(table, segment.first, segment.last);
     }
-    Ok(())
 }
 
 // The segment with a name of its own.

@@ -1,16 +1,14 @@
 //! An index of names.
 
-ghost use Rattle.std.specs.Prelude.{◌≡◌, ◌≢◌, ◌++◌, ◌∷◌, ℕ, AllPairs, IfErr, None, Ok, OnOk, [], map, option_map};
-ghost use Rattle.info65.specs.Words.{Gives, IsFoundAt, MayName, assigned_seen, by_address, given_part, given_seen, is_at, is_elsewhere, label_fault, label_in, name_adds, name_fault, numbered, optional_name_fault, out_of_memory, text_at};
+ghost use Rattle.std.specs.Prelude.{◌≡◌, ◌≢◌, ◌++◌, ◌∷◌, ℕ, AllPairs, IfErr, None, Ok, OnErr, OnOk, [], map, option_map};
+ghost use Rattle.info65.specs.Words.{Gives, IsFoundAt, MayName, by_address, given_part, given_seen, is_at, is_elsewhere, name_adds, name_fault, numbered, optional_name_fault, out_of_memory, text_at};
 
 use crate::fault::{InfoFault, InfoFaultKind};
-use crate::groups::label_groups::label_in;
 use crate::information::name::Given;
 use crate::information::pool::NamePool;
 use crate::lookup::numbers::narrow;
 use crate::lookup::pages::{PAGE, PAGES, Pages};
 use crate::lookup::texts::Texts;
-use crate::syntax::assignment::Assignment;
 use crate::syntax::names::is_reserved;
 use std::alloc::Allocator;
 use std::marker::Model;
@@ -156,21 +154,12 @@ impl<'a, A: Allocator + Copy> Index<'a, A> {
         }
     }
 
-    /// The fault of a group LABEL at its closing brace, after these names.
-    pub fn label_fault(&self, given: &[Assignment<'a>]) -> Option<InfoFaultKind>
-        ensures { result ≡ label_fault self.now (label_in (assigned_seen given.now)) }
-    {
-        match label_in(given) {
-            Err(fault) => Some(fault),
-            Ok(name) => self.name_fault(name),
-        }
-    }
-
     /// Adds a name, which has no fault.
     #[inline(always)]
     pub fn add(&mut self, name: Given<'a>) -> Result<(), InfoFault>
         requires { name_fault self.old (given_seen name) ≡ None }
         ensures done { OnOk result (self.new ≡ self.old ++ given_seen name.entry ∷ []) }
+        ensures same { OnErr result (self.new ≡ self.old) }
         ensures err { IfErr result (λ e. e ≡ out_of_memory) }
     {
         // What can fail comes first, so that names are found as they stand in the list, whatever fails.
@@ -187,6 +176,7 @@ impl<'a, A: Allocator + Copy> Index<'a, A> {
     pub fn add_optional(&mut self, name: Option<Given<'a>>) -> Result<(), InfoFault>
         requires { optional_name_fault self.old (option_map given_seen name) ≡ None }
         ensures done { OnOk result (self.new ≡ self.old ++ given_part name.entry) }
+        ensures same { OnErr result (self.new ≡ self.old) }
         ensures err { IfErr result (λ e. e ≡ out_of_memory) }
     {
         match name {

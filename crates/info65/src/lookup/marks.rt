@@ -1,7 +1,7 @@
 //! Tables with a cell for each address, which is set where the address is taken. They have none until one is set.
 
-ghost use Rattle.std.specs.Prelude.{◌≡◌, ◌≤◌, ◌<◌, ◌-◌, ◌+◌, ℕ, IfErr, OnOk, false, get_or, length};
-ghost use Rattle.info65.specs.Words.{AreSetToo, any_in, out_of_memory};
+ghost use Rattle.std.specs.Prelude.{◌≡◌, ◌≤◌, ◌-◌, ◌+◌, IfErr, OnOk, length};
+ghost use Rattle.info65.specs.Words.{AreSetAlike, AreSetToo, any_in, out_of_memory};
 
 use crate::fault::InfoFault;
 use std::alloc::Allocator;
@@ -23,9 +23,9 @@ pub fn is_marked(table: &[bool], first: u16, last: u16) -> bool
 }
 
 /// Gives the table a cell for each address.
-fn widen<A: Allocator>(table: &mut Vec<bool, A>) -> Result<(), InfoFault>
+pub fn widen<A: Allocator>(table: &mut Vec<bool, A>) -> Result<(), InfoFault>
     ensures size { OnOk result (length table.new.items ≡ 0x1_0000) }
-    ensures same { OnOk result ((a : ℕ) → a < 0x1_0000 → get_or table.new.items a false ≡ get_or table.old.items a false) }
+    ensures same { AreSetAlike table.old.items table.new.items }
     ensures err { IfErr result (λ e. e ≡ out_of_memory) }
 {
     table.resize(ADDRESSES, false)?;
@@ -33,14 +33,12 @@ fn widen<A: Allocator>(table: &mut Vec<bool, A>) -> Result<(), InfoFault>
 }
 
 /// Sets the cells of the addresses from `first` to `last`.
-pub fn mark<A: Allocator>(table: &mut Vec<bool, A>, first: u16, last: u16) -> Result<(), InfoFault>
-    requires { first ≤ last }
-    ensures marked { OnOk result (AreSetToo first last table.old.items table.new.items) }
-    ensures err { IfErr result (λ e. e ≡ out_of_memory) }
+pub fn mark<A: Allocator>(table: &mut Vec<bool, A>, first: u16, last: u16)
+    requires size { length table.old.items ≡ 0x1_0000 }
+    requires ordered { first ≤ last }
+    ensures { AreSetToo first last table.old.items table.new.items }
 {
-    widen(table)?;
     set(table.as_mut_slice(), first, last);
-    Ok(())
 }
 
 #[tactic(auto, using(crate::proofs::IndexLemmas::marked_end))]

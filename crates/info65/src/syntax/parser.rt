@@ -1,7 +1,7 @@
 //! The groups of an information file, token by token.
 
-ghost use Rattle.std.specs.Prelude.{◌≡◌, ◌≤◌, ◌∷◌, ◌++◌, IfErr, IfOk, List, None, Ok, [], OnOk, length};
-ghost use Rattle.info65.specs.Words.{Advances, AssignmentView, Attribute, Expected, Gives, GroupKind, GroupView, Leads, MayClose, Moves, ReadsGroup, Sees, TakesToken, Word, assigned, assigned_seen, assignment_seen, at_end, attribute_at, closed, closing_fault, fault, group, groups_of, inside, is_semicolon, kind_seen, one, opening, outside, read, read_token, seen, value_seen, valued, wanted, with_token};
+ghost use Rattle.std.specs.Prelude.{◌≡◌, ◌≤◌, ◌∷◌, ◌++◌, IfErr, IfOk, List, [], length};
+ghost use Rattle.info65.specs.Words.{Advances, AssignmentView, Attribute, Expected, Gives, GroupKind, GroupView, Leads, Moves, ReadsGroup, Sees, TakesToken, Word, assigned, assigned_seen, assignment_seen, attribute_at, fault, groups_of, inside, is_semicolon, kind_seen, one, opening, outside, read, read_token, seen, value_seen, valued, wanted, with_token};
 ghost use Rattle.info65.specs.Reader.{value_at};
 
 use crate::fault::{InfoFault, InfoFaultKind};
@@ -9,7 +9,7 @@ use crate::groups::closed::Closed;
 use crate::groups::group_values::is_given;
 use crate::groups::include_groups::has_room;
 use crate::information::options::Options;
-use crate::syntax::assignment::{Assignment, Group, Value};
+use crate::syntax::assignment::{Assignment, Value};
 use crate::syntax::attribute::{Attribute, GroupKind, attribute_named, group_named};
 use crate::syntax::lexer::{Lexer, Next};
 use crate::syntax::token::{Token, TokenKind};
@@ -37,10 +37,7 @@ pub fn read_groups<'a, A: Allocator + Copy, B: Allocator>(
                 if after_group && is_semicolon(token.kind) {
                     after_group = false;
                 } else {
-                    let next = group(options, &mut lexer, &groups, token, spare)?;
-                    let (more, list) = groups.with(alloc, next)?;
-                    groups = more;
-                    spare = list;
+                    spare = group(alloc, options, &mut lexer, &mut groups, token, spare)?;
                     after_group = true;
                 }
             }
@@ -73,22 +70,23 @@ pub(crate) fn due<'a>(lexer: &mut Lexer<'a>) -> Result<Token<'a>, InfoFault>
     }
 }
 
-// A group after those before it, of which this token is the name. What is given in it replaces what the list has.
+// Adds a group, of which this token is the name. What is given in it replaces what the list has, and the result is a
+// list for what is given in the next group.
 fn group<'a, A: Allocator + Copy, B: Allocator>(
+    alloc: A,
     options: &Options<B>,
     lexer: &mut Lexer<'a>,
-    before: &Closed<'a, A>,
+    groups: &mut Closed<'a, A>,
     name: Token<'a>,
     list: Vec<Assignment<'a>, A>,
-) -> Result<Group<'a, A>, InfoFault>
-    ensures closes { IfOk result (MayClose before.now) }
-    ensures read { ReadsGroup options.now before.now
-        (read_token options.now outside before.now (seen name.entry) lexer.old) result lexer.new }
+) -> Result<Vec<Assignment<'a>, A>, InfoFault>
+    ensures read { ReadsGroup options.now
+        (read_token options.now outside groups.old (seen name.entry) lexer.old) result groups.new lexer.new }
     ensures shorter { length lexer.new.tokens ≤ length lexer.old.tokens }
 {
     let kind = group_kind(name)?;
     brace(lexer)?;
-    attributes(options, lexer, before, kind, list)
+    attributes(alloc, options, lexer, groups, kind, list)
 }
 
 #[tactic(auto, using(crate::proofs::ReaderLemmas::group_taken, crate::proofs::ReaderLemmas::group_unknown))]
@@ -170,17 +168,18 @@ fn value_at<'a, A: Allocator + Copy, B: Allocator>(
     }
 }
 
-// What is given in a group, up to its closing brace. It replaces what the list has.
+// Adds a group of this kind, of which the opening brace is taken. What is given in it replaces what the list has, and
+// the result is a list for what is given in the next group.
 fn attributes<'a, A: Allocator + Copy, B: Allocator>(
+    alloc: A,
     options: &Options<B>,
     lexer: &mut Lexer<'a>,
-    before: &Closed<'a, A>,
+    groups: &mut Closed<'a, A>,
     kind: GroupKind,
     list: Vec<Assignment<'a>, A>,
-) -> Result<Group<'a, A>, InfoFault>
-    ensures closes { IfOk result (MayClose before.now) }
-    ensures read { ReadsGroup options.now before.now
-        (read options.now (inside kind []) before.now lexer.old) result lexer.new }
+) -> Result<Vec<Assignment<'a>, A>, InfoFault>
+    ensures read { ReadsGroup options.now
+        (read options.now (inside kind []) groups.old lexer.old) result groups.new lexer.new }
     ensures shorter { length lexer.new.tokens ≤ length lexer.old.tokens }
 {
     let mut given = list;
@@ -188,33 +187,13 @@ fn attributes<'a, A: Allocator + Copy, B: Allocator>(
     'attributes: loop {
         let name = due(lexer)?;
         match name.kind {
-            TokenKind::CloseBrace => {
-                is_whole(before, kind, given.as_slice(), name.line)?;
-                return Ok(Group { kind, given });
-            }
+            TokenKind::CloseBrace => return groups.close(alloc, kind, given, name.line),
             TokenKind::Word => {
-                let next = attribute(options, lexer, before, kind, given.as_slice(), name)?;
+                let next = attribute(options, lexer, groups, kind, given.as_slice(), name)?;
                 given.push(next)?;
             }
             _ => return Err(expected(name.line)),
         }
-    }
-}
-
-// A group may close here.
-fn is_whole<'a, A: Allocator + Copy>(
-    before: &Closed<'a, A>,
-    kind: GroupKind,
-    given: &[Assignment<'a>],
-    line: u32,
-) -> Result<(), InfoFault>
-    ensures closes { OnOk result (closing_fault before.now kind (assigned_seen given.now) ≡ None) }
-    ensures read { Leads (at_end before.now kind (assigned_seen given.now) line) result
-        (λ _. Ok (closed, before.now ++ group kind (assigned_seen given.now) ∷ [])) }
-{
-    match before.closing_fault(kind, given) {
-        Some(fault) => Err(InfoFault::new(line, fault)),
-        None => Ok(()),
     }
 }
 

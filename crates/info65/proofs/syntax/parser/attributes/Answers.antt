@@ -2,47 +2,38 @@ use Rattle.std.proofs.Common.{arith, ◌∙◌, ◌∷◌, [], ap, inl, map, ref
 use Rattle.std.proofs.lemmas.List.{map-append}
 use Rattle.std.proofs.lemmas.Result.{err_from_is_err_and}
 use Rattle.info65.specs.Words.{assignment_seen, finish, inside, read}
-use Rattle.info65.proofs.ReaderLemmas.{attribute_refused, close_refused, close_taken, missing, read_next}
+use Rattle.info65.proofs.ReaderLemmas.{attribute_refused, close_grows, grows_along, missing, read_next}
 use Rattle.info65.proofs.syntax.parser.attributes.Goals as goal
 
 pub returns-in_err-name-clause-read : goal.returns-in_err-name-clause-read
 unfolding finish
 returns-in_err-name-clause-read g c =
     let p = err_from_is_err_and c.from_residual.result c.from_residual.ensures.1 in
-    rw (p.1, p.2) (inl (sym c.attributes.invariant.same ∙ missing c.args.options.now (inside c.args.kind (map assignment_seen c.attributes.given.items)) c.args.before.now _ _ refl c.in_err-name.ensures.err))
-
-pub returns-in_err-is_whole-in-CloseBrace-clause-read : goal.returns-in_err-is_whole-in-CloseBrace-clause-read
-returns-in_err-is_whole-in-CloseBrace-clause-read g c =
-    let p = err_from_is_err_and c.from_residual-in_err-is_whole-in-CloseBrace.result c.from_residual-in_err-is_whole-in-CloseBrace.ensures.1 in
-    let o = c.args.options.now in
-    let k = c.args.kind in
-    let given = map assignment_seen c.attributes.given.items in
-    let before = c.args.before.now in
-    rw (p.1, p.2) (inl (sym c.attributes.invariant.same ∙ read_next o (inside k given) before _ _ _ c.in_ok-name.ensures.ok ∙ close_refused o k given before _ _ _ _ refl c.in-CloseBrace.is (rw c.as_slice.ensures.value at c.in_err-is_whole-in-CloseBrace.ensures.read)))
+    rw (p.1, p.2) (inl (sym c.attributes.invariant.same ∙ missing c.args.options.now (inside c.args.kind (map assignment_seen c.attributes.given.items)) c.attributes.groups _ _ refl c.in_err-name.ensures.err))
 
 pub returns-in-CloseBrace-clause-read : goal.returns-in-CloseBrace-clause-read
 returns-in-CloseBrace-clause-read g c =
     let o = c.args.options.now in
     let k = c.args.kind in
     let given = map assignment_seen c.attributes.given.items in
-    let before = c.args.before.now in
-    sym c.attributes.invariant.same ∙ read_next o (inside k given) before _ _ _ c.in_ok-name.ensures.ok ∙ close_taken o k given before _ _ _ refl c.in-CloseBrace.is (rw c.as_slice.ensures.value at c.in_ok-is_whole-in-CloseBrace.ensures.read)
+    let before = c.attributes.groups in
+    grows_along c.close.result _ (sym c.attributes.invariant.same ∙ read_next o (inside k given) before _ _ _ c.in_ok-name.ensures.ok) (close_grows o k given before _ _ _ _ c.close.result refl c.in-CloseBrace.is c.close.ensures)
 
 pub returns-in_err-next-in-Word-clause-read : goal.returns-in_err-next-in-Word-clause-read
 returns-in_err-next-in-Word-clause-read g c =
     let p = err_from_is_err_and c.from_residual-in_err-next-in-Word.result c.from_residual-in_err-next-in-Word.ensures.1 in
     let place = inside c.args.kind (map assignment_seen c.attributes.given.items) in
-    let said = rw c.as_slice-in-Word.ensures.value at c.in_err-next-in-Word.ensures.read in
-    rw (p.1, p.2) (inl (sym c.attributes.invariant.same ∙ read_next c.args.options.now place c.args.before.now _ _ _ c.in_ok-name.ensures.ok ∙ said))
+    let said = rw c.as_slice.ensures.value at c.in_err-next-in-Word.ensures.read in
+    rw (p.1, p.2) (inl (sym c.attributes.invariant.same ∙ read_next c.args.options.now place c.attributes.groups _ _ _ c.in_ok-name.ensures.ok ∙ said))
 
 pub attributes-preserved : goal.attributes-preserved
 attributes-preserved g c =
     let o = c.args.options.now in
     let k = c.args.kind in
     let given = map assignment_seen c.attributes.given.items in
-    let before = c.args.before.now in
+    let before = c.attributes.groups in
     let pushed = ap (map assignment_seen) c.in_ok-push-in-Word.ensures.items ∙ map-append assignment_seen c.attributes.given.items (c.in_ok-next-in-Word.next ∷ []) in
-    let said = rw c.as_slice-in-Word.ensures.value at c.in_ok-next-in-Word.ensures.read in
+    let said = rw c.as_slice.ensures.value at c.in_ok-next-in-Word.ensures.read in
     record {
       same = ap (λ l. read o (inside k l) before c.attribute.new.lexer) pushed ∙ sym said ∙ sym (read_next o (inside k given) before _ _ _ c.in_ok-name.ensures.ok) ∙ c.attributes.invariant.same;
       shorter = omega (arith, c.in_ok-next-in-Word.ensures.shorter, c.in_ok-name.ensures.shorter, c.attributes.invariant.shorter);
@@ -53,12 +44,8 @@ returns-in_default g c =
     let o = c.args.options.now in
     let k = c.args.kind in
     let given = map assignment_seen c.attributes.given.items in
-    let before = c.args.before.now in
+    let before = c.attributes.groups in
     record {
-      closes = tt;
       read = inl (rw c.expected.ensures (sym c.attributes.invariant.same ∙ read_next o (inside k given) before _ _ _ c.in_ok-name.ensures.ok ∙ attribute_refused o k given before _ _ _ refl c.in_default.not-Word c.in_default.not-CloseBrace));
       shorter = omega (arith, c.in_ok-name.ensures.shorter, c.attributes.invariant.shorter);
     }
-
-pub returns-in-CloseBrace-clause-closes : goal.returns-in-CloseBrace-clause-closes
-returns-in-CloseBrace-clause-closes g c = rw c.as_slice.ensures.value at c.in_ok-is_whole-in-CloseBrace.ensures.closes

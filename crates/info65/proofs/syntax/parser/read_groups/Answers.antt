@@ -1,6 +1,6 @@
 use Rattle.std.proofs.Common.{◌&&◌, ◌≡◌, ◌∙◌, ap, false, inl, sym}
 use Rattle.std.proofs.lemmas.Result.{err_from_is_err_and}
-use Rattle.info65.specs.Words.{closed, groups_of, is_semicolon, kind_seen, place_after, read, tokens_of}
+use Rattle.info65.specs.Words.{groups_of, is_semicolon, kind_seen, place_after, read, tokens_of}
 use Rattle.std.proofs.lemmas.Bool.{and_left, and_right}
 use Rattle.info65.proofs.ReaderLemmas.{between_end, between_fault, between_group, between_separator, fails_along}
 use Rattle.info65.proofs.syntax.parser.read_groups.Goals as goal
@@ -27,22 +27,18 @@ groups-preserved-then-is_semicolon g c =
     let mark = sym c.is_semicolon.ensures ∙ c.if-is_semicolon.true in
     sym (between_separator c.args.options.now c.groups.after_group c.groups.groups _ _ _ at c.if-after_group.true mark) ∙ c.groups.invariant
 
-pub returns-in_err-next-in-Token : goal.returns-in_err-next-in-Token
-returns-in_err-next-in-Token g c =
+pub returns-in_err-spare-in-Token : goal.returns-in_err-spare-in-Token
+returns-in_err-spare-in-Token g c =
     let at = rw c.in-Token.is at c.in_ok-next.ensures in
-    let p = err_from_is_err_and c.from_residual-in_err-next-in-Token.result c.from_residual-in_err-next-in-Token.ensures.1 in
+    let p = err_from_is_err_and c.from_residual-in_err-spare-in-Token.result c.from_residual-in_err-spare-in-Token.ensures.1 in
     let mark = is_semicolon (kind_seen c.in-Token.token.kind) in
     let other : (c.groups.after_group && mark) ≡ false = elim c.else-after_group.branch [ else-after_group-via-then-after_group+else-is_semicolon w ↦ and_right c.groups.after_group mark (sym w.is_semicolon.ensures ∙ w.if-is_semicolon.false) | else-after_group-via-else-after_group w ↦ and_left c.groups.after_group mark w.if-after_group.false ] in
     let here = sym c.groups.invariant ∙ between_group c.args.options.now c.groups.after_group c.groups.groups _ _ _ at other in
-    let said = c.in_err-next-in-Token.ensures.read in
-    rw (p.1, p.2) (fails_along here said)
+    rw (p.1, p.2) (fails_along here c.in_err-spare-in-Token.ensures.read)
 
 pub groups-preserved : goal.groups-preserved
 groups-preserved g c =
     let at = rw c.in-Token.is at c.in_ok-next.ensures in
-    let o = c.args.options.now in
     let mark = is_semicolon (kind_seen c.in-Token.token.kind) in
     let other : (c.groups.after_group && mark) ≡ false = elim c.else-after_group.branch [ else-after_group-via-then-after_group+else-is_semicolon w ↦ and_right c.groups.after_group mark (sym w.is_semicolon.ensures ∙ w.if-is_semicolon.false) | else-after_group-via-else-after_group w ↦ and_left c.groups.after_group mark w.if-after_group.false ] in
-    let said = c.in_ok-next-in-Token.ensures.read in
-    let pushed = sym (same_ok c.in_ok-more-in-Token.ensures) in
-    ap (λ l. read o closed l c.group.new.lexer) pushed ∙ sym said ∙ sym (between_group o c.groups.after_group c.groups.groups _ _ _ at other) ∙ c.groups.invariant
+    sym c.in_ok-spare-in-Token.ensures.read ∙ sym (between_group c.args.options.now c.groups.after_group c.groups.groups _ _ _ at other) ∙ c.groups.invariant
