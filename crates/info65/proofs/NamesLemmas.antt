@@ -10,10 +10,11 @@ use Rattle.std.proofs.lemmas.List.Folds.{list_any_at}
 use Rattle.std.proofs.lemmas.List.Kept.{AllPairs-cons}
 use Rattle.std.proofs.lemmas.List.Quantifiers.{all_pairs_push}
 use Rattle.std.proofs.lemmas.Bool.{eq-eqb, eqb-true, false≢true}
+use Rattle.std.proofs.lemmas.Nat.{div-mul-add, mod-mul-add}
 use Rattle.std.proofs.lemmas.Slice.Eq.{bytes_eq-Decides}
 use Rattle.std.specs.Str.{bytes_eq}
 use Rattle.info65.specs.Words.{AreFormed, AreGiven, AreNames, AssignmentView, Given, GroupKind, GroupView, HasForm, IsComment, IsFoundAt, IsName, NameView, NamesGiven, NumbersView, RangeSpec, ValueView, a_comment, a_name, as_comment, as_name, as_number, by_address, closing_fault, comment_in, form_of, given_seen, is_at, label_in, label_sized, name_part, named_at, names_from, names_said, numbered, optional_name_fault, range_name, text_at, tokens_of, unless_empty, value_in}
-use Rattle.info65.specs.Code.Numbers.{number_at}
+use Rattle.info65.specs.Code.Numbers.{blank_page, number_at}
 use Rattle.text65.specs.Names.{has_name_form}
 use Rattle.info65.specs.Labels.{named}
 use Rattle.info65.specs.declared.syntax.attribute.Attribute.TheVariants as attribute
@@ -91,6 +92,10 @@ names_passed f m (suc n) none =
 pub names_next : (items : List Given) (numbers : List NumbersView) (a : ℕ) (o : Option Given) → IsFoundAt (map given_seen items) numbers a → o ≡ numbered items (number_at numbers a)
     → names_from (named_at (map given_seen items)) 0 (a + 1) ≡ names_from (named_at (map given_seen items)) 0 a ++ option_to_list (option_map given_seen o)
 names_next items numbers a o i is = grind (arith, names_last, found_is)
+
+-- the number of an address stands at its place of its page
+pub number_here : (numbers : List NumbersView) (p k : ℕ) → k < 256 → number_at numbers (p * 256 + k) ≡ get_or (get_or numbers p blank_page).cells k 0
+number_here numbers p k low = rw (div-mul-add p 256 k low, mod-mul-add p 256 k low) refl
 
 -- a page without a number adds none
 pub page_passed : (items : List Given) (numbers : List NumbersView) (p : ℕ) → ((a : ℕ) → a / 256 ≡ p → number_at numbers a ≡ 0)

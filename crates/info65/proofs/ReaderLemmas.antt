@@ -1,7 +1,7 @@
 -- One token more, at each place.
 use Rattle.std.proofs.Common.{◌≡◌, ◌∙◌, ℕ, Bool, ◌&&◌, List, [], ◌∷◌, ◌++◌, true, false, refl, ap, inl, inr, sym}
 use Rattle.std.specs.Prelude.{Result, Ok, Err, Some, None}
-use Rattle.info65.specs.Words.{AssignmentView, Attribute, Expected, Fails, GroupKind, Grows, GroupView, InfoFault, KindView, Leads, OptionsView, Stage, Stream, TokenKind, TokenView, UnknownGroup, ValueView, after_group, assigned, at_attribute, at_brace, at_end, at_group, at_semicolon, attribute_at, closed, closed_by, closing_fault, ended, fault, finish, group, group_named, inside, is_semicolon, kind_seen, one, opened, opening, outside, place_after, read, read_from, read_token, refused, semicolon, step, valued, wanted, with_token, ◌>>=◌}
+use Rattle.info65.specs.Words.{AssignmentView, Attribute, Expected, Fails, GroupKind, Grows, GroupView, InfoFault, KindView, Leads, OptionsView, Stage, Stream, TokenKind, TokenView, UnknownGroup, ValueView, after_group, assigned, at_attribute, at_brace, at_end, at_group, at_semicolon, attribute_at, closed, closed_by, closing_fault, ended, fault, finish, group_named, inside, is_semicolon, kind_seen, one, opened, opening, outside, place_after, read, read_from, read_token, refused, semicolon, step, valued, wanted, with_token, ◌>>=◌}
 use Rattle.info65.specs.Reader.{value_at}
 use Rattle.info65.specs.declared.syntax.token.TokenKind.TheVariants as kind
 

@@ -19,6 +19,7 @@ pub use Rattle.info65.specs.declared.syntax.assignment.Value.{Value}
 pub use Rattle.info65.specs.declared.syntax.attribute.Attribute.{Attribute}
 pub use Rattle.info65.specs.declared.syntax.attribute.ValueForm.{ValueForm}
 pub use Rattle.info65.specs.declared.syntax.attribute.GroupKind.{GroupKind}
+pub use Rattle.info65.specs.declared.syntax.digits.TheConstants.{DIGITS}
 pub use Rattle.info65.specs.declared.syntax.lexeme.Class.{Class}
 pub use Rattle.info65.specs.declared.syntax.lexeme.Lexeme.{Lexeme}
 pub use Rattle.info65.specs.declared.syntax.lexeme.TheConstants.{CLASSES}

@@ -1,5 +1,7 @@
 -- The classes of bytes, by a table.
-use Rattle.std.specs.Prelude.{ℕ, get_or}
+use Rattle.std.specs.Prelude.{◌≡◌, ℕ, get_or}
+use Rattle.std.specs.Char.{is_digit}
+use Rattle.info65.specs.Lexemes.{in_class}
 use Rattle.info65.specs.Types.{CLASSES, Class}
 use Rattle.info65.specs.declared.syntax.lexeme.Class.TheVariants as class
 
@@ -13,3 +15,7 @@ bit_of class.Text = 8
 -- the classes of a byte
 unfoldable pub classes_of : ℕ → ℕ
 classes_of b = get_or CLASSES b 0
+
+-- the bytes of this class are the digits of this radix
+abbrev pub AreDigitsIn : Class → ℕ → Type 0
+AreDigitsIn c radix = (b : ℕ) → in_class c b ≡ is_digit b radix

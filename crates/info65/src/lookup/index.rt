@@ -212,11 +212,11 @@ fn pooled<A: Allocator + Copy>(
 {
     let mut pool = NamePool::new(alloc);
     for page in 0..PAGES {
-        if !numbers.has_page(page) {
+        let Some(cells) = numbers.page(page) else {
             continue;
-        }
-        for address in page * PAGE..(page + 1) * PAGE {
-            let Some(name) = numbered(names, numbers.at(address as u16)) else {
+        };
+        for place in 0..PAGE {
+            let Some(name) = numbered(names, cells.at(place)) else {
                 continue;
             };
             pool.add(name)?;

@@ -50,9 +50,8 @@ fn add_pages<A: Allocator + Copy>(
 }
 
 impl<A: Allocator + Copy> Pages<A> {
-    ghost use Rattle.std.specs.Prelude.{◌≡◌, ◌==◌, ◌<◌, ◌/◌, ◌*◌, ◌+◌, ℕ, [], IfErr, OnOk, if◌then◌else◌, length};
-    ghost use Rattle.std.specs.Bool.{OnFalse};
-    ghost use Rattle.info65.specs.Code.Numbers.{HasCell, number_at};
+    ghost use Rattle.std.specs.Prelude.{◌≡◌, ◌==◌, ◌/◌, ℕ, [], IfErr, IfNone, IfSome, OnOk, get_or, if◌then◌else◌};
+    ghost use Rattle.info65.specs.Code.Numbers.{HasCell, blank_page, number_at};
     ghost use Rattle.info65.specs.Faults.{out_of_memory};
 
     /// Each number is 0. Allocates nothing.
@@ -74,13 +73,20 @@ impl<A: Allocator + Copy> Pages<A> {
         }
     }
 
-    /// Whether an address of the page may have a number.
-    pub fn has_page(&self, page: usize) -> bool
-        ensures { OnFalse result ((a : ℕ) → a / 256 ≡ page → number_at self.now a ≡ 0) }
+    /// The numbers of a page, if one of its addresses may have one.
+    pub fn page(&self, page: usize) -> Option<&Numbers<A>>
+        ensures some { IfSome result (λ n. n.now ≡ get_or self.now page blank_page) }
+        ensures none { IfNone result ((a : ℕ) → a / 256 ≡ page → number_at self.now a ≡ 0) }
     {
         match self.pages.get(page) {
-            Some(page) => !page.is_blank(),
-            None => false,
+            Some(numbers) => {
+                if numbers.is_blank() {
+                    None
+                } else {
+                    Some(numbers)
+                }
+            }
+            None => None,
         }
     }
 

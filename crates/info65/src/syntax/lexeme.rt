@@ -2,11 +2,11 @@
 
 ghost use Rattle.std.specs.Prelude.{◌≡◌, ◌+◌, ◌-◌, ◌<◌, ◌≤◌, IfOk, IfSome, get_or, length};
 ghost use Rattle.std.specs.List.{prefix_len};
-ghost use Rattle.info65.specs.Words.{Sees, bit_of, character_at, classes_of, in_class, kind_seen, lexeme_at, lexeme_seen, number_in, starts_word, string_at, word_at};
+ghost use Rattle.info65.specs.Words.{AreDigitsIn, Sees, bit_of, character_at, classes_of, in_class, kind_seen, lexeme_at, lexeme_seen, number_in, starts_word, string_at, word_at};
 ghost use Rattle.info65.specs.Lexemes.{mark, number_at};
 
 use crate::fault::{InfoFault, InfoFaultKind};
-use crate::syntax::digits::number_of_digits;
+use crate::syntax::digits::{digits_at, number_of_digits};
 use crate::syntax::token::TokenKind;
 
 /// Bytes that run on within a token.
@@ -114,7 +114,7 @@ fn word_at<'a>(rest: &'a [u8]) -> Lexeme<'a>
     }
 }
 
-// A number by its digits, after a sign of `sign` bytes.
+// A number by its digits, after a sign of `sign` bytes. The class is that of the digits.
 #[tactic(auto, unfolding(crate::specs::Lexemes::number_at))]
 #[inline(always)]
 fn number_at<'a>(
@@ -126,21 +126,20 @@ fn number_at<'a>(
 ) -> Result<Lexeme<'a>, InfoFault>
     requires low { 2 ≤ radix }
     requires high { radix ≤ 36 }
+    requires digits { AreDigitsIn class radix }
     requires signed { sign ≤ 1 }
     ensures value { Sees lexeme_seen result (number_at line class radix sign bytes.entry.now) }
     ensures within { IfOk result (λ l. l.more ≤ sign + length bytes.entry.now - 1) }
 {
-    let size = run_len(bytes, class);
-    if size < bytes.len() && starts_word(bytes[size]) {
+    let (size, value) = digits_at(bytes, radix);
+    let is_word = size < bytes.len() && starts_word(bytes[size]);
+    if is_word || size == 0 || value > u64::from(u32::MAX) {
         return Err(InfoFault::new(line, InfoFaultKind::BadNumber));
     }
-    match number_in(&bytes[..size], radix) {
-        Some(value) => Ok(Lexeme {
-            kind: TokenKind::Number(value),
-            more: sign + size - 1,
-        }),
-        None => Err(InfoFault::new(line, InfoFaultKind::BadNumber)),
-    }
+    Ok(Lexeme {
+        kind: TokenKind::Number(value as u32),
+        more: sign + size - 1,
+    })
 }
 
 // A string, of which the opening quote is taken.
@@ -184,7 +183,7 @@ fn character_at<'a>(line: u32, rest: &'a [u8]) -> Result<Lexeme<'a>, InfoFault>
 }
 
 /// The token at the front of these bytes, or its fault.
-#[tactic(auto, unfolding(crate::specs::Lexemes::lexeme_at))]
+#[tactic(auto, unfolding(crate::specs::Lexemes::lexeme_at), using(crate::proofs::NumberLemmas::digit_classes))]
 #[inline(always)]
 pub fn lexeme_at<'a>(line: u32, bytes: &'a [u8]) -> Result<Lexeme<'a>, InfoFault>
     requires { 0 < length bytes.now }

@@ -1,9 +1,9 @@
-use Rattle.std.proofs.Common.{◌≡◌, ◌*◌, map}
+use Rattle.std.proofs.Common.{◌≡◌, ◌*◌, ◌+◌, map}
 use Rattle.info65.specs.Words.{given_seen, named_at, names_from}
 use Rattle.info65.proofs.lookup.index.pooled.Given as goal
 
 abbrev pub invariant-loop-page : goal.invariant-loop-page
 invariant-loop-page g l = l.pool ≡ names_from (named_at (map given_seen l.names)) 0 (l.page * 256)
 
-abbrev pub invariant-loop-address : goal.invariant-loop-address
-invariant-loop-address g l = l.pool ≡ names_from (named_at (map given_seen l.names)) 0 l.address
+abbrev pub invariant-loop-place : goal.invariant-loop-place
+invariant-loop-place g l = l.pool ≡ names_from (named_at (map given_seen l.names)) 0 (l.page * 256 + l.place)
