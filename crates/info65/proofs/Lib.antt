@@ -33,5 +33,6 @@ mod StandLemmas
 mod TagLemmas
 mod TagRows
 mod TokenLemmas
+mod WordLemmas
 pub mod Public
 pub mod Rules

@@ -9,3 +9,4 @@ pub(crate) mod names;
 pub(crate) mod parser;
 pub(crate) mod token;
 mod values;
+pub(crate) mod words;

@@ -5,6 +5,7 @@ ghost use Rattle.std.specs.Prelude.{◌≡◌};
 ghost use Rattle.info65.specs.Words.{attribute_named, boolean_named, form_of, group_named, type_named};
 
 use crate::information::range::RangeType;
+use crate::syntax::words::is_word;
 
 /// What a group is about.
 #[derive(Clone, Copy)]
@@ -107,7 +108,7 @@ macro_rules! word_among {
         None
     };
     ($text:expr; $word:literal => $value:expr, $($rest:tt)*) => {
-        if $text.eq_ignore_ascii_case($word) {
+        if is_word($text, $word) {
             Some($value)
         } else {
             word_among!($text; $($rest)*)

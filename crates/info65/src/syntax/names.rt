@@ -59,5 +59,5 @@ fn is_like_default(text: &[u8]) -> bool
 pub fn is_reserved(address: u16, text: &[u8]) -> bool
     ensures { result ≡ is_reserved address text.now }
 {
-    is_reserved_word(text) || is_like_default(text) && text != default_name(address).as_slice()
+    is_reserved_word(text) || text != default_name(address).as_slice() && is_like_default(text)
 }

@@ -4,6 +4,8 @@ ghost use Rattle.std.specs.Prelude.{◌≡◌, ◌≤◌, IsTrue};
 ghost use Rattle.info65.specs.Words.{blank_tag, is_backward, is_value, lacks, tag_attribute, tag_named, with_value};
 ghost use Rattle.info65.specs.Tags.{value_at};
 
+use crate::syntax::words::is_word;
+
 /// What a group says.
 #[derive(Clone, Copy, Debug, PartialEq, Eq)]
 pub enum TagKind {
@@ -52,7 +54,7 @@ pub struct Tag {
 /// The first of these words that is the text, with letters of any case.
 macro_rules! tag_word {
     ($text:ident; $($word:literal => $value:expr,)*) => {{
-        $(if $text.eq_ignore_ascii_case($word) {
+        $(if is_word($text, $word) {
             return Some($value);
         })*
         None
