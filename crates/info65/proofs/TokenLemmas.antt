@@ -1,6 +1,7 @@
 -- The tokens of what is left.
 use Rattle.std.proofs.Common.{add-one, ◌≡◌, ◌∙◌, ◌+◌, ◌<◌, ◌≤◌, ℕ, zero, suc, Bool, true, false, List, [], ◌∷◌, length, drop, get_or, refl, sym, arith}
 use Rattle.std.proofs.lemmas.Bool.{ne_eqb, or_parts}
+use Rattle.std.specs.Prelude.{◌==◌}
 use Rattle.info65.specs.Words.{ended, found, is_blank, lexeme_at, opens_comment, semicolon, stops, tokens_after, tokens_of, with_token}
 
 -- the rest of a token is passed over
@@ -48,9 +49,9 @@ to_line_feed line (suc n) (b ∷ bs) low before here =
     in_comment_on line b bs (before 0 (omega arith))
     ∙ to_line_feed line n bs (omega (arith, low)) (λ k lt. before (suc k) (omega (arith, lt))) (λ lt. here (omega (arith, lt)))
 
-pub at_blank : (line b : ℕ) (bs : List ℕ) → (b ≡ 10 → ⊥) → is_blank b ≡ true → tokens_of line (b ∷ bs) ≡ tokens_of line bs
+pub at_blank : (line b : ℕ) (bs : List ℕ) → is_blank b ≡ true → tokens_of line (b ∷ bs) ≡ tokens_of line bs
 unfolding tokens_after
-at_blank line b bs isnt blank = rw (ne_eqb b 10 isnt, blank) refl
+at_blank line b bs blank = let other : b == 10 ≡ false = grind arith in rw (other, blank) refl
 
 pub at_comment : (line b : ℕ) (bs : List ℕ) → (b ≡ 10 → ⊥) → is_blank b ≡ false → opens_comment (b ∷ bs) ≡ true → tokens_of line (b ∷ bs) ≡ tokens_after 0 true line bs
 unfolding tokens_after

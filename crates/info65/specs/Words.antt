@@ -3,7 +3,7 @@ pub use Rattle.info65.specs.Types.{Address, Attribute, BadByte, BadInclude, BadN
 unfoldable pub use Rattle.info65.specs.Attributes.{attribute_named, boolean_named, form_of, group_named, type_named}
 pub use Rattle.info65.specs.Closing.{label_fault, optional_name_fault, range_fault, segment_fault}
 unfoldable pub use Rattle.info65.specs.Closing.{closing_fault}
-pub use Rattle.info65.specs.Code.Classes.{AreDigitsIn, bit_of}
+pub use Rattle.info65.specs.Code.Classes.{AreDigitsIn, begins_gap, bit_of}
 unfoldable pub use Rattle.info65.specs.Code.Classes.{classes_of}
 pub use Rattle.info65.specs.Code.Groups.{IsAtMost, MayClose, assigned_seen, assignment_seen, global_seen, group_seen, groups_seen, value_seen}
 pub use Rattle.info65.specs.Code.Includes.{Includes, ReadsFile, name_result_seen, named_seen, with_added}

@@ -1,5 +1,5 @@
 -- The classes of bytes, by a table.
-use Rattle.std.specs.Prelude.{◌≡◌, ℕ, get_or}
+use Rattle.std.specs.Prelude.{◌≡◌, ◌==◌, ◌||◌, ℕ, Bool, get_or}
 use Rattle.std.specs.Char.{is_digit}
 use Rattle.info65.specs.Lexemes.{in_class}
 use Rattle.info65.specs.Types.{CLASSES, Class}
@@ -15,6 +15,10 @@ bit_of class.Text = 8
 -- the classes of a byte
 unfoldable pub classes_of : ℕ → ℕ
 classes_of b = get_or CLASSES b 0
+
+-- a line feed, or what may begin a comment: `#` or `/`
+abbrev pub begins_gap : ℕ → Bool
+begins_gap b = b == 10 || (b == 35 || b == 47)
 
 -- the bytes of this class are the digits of this radix
 abbrev pub AreDigitsIn : Class → ℕ → Type 0

@@ -2,7 +2,7 @@
 
 ghost use Rattle.std.specs.Prelude.{◌≡◌, ◌+◌, ◌-◌, ◌<◌, ◌≤◌, IfOk, IfSome, get_or, length};
 ghost use Rattle.std.specs.List.{prefix_len};
-ghost use Rattle.info65.specs.Words.{AreDigitsIn, Sees, bit_of, character_at, classes_of, in_class, kind_seen, lexeme_at, lexeme_seen, number_in, starts_word, string_at, word_at};
+ghost use Rattle.info65.specs.Words.{AreDigitsIn, Sees, begins_gap, bit_of, character_at, classes_of, in_class, is_blank, kind_seen, lexeme_at, lexeme_seen, number_in, starts_word, string_at, word_at};
 ghost use Rattle.info65.specs.Lexemes.{mark, number_at};
 
 use crate::fault::{InfoFault, InfoFaultKind};
@@ -25,17 +25,18 @@ pub struct Lexeme<'a> {
     pub more: usize,
 }
 
-// The classes of each byte: 1 for a word, 2 and 4 for decimal and hexadecimal digits, 8 for a text.
+// The classes of each byte: 1 for a word, 2 and 4 for decimal and hexadecimal digits, 8 for a text, 16 for a blank, and
+// 32 for a byte that ends a line or may begin a comment.
 const CLASSES: [u8; 256] = [
-    0, 0, 0, 0, 0, 0, 0, 0, 0, 8, 0, 0, 0, 0, 0, 0, 0, 0, 0, 0, 0, 0, 0, 0, 0, 0, 0, 0, 0, 0, 0, 0,
-    8, 8, 0, 8, 8, 8, 8, 8, 8, 8, 8, 8, 8, 8, 8, 8, 15, 15, 15, 15, 15, 15, 15, 15, 15, 15, 8, 8,
-    8, 8, 8, 8, 8, 13, 13, 13, 13, 13, 13, 9, 9, 9, 9, 9, 9, 9, 9, 9, 9, 9, 9, 9, 9, 9, 9, 9, 9, 9,
-    9, 8, 8, 8, 8, 9, 8, 13, 13, 13, 13, 13, 13, 9, 9, 9, 9, 9, 9, 9, 9, 9, 9, 9, 9, 9, 9, 9, 9, 9,
-    9, 9, 9, 8, 8, 8, 8, 0, 8, 8, 8, 8, 8, 8, 8, 8, 8, 8, 8, 8, 8, 8, 8, 8, 8, 8, 8, 8, 8, 8, 8, 8,
+    0, 0, 0, 0, 0, 0, 0, 0, 0, 24, 32, 0, 0, 16, 0, 0, 0, 0, 0, 0, 0, 0, 0, 0, 0, 0, 0, 0, 0, 0, 0,
+    0, 24, 8, 0, 40, 8, 8, 8, 8, 8, 8, 8, 8, 8, 8, 8, 40, 15, 15, 15, 15, 15, 15, 15, 15, 15, 15,
+    8, 8, 8, 8, 8, 8, 8, 13, 13, 13, 13, 13, 13, 9, 9, 9, 9, 9, 9, 9, 9, 9, 9, 9, 9, 9, 9, 9, 9, 9,
+    9, 9, 9, 8, 8, 8, 8, 9, 8, 13, 13, 13, 13, 13, 13, 9, 9, 9, 9, 9, 9, 9, 9, 9, 9, 9, 9, 9, 9, 9,
+    9, 9, 9, 9, 9, 8, 8, 8, 8, 0, 8, 8, 8, 8, 8, 8, 8, 8, 8, 8, 8, 8, 8, 8, 8, 8, 8, 8, 8, 8, 8, 8,
     8, 8, 8, 8, 8, 8, 8, 8, 8, 8, 8, 8, 8, 8, 8, 8, 8, 8, 8, 8, 8, 8, 8, 8, 8, 8, 8, 8, 8, 8, 8, 8,
     8, 8, 8, 8, 8, 8, 8, 8, 8, 8, 8, 8, 8, 8, 8, 8, 8, 8, 8, 8, 8, 8, 8, 8, 8, 8, 8, 8, 8, 8, 8, 8,
     8, 8, 8, 8, 8, 8, 8, 8, 8, 8, 8, 8, 8, 8, 8, 8, 8, 8, 8, 8, 8, 8, 8, 8, 8, 8, 8, 8, 8, 8, 8, 8,
-    8, 8, 8, 8, 8, 8, 8, 8,
+    8, 8, 8, 8, 8, 8, 8, 8, 8, 8,
 ];
 
 // The bit of a class.
@@ -89,10 +90,29 @@ fn run_len(bytes: &[u8], class: Class) -> usize
     bytes.len()
 }
 
+#[tactic(auto, using(crate::proofs::ClassLemmas::start_told))]
 fn starts_word(byte: u8) -> bool
     ensures { result ≡ starts_word byte }
 {
-    byte.is_ascii_alphabetic() || byte == b'_'
+    classes_of(byte) % 4 == 1
+}
+
+/// The byte is a blank other than a line feed.
+#[tactic(auto, using(crate::proofs::ClassLemmas::blank_told))]
+#[inline(always)]
+pub fn is_blank(byte: u8) -> bool
+    ensures { result ≡ is_blank byte }
+{
+    classes_of(byte) / 16 % 2 == 1
+}
+
+/// The byte is a line feed, or it may begin a comment.
+#[tactic(auto, using(crate::proofs::ClassLemmas::gap_told))]
+#[inline(always)]
+pub fn begins_gap(byte: u8) -> bool
+    ensures { result ≡ begins_gap byte }
+{
+    classes_of(byte) / 32 == 1
 }
 
 fn mark<'a>(kind: TokenKind<'a>) -> Lexeme<'a>

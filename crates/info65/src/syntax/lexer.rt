@@ -1,10 +1,10 @@
 //! The tokens of an information file, one by one.
 
 ghost use Rattle.std.specs.Prelude.{◌≡◌, ◌+◌, ◌≤◌, ◌<◌, ◌^◌, ℕ, length, true};
-ghost use Rattle.info65.specs.Words.{is_blank, opens_comment, stops, tokens_after, tokens_of};
+ghost use Rattle.info65.specs.Words.{opens_comment, stops, tokens_after, tokens_of};
 
 use crate::fault::InfoFault;
-use crate::syntax::lexeme::lexeme_at;
+use crate::syntax::lexeme::{begins_gap, is_blank, lexeme_at};
 use crate::syntax::token::Token;
 use memchr::memchr;
 use std::marker::Model;
@@ -104,13 +104,6 @@ impl<'a> Lexer<'a> {
 }
 
 #[inline(always)]
-fn is_blank(byte: u8) -> bool
-    ensures { result ≡ is_blank byte }
-{
-    byte == b' ' || byte == b'\t' || byte == b'\r'
-}
-
-#[inline(always)]
 fn opens_comment(bytes: &[u8]) -> bool
     requires { 0 < length bytes.now }
     ensures { result ≡ opens_comment bytes.now }
@@ -144,10 +137,12 @@ fn after_blanks(bytes: &[u8], first_line: u32) -> (&[u8], u32)
     let mut rest = bytes;
     let mut line = first_line;
     'bytes: while let Some((byte, after)) = rest.split_first() {
-        if *byte == b'\n' {
-            line += 1;
+        if is_blank(*byte) {
             rest = after;
-        } else if is_blank(*byte) {
+        } else if !begins_gap(*byte) {
+            return (rest, line);
+        } else if *byte == b'\n' {
+            line += 1;
             rest = after;
         } else if opens_comment(rest) {
             rest = after_comment(after);
