@@ -1,12 +1,17 @@
 -- What the groups GLOBAL give, group by group.
-use Rattle.std.proofs.Common.{◌≡◌, ◌∙◌, ◌+◌, ◌<◌, ◌≤◌, ℕ, List, ◌∷◌, ap, drop, get_or, length, map, refl, sym}
+use Rattle.std.proofs.Common.{◌≡◌, ◌∙◌, ◌+◌, ◌<◌, ◌≤◌, ℕ, List, [], ◌∷◌, ◌++◌, ap, drop, get_or, length, map, refl, sym}
 use Rattle.std.specs.Prelude.{Option, Some, None, is_some, option_map}
 use Rattle.std.specs.List.{find}
 use Rattle.std.specs.Option.{option_or}
-use Rattle.std.proofs.lemmas.List.{at_drop_all, at_drop_more}
+use Rattle.std.proofs.lemmas.List.{at_drop_all, at_drop_more, map-append}
 use Rattle.std.proofs.lemmas.List.Folds.{find-append}
-use Rattle.info65.specs.Words.{AssignmentView, Attribute, Group, GroupView, Value, global_given, global_part, group_seen, has, is_of, value_in, value_seen}
+use Rattle.info65.specs.Words.{AssignmentView, Attribute, Group, GroupView, Value, assigned_seen, assignment_seen, global_given, global_part, group_seen, has, is_of, value_in, value_seen}
+use Rattle.info65.specs.Types.{Assignment}
 use Rattle.info65.proofs.Cases.{is_some_find, some_map}
+
+-- what is given with one more
+pub assigned_push : (given : List Assignment) (a : Assignment) → assigned_seen (given ++ a ∷ []) ≡ assigned_seen given ++ assignment_seen a ∷ []
+assigned_push given a = map-append assignment_seen given (a ∷ [])
 
 -- an attribute is given where it has a value
 pub has_value : (a : Attribute) (given : List AssignmentView) (o : Option Value) → option_map value_seen o ≡ value_in a given → is_some o ≡ has a given

@@ -1,7 +1,8 @@
 -- One token more, at each place.
 use Rattle.std.proofs.Common.{◌≡◌, ◌∙◌, ℕ, Bool, ◌&&◌, List, [], ◌∷◌, ◌++◌, true, false, refl, ap, inl, inr, sym}
-use Rattle.std.specs.Prelude.{Result, Ok, Err, Some, None}
+use Rattle.std.specs.Prelude.{Result, Ok, Err, Some, None, not}
 use Rattle.info65.specs.Words.{AssignmentView, Attribute, Expected, Fails, GroupKind, Grows, GroupView, InfoFault, KindView, Leads, OptionsView, Stage, Stream, TokenKind, TokenView, UnknownGroup, ValueView, after_group, assigned, at_attribute, at_brace, at_end, at_group, at_semicolon, attribute_at, closed, closed_by, closing_fault, ended, fault, finish, group_named, inside, is_semicolon, kind_seen, one, opened, opening, outside, place_after, read, read_from, read_token, refused, semicolon, step, valued, wanted, with_token, ◌>>=◌}
+use Rattle.info65.specs.Code.Steps.{Takes}
 use Rattle.info65.specs.Reader.{value_at}
 use Rattle.info65.specs.declared.syntax.token.TokenKind.TheVariants as kind
 
@@ -140,6 +141,11 @@ between_separator o false b t old new is on mark = cc
 pub between_group : (o : OptionsView) (after : Bool) (b : List GroupView) (t : TokenView) (old new : Stream) → old ≡ with_token t new → (after && is_semicolon t.kind) ≡ false → read o (place_after after) b old ≡ read_token o outside b t new
 between_group o true b t old new is other = read_next o closed b t old new is ∙ group_next o b t new other
 between_group o false b t old new is other = read_next o outside b t old new is
+
+-- the `;` after a group, if it comes next
+pub separated : (o : OptionsView) (b : List GroupView) (old new : Stream) (taken : Bool) → Takes semicolon old taken new → read o closed b old ≡ read o (place_after (not taken)) b new
+separated o b old new true took = read_next o closed b took.0 old new took.2 ∙ semicolon_passed o b took.0 new (ap is_semicolon took.1)
+separated o b old new false same = ap (λ (s : Stream). read o closed b s) (sym same)
 
 -- a refusal of what is the same
 pub fails_along : {A : Type 0} {r s : Result A InfoFault} {e : InfoFault} → r ≡ s → Fails e s → Fails e r

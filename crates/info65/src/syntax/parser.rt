@@ -1,7 +1,7 @@
 //! The groups of an information file, token by token.
 
 ghost use Rattle.std.specs.Prelude.{◌≡◌, ◌≤◌, ◌∷◌, ◌++◌, IfErr, IfOk, List, [], length};
-ghost use Rattle.info65.specs.Words.{Advances, AssignmentView, Attribute, Expected, Gives, GroupKind, GroupView, Leads, Moves, ReadsGroup, Sees, TakesToken, Word, assigned, assigned_seen, assignment_seen, attribute_at, fault, groups_of, inside, is_semicolon, kind_seen, one, opening, outside, read, read_token, seen, value_seen, valued, wanted, with_token};
+ghost use Rattle.info65.specs.Words.{Advances, AssignmentView, Attribute, Expected, Gives, GroupKind, GroupView, Grows, Moves, ReadsGroup, Sees, TakesToken, Word, assigned, assigned_seen, attribute_at, fault, groups_of, inside, is_semicolon, kind_seen, one, opening, outside, read, read_token, seen, value_seen, valued, wanted, with_token};
 ghost use Rattle.info65.specs.Reader.{value_at};
 
 use crate::fault::{InfoFault, InfoFaultKind};
@@ -38,7 +38,7 @@ pub fn read_groups<'a, A: Allocator + Copy, B: Allocator>(
                     after_group = false;
                 } else {
                     spare = group(alloc, options, &mut lexer, &mut groups, token, spare)?;
-                    after_group = true;
+                    after_group = !lexer.takes_semicolon();
                 }
             }
         }
@@ -189,32 +189,33 @@ fn attributes<'a, A: Allocator + Copy, B: Allocator>(
         match name.kind {
             TokenKind::CloseBrace => return groups.close(alloc, kind, given, name.line),
             TokenKind::Word => {
-                let next = attribute(options, lexer, groups, kind, given.as_slice(), name)?;
-                given.push(next)?;
+                attribute(options, lexer, groups, kind, &mut given, name)?;
             }
             _ => return Err(expected(name.line)),
         }
     }
 }
 
-// An attribute, of which this word is the name, its value and the `;` after it.
+// Adds an attribute to what is given, of which this word is the name, with its value and the `;` after it.
+#[tactic(auto, using(crate::proofs::GroupLemmas::assigned_push))]
 fn attribute<'a, A: Allocator + Copy, B: Allocator>(
     options: &Options<B>,
     lexer: &mut Lexer<'a>,
     before: &Closed<'a, A>,
     kind: GroupKind,
-    given: &[Assignment<'a>],
+    given: &mut Vec<Assignment<'a>, A>,
     name: Token<'a>,
-) -> Result<Assignment<'a>, InfoFault>
+) -> Result<(), InfoFault>
     requires { name.kind ≡ Word }
-    ensures read { Leads (read_token options.now (inside kind (assigned_seen given.now)) before.now (seen name.entry) lexer.old) result
-        (λ g. read options.now (inside kind (assigned_seen given.now ++ assignment_seen g ∷ [])) before.now lexer.new) }
+    ensures read { Grows (read_token options.now (inside kind (assigned_seen given.old.items)) before.now (seen name.entry) lexer.old) result
+        (λ _. read options.now (inside kind (assigned_seen given.new.items)) before.now lexer.new) }
     ensures shorter { length lexer.new.tokens ≤ length lexer.old.tokens }
 {
-    let attribute = attribute_name(before, kind, given, name)?;
+    let attribute = attribute_name(before, kind, given.as_slice(), name)?;
     let value = value(options, lexer, before, attribute)?;
     separator(lexer)?;
-    Ok(Assignment { attribute, value })
+    given.push(Assignment { attribute, value })?;
+    Ok(())
 }
 
 #[tactic(auto, using(crate::proofs::ReaderLemmas::attribute_read))]

@@ -2,7 +2,7 @@ use Rattle.std.proofs.Common.{◌&&◌, ◌≡◌, ◌∙◌, ap, false, inl, sy
 use Rattle.std.proofs.lemmas.Result.{err_from_is_err_and}
 use Rattle.info65.specs.Words.{groups_of, is_semicolon, kind_seen, place_after, read, tokens_of}
 use Rattle.std.proofs.lemmas.Bool.{and_left, and_right}
-use Rattle.info65.proofs.ReaderLemmas.{between_end, between_fault, between_group, between_separator, fails_along}
+use Rattle.info65.proofs.ReaderLemmas.{between_end, between_fault, between_group, between_separator, fails_along, separated}
 use Rattle.info65.proofs.syntax.parser.read_groups.Goals as goal
 use Rattle.info65.proofs.syntax.parser.read_groups.Goals.{else-after_group-via-then-after_group+else-is_semicolon, else-after_group-via-else-after_group}
 use Rattle.info65.proofs.Cases.{same_ok}
@@ -41,4 +41,4 @@ groups-preserved g c =
     let at = rw c.in-Token.is at c.in_ok-next.ensures in
     let mark = is_semicolon (kind_seen c.in-Token.token.kind) in
     let other : (c.groups.after_group && mark) ≡ false = elim c.else-after_group.branch [ else-after_group-via-then-after_group+else-is_semicolon w ↦ and_right c.groups.after_group mark (sym w.is_semicolon.ensures ∙ w.if-is_semicolon.false) | else-after_group-via-else-after_group w ↦ and_left c.groups.after_group mark w.if-after_group.false ] in
-    sym c.in_ok-spare-in-Token.ensures.read ∙ sym (between_group c.args.options.now c.groups.after_group c.groups.groups _ _ _ at other) ∙ c.groups.invariant
+    sym (separated c.args.options.now _ _ _ c.takes_semicolon-after_group.result c.takes_semicolon-after_group.ensures) ∙ sym c.in_ok-spare-in-Token.ensures.read ∙ sym (between_group c.args.options.now c.groups.after_group c.groups.groups _ _ _ at other) ∙ c.groups.invariant
