@@ -1,10 +1,10 @@
 -- The names of an accepted file: what holds of those that its groups say, and of all of them by address.
-use Rattle.std.proofs.Common.{◌≡◌, ◌≢◌, ◌∙◌, ◌≤◌, ◌<◌, ◌+◌, ◌*◌, ◌/◌, ℕ, zero, suc, Bool, List, [], ◌∷◌, ◌++◌, true, ⊎_elim, ap, ap₂, append_assoc, arith, get_or, length, map, option_map, refl, subst, sym}
+use Rattle.std.proofs.Common.{◌≡◌, ◌≢◌, ◌∙◌, ◌≤◌, ◌<◌, ◌+◌, ◌-◌, ◌*◌, ℕ, zero, suc, Bool, List, [], ◌∷◌, ◌++◌, true, ⊎_elim, ap, ap₂, append_assoc, arith, get_or, length, map, option_map, refl, subst, sym}
 use Rattle.std.specs.Prelude.{All, AllPairs, IfSome, Option, Some, None, Ok, option_to_list, is_some, ◌↔◌}
 use Rattle.std.specs.List.{Contains, find}
 use Rattle.std.specs.Option.{unwrap_or}
 use Rattle.std.proofs.lemmas.Bool.Decides.{eqb_tells, nat_tests}
-use Rattle.std.proofs.lemmas.List.{append-nil, get_or_default}
+use Rattle.std.proofs.lemmas.List.{append-nil, get_or_default, get_or_past}
 use Rattle.std.proofs.lemmas.List.Elements.{All-cons, All-push, Contains-append_right}
 use Rattle.std.proofs.lemmas.List.Folds.{list_any_at}
 use Rattle.std.proofs.lemmas.List.Kept.{AllPairs-cons}
@@ -97,16 +97,17 @@ names_next items numbers a o i is = grind (arith, names_last, found_is)
 pub number_here : (numbers : List NumbersView) (p k : ℕ) → k < 256 → number_at numbers (p * 256 + k) ≡ get_or (get_or numbers p blank_page).cells k 0
 number_here numbers p k low = rw (div-mul-add p 256 k low, mod-mul-add p 256 k low) refl
 
--- a page without a number adds none
-pub page_passed : (items : List Given) (numbers : List NumbersView) (p : ℕ) → ((a : ℕ) → a / 256 ≡ p → number_at numbers a ≡ 0)
+-- the addresses of a page after those that have a number add none
+pub page_rest : (items : List Given) (numbers : List NumbersView) (p k : ℕ) → length (get_or numbers p blank_page).cells ≤ k → k ≤ 256
     → ((a : ℕ) → IsFoundAt (map given_seen items) numbers a)
-    → names_from (named_at (map given_seen items)) 0 ((p + 1) * 256) ≡ names_from (named_at (map given_seen items)) 0 (p * 256)
-page_passed items numbers p none found =
-    let e : (p + 1) * 256 ≡ p * 256 + 256 = omega arith in
-    rw e (names_passed (named_at (map given_seen items)) (p * 256) 256
-    (λ b low high.
-    let page : b / 256 ≡ p = omega (arith, low, high) in
-    sym (found b).is ∙ ap (numbered (map given_seen items)) (none b page)))
+    → names_from (named_at (map given_seen items)) 0 ((p + 1) * 256) ≡ names_from (named_at (map given_seen items)) 0 (p * 256 + k)
+page_rest items numbers p k past low found =
+    let e : (p + 1) * 256 ≡ p * 256 + k + (256 - k) = omega arith in
+    rw e (names_passed (named_at (map given_seen items)) (p * 256 + k) (256 - k)
+    (λ b from to.
+    let page : b ≡ p * 256 + (b - p * 256) = omega (arith, from) in
+    let none : number_at numbers b ≡ 0 = ap (number_at numbers) page ∙ number_here numbers p (b - p * 256) (omega (arith, from, to)) ∙ get_or_past (get_or numbers p blank_page).cells (b - p * 256) 0 (omega (arith, from, past)) in
+    sym (found b).is ∙ ap (numbered (map given_seen items)) none))
 
 -- ---- what holds of the names that groups say
 

@@ -7,7 +7,7 @@ use crate::fault::{InfoFault, InfoFaultKind};
 use crate::information::name::Given;
 use crate::information::pool::NamePool;
 use crate::lookup::numbers::narrow;
-use crate::lookup::pages::{PAGE, PAGES, Pages};
+use crate::lookup::pages::{PAGES, Pages};
 use crate::lookup::texts::Texts;
 use crate::syntax::names::is_reserved;
 use std::alloc::Allocator;
@@ -201,7 +201,7 @@ impl<'a, A: Allocator + Copy> Index<'a, A> {
     }
 }
 
-// The names by address, in a pool. Pages without a name are passed over.
+// The names by address, in a pool. Pages without a name have no numbers.
 fn pooled<A: Allocator + Copy>(
     alloc: A,
     names: &[Given],
@@ -212,11 +212,8 @@ fn pooled<A: Allocator + Copy>(
 {
     let mut pool = NamePool::new(alloc);
     for page in 0..PAGES {
-        let Some(cells) = numbers.page(page) else {
-            continue;
-        };
-        for place in 0..PAGE {
-            let Some(name) = numbered(names, cells.at(place)) else {
+        for number in numbers.page(page) {
+            let Some(name) = numbered(names, *number as usize) else {
                 continue;
             };
             pool.add(name)?;

@@ -1,6 +1,6 @@
 //! Rows of numbers that are allocated when the first of them is set.
 
-ghost use Rattle.std.specs.Prelude.{◌≡◌, ◌<◌, ◌≤◌, ℕ, IfErr, IfOk, OnOk, get_or, length};
+ghost use Rattle.std.specs.Prelude.{◌≡◌, ◌<◌, ◌≤◌, ℕ, IfErr, IfOk, OnOk, get_or, length, max};
 ghost use Rattle.info65.specs.Words.{out_of_memory};
 
 use crate::fault::InfoFault;
@@ -22,6 +22,7 @@ pub fn narrow(number: usize) -> Result<u32, InfoFault>
 // Adds cells of 0 where there are fewer than that many.
 fn fill_up<A: Allocator>(cells: &mut Vec<u32, A>, count: usize) -> Result<(), InfoFault>
     ensures size { OnOk result (count ≤ length cells.new.items) }
+    ensures bound { length cells.new.items ≤ max (length cells.old.items) count }
     ensures same { (k : ℕ) → get_or cells.new.items k 0 ≡ get_or cells.old.items k 0 }
     ensures err { IfErr result (λ e. e ≡ out_of_memory) }
 {
@@ -41,18 +42,18 @@ pub struct Numbers<A: Allocator> {
 }
 
 impl<A: Allocator> Model for Numbers<A> {
-    ghost use Rattle.std.specs.Prelude.{◌<◌};
+    ghost use Rattle.std.specs.Prelude.{◌<◌, ◌≤◌, length};
     ghost use Rattle.info65.specs.Code.Numbers.{NumbersView};
 
     ghost Value = { NumbersView };
 
     ghost view = { λ n. record { count = n.count; cells = n.cells.items } };
 
-    ghost invariant = { λ n. 0 < n.count };
+    ghost invariant = { λ n. (0 < n.count) × (length n.cells.items ≤ n.count) };
 }
 
 impl<A: Allocator> Numbers<A> {
-    ghost use Rattle.std.specs.Prelude.{◌≡◌, ◌<◌, ◌≤◌, ℕ, [], IfErr, IsTrue, OnOk, get_or, length};
+    ghost use Rattle.std.specs.Prelude.{◌≡◌, ◌<◌, ◌≤◌, ℕ, [], IfErr, OnOk, get_or, length};
     ghost use Rattle.info65.specs.Words.{IsSet, out_of_memory};
 
     /// So many numbers, each of which is 0. Allocates nothing.
@@ -85,11 +86,12 @@ impl<A: Allocator> Numbers<A> {
         }
     }
 
-    /// Whether none is set: the row takes no memory.
-    pub fn is_blank(&self) -> bool
-        ensures { IsTrue result → self.now.cells ≡ [] }
+    /// The numbers, or none where none is set.
+    pub fn cells(&self) -> &[u32]
+        ensures value { result.now ≡ self.now.cells }
+        ensures bound { length result.now ≤ self.now.count }
     {
-        self.cells.is_empty()
+        self.cells.as_slice()
     }
 
     /// Allocates the row, if that was not done before.

@@ -12,7 +12,7 @@ use std::marker::Model;
 pub const PAGES: usize = 256;
 
 /// How many addresses a page has.
-pub const PAGE: usize = 256;
+const PAGE: usize = 256;
 
 /// A number for each address, which is 0 at first. The names of most files lie in few pages.
 #[derive(Drop)]
@@ -50,7 +50,7 @@ fn add_pages<A: Allocator + Copy>(
 }
 
 impl<A: Allocator + Copy> Pages<A> {
-    ghost use Rattle.std.specs.Prelude.{◌≡◌, ◌==◌, ◌/◌, ℕ, [], IfErr, IfNone, IfSome, OnOk, get_or, if◌then◌else◌};
+    ghost use Rattle.std.specs.Prelude.{◌≡◌, ◌==◌, ◌≤◌, ℕ, [], IfErr, OnOk, get_or, if◌then◌else◌, length};
     ghost use Rattle.info65.specs.Code.Numbers.{HasCell, blank_page, number_at};
     ghost use Rattle.info65.specs.Faults.{out_of_memory};
 
@@ -73,20 +73,14 @@ impl<A: Allocator + Copy> Pages<A> {
         }
     }
 
-    /// The numbers of a page, if one of its addresses may have one.
-    pub fn page(&self, page: usize) -> Option<&Numbers<A>>
-        ensures some { IfSome result (λ n. n.now ≡ get_or self.now page blank_page) }
-        ensures none { IfNone result ((a : ℕ) → a / 256 ≡ page → number_at self.now a ≡ 0) }
+    /// The numbers of a page, or none where none of its addresses has one.
+    pub fn page(&self, page: usize) -> &[u32]
+        ensures numbers { result.now ≡ (get_or self.now page blank_page).cells }
+        ensures bound { length result.now ≤ 256 }
     {
         match self.pages.get(page) {
-            Some(numbers) => {
-                if numbers.is_blank() {
-                    None
-                } else {
-                    Some(numbers)
-                }
-            }
-            None => None,
+            Some(numbers) => numbers.cells(),
+            None => &[],
         }
     }
 

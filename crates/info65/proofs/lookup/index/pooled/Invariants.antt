@@ -5,5 +5,5 @@ use Rattle.info65.proofs.lookup.index.pooled.Given as goal
 abbrev pub invariant-loop-page : goal.invariant-loop-page
 invariant-loop-page g l = l.pool ≡ names_from (named_at (map given_seen l.names)) 0 (l.page * 256)
 
-abbrev pub invariant-loop-place : goal.invariant-loop-place
-invariant-loop-place g l = l.pool ≡ names_from (named_at (map given_seen l.names)) 0 (l.page * 256 + l.place)
+abbrev pub invariant-loop-number : goal.invariant-loop-number
+invariant-loop-number g l = l.pool ≡ names_from (named_at (map given_seen l.names)) 0 (l.page * 256 + l.number-index)
