@@ -49,15 +49,16 @@ impl<A: Allocator> Model for NamePool<A> {
 }
 
 impl<A: Allocator + Copy> NamePool<A> {
-    ghost use Rattle.std.specs.Prelude.{◌≡◌, []};
+    ghost use Rattle.std.specs.Prelude.{Ok, []};
+    ghost use Rattle.info65.specs.Words.{Gives};
 
-    /// No names.
-    pub(crate) fn new(alloc: A) -> Self
-        ensures { result ≡ [] }
+    /// No names, with room for so many.
+    pub(crate) fn with_room(alloc: A, names: usize) -> Result<Self, InfoFault>
+        ensures { Gives (λ p. p) result (Ok []) }
     {
-        let entries = Vec::new(alloc);
+        let entries = Vec::with_capacity(alloc, names)?;
         let bytes = Vec::new(alloc);
-        NamePool { entries, bytes }
+        Ok(NamePool { entries, bytes })
     }
 }
 

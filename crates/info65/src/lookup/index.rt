@@ -210,7 +210,7 @@ fn pooled<A: Allocator + Copy>(
     requires { (a : ℕ) → IsFoundAt (map given_seen names.now) numbers.now a }
     ensures { Gives (λ p. p) result (Ok (by_address (map given_seen names.now))) }
 {
-    let mut pool = NamePool::new(alloc);
+    let mut pool = NamePool::with_room(alloc, names.len())?;
     for page in 0..PAGES {
         for number in numbers.page(page) {
             let Some(name) = numbered(names, *number as usize) else {

@@ -2,12 +2,13 @@ use Rattle.std.proofs.Common.{◌≡◌, ◌∙◌, ◌*◌, ◌+◌, ◌++◌, 
 use Rattle.std.specs.Prelude.{List, None, Ok, Some, get_or}
 use Rattle.std.proofs.lemmas.List.{append-nil}
 use Rattle.info65.specs.Words.{NameView, by_address, given_seen, named_at, names_from, numbered}
+use Rattle.info65.proofs.Cases.{same_ok}
 use Rattle.info65.proofs.NamesLemmas.{names_next, number_here, page_rest}
 use Rattle.info65.proofs.lookup.index.pooled.Goals as goal
 
 pub loop-page-init : goal.loop-page-init
 unfolding names_from
-loop-page-init g c = c.new-pool.ensures
+loop-page-init g c = sym (same_ok c.in_ok-pool.ensures)
 
 pub loop-number-preserved-in_default : goal.loop-number-preserved-in_default
 loop-number-preserved-in_default g c =
