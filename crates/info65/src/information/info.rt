@@ -211,7 +211,9 @@ fn said_again<A: Allocator + Copy, B: Allocator>(
 /// groups that keep every condition; else it is refused for the first fault from left to right, with that fault's line.
 /// A file of more than 1,048,576 bytes is TooLarge at line 1. It returns Memory at line 0 only if an allocation failed.
 /// The time grows with the size of the file: no group is read again at a closing brace.
+// The reader is large: a program that calls it in several places has it once.
 #[tactic(auto, unfolding(crate::specs::Reader::information))]
+#[inline(never)]
 pub fn read_info<A: Allocator + Copy, B: Allocator>(
     alloc: A,
     options: &Options<B>,
