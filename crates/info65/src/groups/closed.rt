@@ -110,7 +110,8 @@ impl<'a, A: Allocator + Copy> Closed<'a, A> {
         let kept = Vec::new(alloc);
         let ranges = Vec::new(alloc);
         let ranged = Vec::new(alloc);
-        let names = Index::new(alloc, bytes);
+        // Beside its name a group has more bytes than a line of an include file, so fewer slots do.
+        let names = Index::new(alloc, bytes / 2);
         let segmented = Vec::new(alloc);
         Ok(Closed {
             groups,

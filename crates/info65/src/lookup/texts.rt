@@ -14,7 +14,7 @@ const FEWEST: usize = 16;
 const MOST: usize = 0x10_0000;
 
 // A name and what else a file says of it have some ten times as many bytes, so few names share a slot.
-const BYTES_OF_A_SLOT: usize = 3;
+const BYTES_OF_A_SLOT: usize = 2;
 
 /// Where names are found by their texts. The slot of a text is found by a hash of its bytes, and the first name whose
 /// text has a slot takes it. The names whose slot was taken before them stand in a tree, so names that share a slot on
