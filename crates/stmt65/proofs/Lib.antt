@@ -32,5 +32,4 @@ mod TextLemmas
 mod AddressLemmas
 mod RepairLaw
 mod ModeLemmas
-mod FaultLemmas
 pub mod Public

@@ -31,7 +31,6 @@ pub mod Answer
 pub mod TextLaws
 pub mod LineAddresses
 pub mod ModeLaws
-pub mod FaultLaws
 pub mod Sources
 pub mod Code
 pub mod Types
