@@ -8,7 +8,7 @@ use Rattle.std.proofs.lemmas.Bool.{leb-false, leb-true}
 use Rattle.stmt65.specs.Words.{AsmFault, Definition, FindsLine, GivesByte, IsFaultless, Language, Layout, Line, SourceLine, State, address_after, after, bytes_of, fault_of, held, held_after, initial, line_addresses, line_bytes, line_past, lines_below, lines_of, meaning_in, names_of, parts, reading_of, readings}
 use Rattle.text65.specs.Lines.{text_lines}
 use Rattle.stmt65.proofs.Cases.{by_test}
-use Rattle.stmt65.proofs.HeldLemmas.{after-held, held_state, initial-held, none_fits, small_same}
+use Rattle.stmt65.proofs.HeldLemmas.{after-held, held_state, initial-held, none_past}
 use Rattle.stmt65.proofs.TextLemmas.{at-after, means_bytes}
 
 -- ---- the addresses as the code holds them
@@ -41,7 +41,7 @@ found_lines l layout start s whole text found small h e =
 address-exact : (all : List Definition) (s : State) (l : Option SourceLine) → fault_of all s l ≡ None → held (after s l).at ≡ (after s l).at
 unfolding after fault_of
 address-exact all s None e = absurd cc
-address-exact all s (Some source) e = small_same _ 65536 (omega arith) (none_fits all s source (sym e)).past
+address-exact all s (Some source) e = none_past all s source (sym e)
 
 addresses-exact : (all : List Definition) (s : State) (ls : List (Option SourceLine)) → All (IsFaultless all) (lines_below s ls) → map held (map address_after (lines_below s ls)) ≡ map address_after (lines_below s ls)
 unfolding lines_below

@@ -137,7 +137,7 @@ text_put all next bs old new e = record {
 pub nothing_put : (all : List Definition) (next : ℕ) (fit : Fit) (old : List ℕ) → fit.is_known ≡ true → fit.has_room ≡ true → PutsAll fit all next [] old old
 nothing_put all next fit old known room = grind (arith, append-nil, take-length)
 
-front_kept : {A : Type 0} (old mid new : List A) → take (length old) mid ≡ old → take (length mid) new ≡ mid → take (length old) new ≡ old
+pub front_kept : {A : Type 0} (old mid new : List A) → take (length old) mid ≡ old → take (length mid) new ≡ mid → take (length old) new ≡ old
 front_kept [] mid new h g = refl
 front_kept (x ∷ old) [] new h g = absurd cc
 front_kept (x ∷ old) (y ∷ mid) [] h g = absurd cc

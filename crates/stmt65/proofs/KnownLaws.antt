@@ -4,7 +4,7 @@ use Rattle.std.specs.Prelude.{Ok}
 use Rattle.std.proofs.Math.Seq.{take-length}
 use Rattle.text65.specs.Lines.{text_lines}
 use Rattle.stmt65.specs.Words.{Definition, Follows, Source, SourceLine, State, held_coded, held_final, parts, reading_of, readings, source_meaning, source_readings, source_state, with_front}
-use Rattle.stmt65.proofs.HeldLemmas.{meaning_held}
+use Rattle.stmt65.proofs.HeldLemmas.{definitions_held, meaning_held}
 use Rattle.stmt65.proofs.PassLaws.{front-end, front-front, front-nil}
 use Rattle.std.proofs.Common.{arith}
 
@@ -30,6 +30,6 @@ known_next source all s below text line rest old new said h e r f = grind (arith
 pub known_end : {L : Type 0} (source : Source L) (all : List Definition) (n : ℕ) (s : State) (text out : List ℕ) → source.start < 65536 → Known source all s text out → text_lines text ≡ []
     → s.above ≡ take n all → n ≡ length all → source_meaning source ≡ Ok out
 unfolding held_final held_coded
-known_end source all n s text out small h e above count = grind (arith, take-length, meaning_held, front-end)
+known_end source all n s text out small h e above count = grind (arith, take-length, definitions_held, meaning_held, front-end)
 
 pub ruleset knows = (known_start, known_next)

@@ -25,6 +25,7 @@ mod MeaningRows
 mod SymbolLaws
 mod CodingLemmas
 mod CutLemmas
+mod NameLemmas
 mod HeldLemmas
 mod PassLaws
 mod KnownLaws

@@ -9,7 +9,7 @@ pub use Rattle.stmt65.specs.declared.assembling.fault.AsmFaultKind.{AsmFaultKind
 pub use Rattle.stmt65.specs.declared.assembling.fault.AsmFaultKind.TheVariants.{DefinedTwice, Memory, NoSuchForm, OutOfRange, PastEnd, PastStart, Syntax, Undefined, UnknownCpu}
 pub use Rattle.stmt65.specs.declared.assembling.late.Late.{Late}
 pub use Rattle.stmt65.specs.declared.assembling.late.Work.{Work}
-pub use Rattle.stmt65.specs.declared.assembling.state.Placed.{Placed}
+pub use Rattle.stmt65.specs.declared.assembling.placed.Placed.{Placed}
 pub use Rattle.stmt65.specs.declared.directive.Directive.{Directive}
 pub use Rattle.stmt65.specs.declared.directive.Directive.TheVariants.{Addr, Dbyt, Dword}
 pub use Rattle.stmt65.specs.declared.directive.TheConstants.{ALL}

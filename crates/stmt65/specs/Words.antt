@@ -1,16 +1,16 @@
 -- The words of clauses and proofs, here and in the crates above, from one place.
-pub use Rattle.stmt65.specs.Types.{ALL, Abs, Absindx, AbsoluteX, AbsoluteY, Absx, Absy, Acc, Addr, AddressSize, All, AllDigits, Asl, AsmFault, AsmFaultKind, Automatic, BigEndian, ByteOrder, Coded, Columns, Cpu, Dbyt, Decides, DefinedTwice, Direct, DirectX, DirectY, Directive, Dword, Err, Extends, Fit, High, IfSome, Imm, Immediate, Imp, Inc, Ind, Indirect, IndirectX, IndirectY, Indx, Indy, IsSome, Language, Late, List, Listing, LittleEndian, Low, M6502, MatchOption, Minus, Mnemonic, Mode, NoSuchForm, None, Ok, OnFalse, OnTrue, OperandKind, Option, OutOfRange, PastEnd, PastStart, Pattern, Placed, Plain, Rel, Repair, Result, Ror, Row, Some, Syntax, Undefined, UnknownCpu, Work, Zero, Zp, Zpind, Zprel, Zpx, Zpy, [], array_vec_len, bytes_eq, codes, cpu_text, decimal, digit_value, digits4, digits_value, digits_value_after, drop, encoded, false, filter, flat_map, get_or, hex_digit, is_ascii_alphabetic, is_ascii_digit, is_ascii_hexdigit, is_blank, is_some, is_word_byte, len_of, length, list_all, list_any, map, max, min, nat_lt, not, option_copied, option_map, prefix_len, replicate, reverse, row_of, row_text, slice_get, slice_index, str_to_ascii_lowercase, table_of, take, text_of, true, written, zero_page_of, zero_page_row}
+pub use Rattle.stmt65.specs.Types.{ALL, Abs, Absindx, AbsoluteX, AbsoluteY, Absx, Absy, Acc, Addr, AddressSize, All, AllDigits, Asl, AsmFault, AsmFaultKind, Automatic, BigEndian, ByteOrder, Coded, Columns, Cpu, Dbyt, Decides, DefinedTwice, Direct, DirectX, DirectY, Directive, Dword, Err, Extends, Fit, High, IfSome, Imm, Immediate, Imp, Inc, Ind, Indirect, IndirectX, IndirectY, Indx, Indy, IsSome, Language, Late, List, Listing, LittleEndian, Low, M6502, MatchOption, Minus, Mnemonic, Mode, NoSuchForm, None, Ok, OnFalse, OnTrue, OperandKind, Option, OutOfRange, PastEnd, PastStart, Pattern, Plain, Rel, Repair, Result, Ror, Row, Some, Syntax, Undefined, UnknownCpu, Work, Zero, Zp, Zpind, Zprel, Zpx, Zpy, [], array_vec_len, bytes_eq, codes, cpu_text, decimal, digit_value, digits4, digits_value, digits_value_after, drop, encoded, false, filter, flat_map, get_or, hex_digit, is_ascii_alphabetic, is_ascii_digit, is_ascii_hexdigit, is_blank, is_some, is_word_byte, len_of, length, list_all, list_any, map, max, min, nat_lt, not, option_copied, option_map, prefix_len, replicate, reverse, row_of, row_text, slice_get, slice_index, str_to_ascii_lowercase, table_of, take, text_of, true, written, zero_page_of, zero_page_row}
 unfoldable pub use Rattle.stmt65.specs.Types.{cpu_named, has_name_form, is_reserved_word, mnemonic_named, text_lines}
 pub use Rattle.stmt65.specs.Answer.{Assembles, IsExplained, out_of_memory}
-pub use Rattle.stmt65.specs.Code.CodingViews.{Adds, AddsOne, Emits, IsFirstOf, IsFirstWay, IsFit, Puts, PutsAll, coded_of, data_fragments, entry_fragments, fragment_of, instruction_of, operand_of}
+pub use Rattle.stmt65.specs.Code.CodingViews.{Adds, AddsOne, Emits, IsFirstOf, IsFirstWay, Puts, PutsAll, coded_of, data_fragments, entry_fragments, fragment_of, instruction_of, operand_of}
 pub use Rattle.stmt65.specs.Code.Found.{Gives, GivesIfOk, Reads}
-pub use Rattle.stmt65.specs.Code.Held.{held, held_value}
-pub use Rattle.stmt65.specs.Code.LateViews.{Codes, Follows, GoesOn, IsFaulty, IsIdle, IsLeft, IsOf, IsPassed, IsSound, Keeps, PassesOver, Settles, Takes, late_state, said_of, state_in, work_of}
-unfoldable pub use Rattle.stmt65.specs.Code.LateViews.{coded_late, fronts, held_coded}
+pub use Rattle.stmt65.specs.Code.Held.{capped, held}
+pub use Rattle.stmt65.specs.Code.LateViews.{AreFirstOf, Codes, Follows, GoesOn, IsFaulty, IsIdle, IsLeft, IsOf, IsPassed, IsSound, Keeps, PassesOver, Settles, Takes, late_line, said_of, state_in, work_of}
+unfoldable pub use Rattle.stmt65.specs.Code.LateViews.{coded_late, fronts}
 pub use Rattle.stmt65.specs.Code.LineEnds.{ends_left}
 pub use Rattle.stmt65.specs.Code.LineViews.{Lists, Prints, len_with}
-pub use Rattle.stmt65.specs.Code.MeaningViews.{IsCoding, IsPlaced, defined_in, definitions_in, fragments_in, held_definition, held_definitions, line_operation, state_of}
-unfoldable pub use Rattle.stmt65.specs.Code.MeaningViews.{held_after, held_final}
+pub use Rattle.stmt65.specs.Code.MeaningViews.{IsCoding, Place, below_place, definitions_in, fault_by, fragments_at, fragments_in, held_definition, held_definitions, is_named_in, line_in, line_operation, line_then, place_of, state_of}
+unfoldable pub use Rattle.stmt65.specs.Code.MeaningViews.{bytes_at, fault_at, held_after, held_coded, held_final, place_in}
 pub use Rattle.stmt65.specs.Code.PartViews.{cut_by, part_of}
 pub use Rattle.stmt65.specs.Code.SourceLineViews.{datum_of, numeral_of, source_of, value_of}
 pub use Rattle.stmt65.specs.Code.StatementViews.{expr_seen, in_hex, operands_seen, remarks_seen, statement_seen, target_seen}

@@ -13,6 +13,7 @@ pub(crate) mod late;
 pub(crate) mod layout;
 pub(crate) mod line_ends;
 mod line_faults;
+mod placed;
 mod state;
 pub(crate) mod symbols;
 mod values;

@@ -8,24 +8,19 @@ use Rattle.stmt65.specs.SourceLine.{SourceLine}
 use Rattle.stmt65.specs.Symbols.{Definition}
 use Rattle.stmt65.specs.Layout.{Layout}
 use Rattle.stmt65.specs.Coding.{State}
-use Rattle.stmt65.specs.Meaning.{bytes_of, fault_of, unless, with_front}
-use Rattle.stmt65.specs.Sources.{source_readings, source_state}
+use Rattle.stmt65.specs.Meaning.{with_front}
+use Rattle.stmt65.specs.Sources.{source_definitions, source_meaning}
 use Rattle.stmt65.specs.Code.SourceLineViews.{source_of}
-use Rattle.stmt65.specs.Code.MeaningViews.{held_after, held_final, state_of}
+use Rattle.stmt65.specs.Code.MeaningViews.{Place, bytes_at, fault_at, held_after, held_definitions, line_in, line_then, place_in, state_of}
 
--- a line in its state: its bytes are added, or its fault is found
-pub record Codes (fault : Option AsmFaultKind) (all : List Definition) (s : State) (line : Option SourceLine) (old new : List ℕ) : Type 0 where
-  pub finds : fault ≡ fault_of all s line
-  pub adds : IfNone fault (new ≡ old ++ bytes_of all s line)
-
--- the bytes of the lines from the n-th on, or the first fault, as the code holds what stands above each
-unfoldable pub held_coded : List Definition → ℕ → State → List (Option SourceLine) → Result (List ℕ) AsmFault
-held_coded all n s [] = Ok []
-held_coded all n s (l ∷ ls) = unless n (fault_of all s l) (with_front (bytes_of all s l) (held_coded all (n + 1) (held_after s l) ls))
+-- the fault of a line is found, or its bytes are added
+pub record Codes (fault : Option AsmFaultKind) (all : List Definition) (line : Option Place) (old new : List ℕ) : Type 0 where
+  pub finds : fault ≡ fault_at all line
+  pub adds : IfNone fault (new ≡ old ++ bytes_at all line)
 
 -- a line whose bytes are added without a fault, and the state below it
 pub record Follows (all : List Definition) (s below : State) (source : SourceLine) (old new : List ℕ) : Type 0 where
-  pub codes : Codes None all s (Some source) old new
+  pub codes : Codes None all (Some (place_in s source)) old new
   pub state : below ≡ held_after s (Some source)
 
 -- ---- late lines
@@ -37,6 +32,9 @@ said_of l = option_map source_of l.source
 abbrev pub late_state : {A : Type 0} → List Definition → Layout → Late A → State
 late_state all layout l = record { at = l.address; cpu = l.cpu; above = take l.count all; layout = layout }
 
+abbrev pub late_line : {A : Type 0} → List Definition → Layout → Late A → Option Place
+late_line all layout l = line_in (late_state all layout l) (said_of l)
+
 -- it is that state, in which as many definitions stand above the line
 pub record IsOf {A : Type 0} (l : Late A) (s : State) : Type 0 where
   pub at : l.address ≡ s.at
@@ -47,9 +45,7 @@ pub record IsOf {A : Type 0} (l : Late A) (s : State) : Type 0 where
 -- `rest` is what comes of the lines below
 unfoldable pub coded_late : {A : Type 0} → List Definition → Layout → List (Late A) → List ℕ → Result (List ℕ) AsmFault → Result (List ℕ) AsmFault
 coded_late all layout [] settled rest = with_front settled rest
-coded_late all layout (l ∷ ls) settled rest =
-    with_front (take l.front settled) (unless l.number (fault_of all (late_state all layout l) (said_of l))
-    (with_front (bytes_of all (late_state all layout l) (said_of l)) (coded_late all layout ls (drop l.front settled) rest)))
+coded_late all layout (l ∷ ls) settled rest = with_front (take l.front settled) (line_then all l.number (late_line all layout l) (coded_late all layout ls (drop l.front settled) rest))
 
 -- how many bytes stand before the last of them
 unfoldable pub fronts : {A : Type 0} → List (Late A) → ℕ
@@ -74,19 +70,22 @@ pub record IsSound {A : Type 0} (w : Work A) : Type 0 where
   pub mark : w.mark ≡ fronts w.late.items
   pub within : w.mark ≤ length w.settled.items
 
+-- these definitions are the first of all
+abbrev pub AreFirstOf : List Definition → List Definition → Type 0
+AreFirstOf above all = take (length above) all ≡ above
+
 -- line n is added to the work, whatever names stand below it
-pub record Takes {A : Type 0} (p q : Work A) (n : ℕ) (s : State) (line : Option SourceLine) : Type 0 where
+pub record Takes {A : Type 0} (p q : Work A) (n : ℕ) (s : State) (line : Option Place) : Type 0 where
   pub sound : IsSound p → IsSound q
-  pub same : IsSound p → (all more : List Definition) (rest : Result (List ℕ) AsmFault) → all ≡ s.above ++ more
-      → work_of all s.layout q rest ≡ work_of all s.layout p (unless n (fault_of all s line) (with_front (bytes_of all s line) rest))
+  pub same : IsSound p → (all : List Definition) (rest : Result (List ℕ) AsmFault) → AreFirstOf s.above all → work_of all s.layout q rest ≡ work_of all s.layout p (line_then all n line rest)
 
 -- the line has a fault, whatever names stand below it
-abbrev pub IsFaulty : State → Option SourceLine → Type 0
-IsFaulty s line = (all more : List Definition) → all ≡ s.above ++ more → is_some (fault_of all s line) ≡ true
+abbrev pub IsFaulty : List Definition → Option Place → Type 0
+IsFaulty above line = (all : List Definition) → AreFirstOf above all → is_some (fault_at all line) ≡ true
 
 -- a late line is added, whatever stands above it
 abbrev pub Keeps : {A : Type 0} → Late A → Bool → Work A → Work A → Type 0
-Keeps l is_faulty p q = (s : State) → IsOf l s → (is_faulty ≡ true → IsFaulty s (said_of l)) → Takes p q l.number s (said_of l)
+Keeps l is_faulty p q = (s : State) → IsOf l s → (is_faulty ≡ true → IsFaulty s.above (line_in s (said_of l))) → Takes p q l.number s (line_in s (said_of l))
 
 -- the work is not over, and stays as it was
 pub record IsLeft {A : Type 0} (p q : Work A) : Type 0 where
@@ -97,10 +96,10 @@ pub record IsLeft {A : Type 0} (p q : Work A) : Type 0 where
   pub over : q.is_over ≡ false
 
 -- a line is added, or it is to be kept, and it is said whether it has a fault whatever stands below it
-pub record Settles {A : Type 0} (p q : Work A) (s : State) (line : Option SourceLine) (kept : Option Bool) : Type 0 where
+pub record Settles {A : Type 0} (p q : Work A) (s : State) (line : Option Place) (kept : Option Bool) : Type 0 where
   pub takes : IfNone kept ((n : ℕ) → Takes p q n s line)
   pub leaves : IfSome kept (λ _. IsLeft p q)
-  pub faulty : IfSome kept (λ is_faulty. is_faulty ≡ true → IsFaulty s line)
+  pub faulty : IfSome kept (λ is_faulty. is_faulty ≡ true → IsFaulty s.above line)
 
 -- ---- passes
 
@@ -111,14 +110,14 @@ state_in p = state_of p.state p.names
 -- the state is that below the line, which is added to the work or is to be kept
 pub record PassesOver {A L : Type 0} (p q : Pass A L) (line : Option SourceLine) (kept : Option Bool) : Type 0 where
   pub state : state_in q ≡ held_after (state_in p) line
-  pub work : Settles p.work q.work (state_in p) line kept
+  pub work : Settles p.work q.work (state_in p) (line_in (state_in p) line) kept
 
 -- the pass has gone on below line n
 pub record GoesOn {A L : Type 0} (p q : Pass A L) (n : ℕ) (line : Option SourceLine) : Type 0 where
   pub state : state_in q ≡ held_after (state_in p) line
-  pub work : Takes p.work q.work n (state_in p) line
+  pub work : Takes p.work q.work n (state_in p) (line_in (state_in p) line)
 
--- below all lines of a text
+-- Below all lines of a text, whose meaning comes of the work.
 pub record IsPassed {A L M : Type 0} (p : Pass A L) (source : Source M) : Type 0 where
-  pub names : p.names ≡ (held_final (source_state source) (source_readings source)).above
-  pub means : work_of p.names p.state.layout.now p.work (Ok []) ≡ held_coded p.names 1 (source_state source) (source_readings source)
+  pub names : p.names ≡ held_definitions (source_definitions source)
+  pub means : source_meaning source ≡ work_of p.names p.state.layout.now p.work (Ok [])

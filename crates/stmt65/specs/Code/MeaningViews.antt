@@ -1,18 +1,19 @@
 -- What the assembler's values stand for.
-use Rattle.std.specs.Prelude.{◌≡◌, ◌++◌, List, [], ◌∷◌, map, Option, Some, None, unwrap_or}
+use Rattle.std.specs.Prelude.{◌≡◌, ◌++◌, ◌+◌, ◌||◌, ℕ, Bool, not, List, [], ◌∷◌, map, nat_lt, Option, Some, None, is_some, unwrap_or, Result, Ok}
+use Rattle.std.specs.List.{flat_map, list_all, list_any}
 use Rattle.std.specs.Option.{option_map, option_to_list}
-use Rattle.stmt65.specs.Types.{Coded as CodeCoded, Placed}
+use Rattle.stmt65.specs.Types.{AsmFault, AsmFaultKind, Coded as CodeCoded, DefinedTwice, Fit, NoSuchForm, OutOfRange, PastEnd, PastStart, Placed, Syntax, Undefined, UnknownCpu}
 use Rattle.stmt65.specs.declared.assembling.symbols.Definition.{Definition as CodeDefinition}
 use Rattle.stmt65.specs.declared.assembling.state.State.{State as CodeState}
 use Rattle.stmt65.specs.declared.source_line.SourceLine.{SourceLine as CodeSourceLine}
 use Rattle.stmt65.specs.SourceLine.{Operation, SourceLine}
-use Rattle.stmt65.specs.Symbols.{Definition}
+use Rattle.stmt65.specs.Symbols.{Definition, find_name}
 use Rattle.stmt65.specs.Code.SourceLineViews.{source_of}
 use Rattle.stmt65.specs.Code.SymbolViews.{definition_of}
-use Rattle.stmt65.specs.Coding.{State, Fragment, coding}
+use Rattle.stmt65.specs.Coding.{State, Fragment, are_known, coding, fragment_bytes, fragment_fits}
 use Rattle.stmt65.specs.Code.CodingViews.{coded_of}
 use Rattle.stmt65.specs.Code.Held.{held}
-use Rattle.stmt65.specs.Meaning.{next_of, cpu_after, operation_in, defined_by, is_past_start}
+use Rattle.stmt65.specs.Meaning.{next_of, cpu_after, operation_in, defined_by, first_of, has_large, has_unknown_cpu, is_past_start, unless, with_front}
 
 -- ---- a line
 
@@ -36,29 +37,86 @@ definitions_in d = option_to_list (option_map definition_of d)
 abbrev pub line_operation : {A : Type 0} → CodeSourceLine A → Operation
 line_operation source = operation_in (source_of source)
 
+-- whether one of these names has a definition above
+abbrev pub is_named_in : List Definition → List Definition → Bool
+is_named_in above ds = list_any (λ d. is_some (find_name d.name above)) ds
+
 -- the coding is what an operation stands for in its state
 abbrev pub IsCoding : Option CodeCoded → State → Operation → Type 0
 IsCoding coded s operation = option_map coded_of coded ≡ coding s operation
 
--- what the bytes of a line stand for in its state, the address after it, what it defines, and
--- whether it enters a segment past its start
-pub record IsPlaced (p : Placed) (s : State) (source : SourceLine) : Type 0 where
-  pub coded : IsCoding p.coded s (operation_in source)
-  pub next : p.next ≡ held (next_of s source)
-  pub definition : definitions_in p.definition ≡ held_definitions (defined_by s.at source)
-  pub past : p.is_past_start ≡ is_past_start s (operation_in source)
+-- A line in its state, as the code holds it: what its bytes stand for, the address after it, what it defines, and
+-- whether it names an unknown CPU, defines a name a second time, or enters a segment past its start.
+pub record Place : Type 0 where
+  pub coded : Option (List Fragment)
+  pub next : ℕ
+  pub defined : List Definition
+  pub unknown_cpu : Bool
+  pub twice : Bool
+  pub past_start : Bool
 
--- below a line, as the code holds it
+abbrev pub place_of : Placed → Place
+place_of p = record { coded = option_map coded_of p.coded; next = p.next; defined = definitions_in p.definition; unknown_cpu = p.has_unknown_cpu; twice = p.is_twice; past_start = p.is_past_start }
+
+unfoldable pub place_in : State → SourceLine → Place
+place_in s source = record {
+  coded = coding s (operation_in source);
+  next = held (next_of s source);
+  defined = held_definitions (defined_by s.at source);
+  unknown_cpu = has_unknown_cpu (operation_in source);
+  twice = is_named_in s.above (held_definitions (defined_by s.at source));
+  past_start = is_past_start s (operation_in source);
+}
+
+-- none of a line that says nothing
+abbrev pub line_in : State → Option SourceLine → Option Place
+line_in s line = option_map (place_in s) line
+
+-- what its bytes stand for; a form that the CPU has not gives none
+abbrev pub fragments_at : Place → List Fragment
+fragments_at p = unwrap_or p.coded []
+
+-- the first of the tests of a line, by what its names and values have
+abbrev pub fault_by : Fit → Place → Option AsmFaultKind
+fault_by fit p = first_of (
+    (UnknownCpu, p.unknown_cpu) ∷
+    (NoSuchForm, not (is_some p.coded)) ∷
+    (Undefined, not fit.is_known) ∷
+    (DefinedTwice, p.twice) ∷
+    (OutOfRange, has_large p.defined || not fit.has_room) ∷
+    (PastStart, p.past_start) ∷
+    (PastEnd, nat_lt 65536 p.next) ∷ [])
+
+-- the lowest fault of a line; `all` are the definitions of the whole text
+unfoldable pub fault_at : List Definition → Option Place → Option AsmFaultKind
+fault_at all None = Some Syntax
+fault_at all (Some p) = fault_by (record { is_known = are_known all (fragments_at p); has_room = list_all (fragment_fits all p.next) (fragments_at p) }) p
+
+-- the bytes of a line that has no fault
+unfoldable pub bytes_at : List Definition → Option Place → List ℕ
+bytes_at all None = []
+bytes_at all (Some p) = flat_map (fragment_bytes all p.next) (fragments_at p)
+
+-- what comes of line n, with what comes of the lines below it
+abbrev pub line_then : List Definition → ℕ → Option Place → Result (List ℕ) AsmFault → Result (List ℕ) AsmFault
+line_then all n line rest = unless n (fault_at all line) (with_front (bytes_at all line) rest)
+
+-- ---- a line after the other
+
+-- what stands below a line in its place
+abbrev pub below_place : State → SourceLine → Place → State
+below_place s source p = record { at = p.next; cpu = cpu_after s.cpu (operation_in source); above = s.above ++ p.defined; layout = s.layout }
+
 unfoldable pub held_after : State → Option SourceLine → State
 held_after s None = s
-held_after s (Some source) = record { at = held (next_of s source); cpu = cpu_after s.cpu (operation_in source); above = s.above ++ held_definitions (defined_by s.at source); layout = s.layout }
+held_after s (Some source) = below_place s source (place_in s source)
 
--- below all lines, as the code holds it
+-- below all lines
 unfoldable pub held_final : State → List (Option SourceLine) → State
 held_final s [] = s
 held_final s (l ∷ ls) = held_final (held_after s l) ls
 
--- what a line defines, as the code holds it
-abbrev pub defined_in : State → Option SourceLine → List Definition
-defined_in s None = []
-defined_in s (Some source) = held_definitions (defined_by s.at source)
+-- the bytes of the lines from the n-th on, or the first fault
+unfoldable pub held_coded : List Definition → ℕ → State → List (Option SourceLine) → Result (List ℕ) AsmFault
+held_coded all n s [] = Ok []
+held_coded all n s (l ∷ ls) = line_then all n (line_in s l) (held_coded all (n + 1) (held_after s l) ls)

@@ -8,7 +8,8 @@ use crate::assembling::fault::AsmFault;
 use crate::assembling::late::{Late, Work, code_late, cut, idle, keep, settle};
 use crate::assembling::layout::Layout;
 use crate::assembling::line_ends::LineEnds;
-use crate::assembling::state::{State, advance, first_state, place};
+use crate::assembling::placed::place;
+use crate::assembling::state::{State, advance, first_state};
 use crate::assembling::symbols::{Definition, Symbols};
 use crate::language::Language;
 use crate::reading::whole_line::read_line;
@@ -58,9 +59,9 @@ fn pass_over<'a, L: Allocator + Clone, A: Allocator + Clone, B: Allocator>(
 {
     let above = pass.names.all();
     let placed = place(&pass.state, &above, source);
-    let kept = settle(&mut pass.work, &above, source, &placed)?;
+    let kept = settle(&mut pass.work, &above, &placed)?;
     define(&mut pass.names, placed.definition)?;
-    advance(&mut pass.state, source, &placed);
+    advance(&mut pass.state, source, placed.next);
     Ok(kept)
 }
 
@@ -115,7 +116,7 @@ fn begin<'a, 'b, 'l, 'n, L: Allocator, A: Allocator>(
 ) -> Result<Pass<'a, 'l, 'n, &'b A, L>, AllocError>
     ensures state { IfOk result (λ pass. state_in pass ≡ source_state source.now) }
     ensures work { IfOk result (λ pass. IsIdle pass.work) }
-    ensures start { source.now.start < 65536 }
+    ensures start { IfOk result (λ _. source.now.start < 65536) }
 {
     Ok(Pass {
         state: first_state(source.layout, source.start),
@@ -149,7 +150,6 @@ pub fn first_pass<'a, 'b, 'l, 'n, L: Allocator + Clone, A: Allocator, C: Allocat
 ) -> Result<Pass<'a, 'l, 'n, &'b A, L>, AllocError>
     requires { ends.old ≡ [] }
     ensures passed { IfOk result (λ pass. IsPassed pass source.now) }
-    ensures start { source.now.start < 65536 }
     ensures ends { OnOk result (are_wanted ≡ true → ends.new ≡ map held (source_addresses source.now)) }
 {
     let mut pass = begin(alloc, source)?;
@@ -192,7 +192,6 @@ pub fn second_pass<'a, L: Allocator + Clone, A: Allocator + Clone, C: Allocator 
 }
 
 /// The bytes that a text means, as [`assemble_source`] answers them; or its fault, with what that is about.
-#[tactic(auto, using(crate::proofs::PassLaws::means))]
 pub fn assemble_explained<'a, L: Allocator + Clone, A: Allocator + Clone>(
     alloc: A,
     source: &Source<'a, '_, '_, L>,

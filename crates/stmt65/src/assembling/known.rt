@@ -7,7 +7,8 @@ ghost use Rattle.stmt65.specs.Words.{Follows, definition_of, definitions_in, sou
 
 use crate::assembling::assembler::Source;
 use crate::assembling::late::code_placed;
-use crate::assembling::state::{State, advance, first_state, place};
+use crate::assembling::placed::place;
+use crate::assembling::state::{State, advance, first_state};
 use crate::assembling::symbols::{Definition, Symbols};
 use crate::reading::whole_line::read_line;
 use crate::source_line::SourceLine;
@@ -56,13 +57,13 @@ fn follow<'a, L: Allocator + Clone, A: Allocator + Clone, B: Allocator, C: Alloc
 {
     let above = names.first(count);
     let placed = place(state, &above, &source);
-    if let Some(_) = code_placed(&names.all(), &above, &source, &placed, out)? {
+    if let Some(_) = code_placed(&names.all(), &placed, out)? {
         return Ok(None);
     }
     let Some(count) = count_after(names, count, placed.definition) else {
         return Ok(None);
     };
-    advance(state, &source, &placed);
+    advance(state, &source, placed.next);
     Ok(Some(count))
 }
 

@@ -1,14 +1,15 @@
 //! The work on lines: a line whose names stand above it is coded at once, another one once all names are known.
 
-ghost use Rattle.std.specs.Prelude.{◌≡◌, IfOk, OnOk, Some, drop, false, is_some, not, take};
+ghost use Rattle.std.specs.Prelude.{◌≡◌, ◌||◌, IfOk, OnOk, Some, drop, false, is_some, nat_lt, not, take};
 ghost use Rattle.std.specs.Option.{option_map};
-ghost use Rattle.stmt65.specs.Words.{Codes, Emits, IsFit, IsIdle, IsPlaced, Keeps, Settles, State as AState, fault_of, fragments_in, late_state, said_of, source_of};
+ghost use Rattle.stmt65.specs.Words.{Codes, Emits, IsIdle, Keeps, Settles, State as AState, fault_by, fragments_at, late_line, place_of};
 
 use crate::assembling::about::{About, explain};
 use crate::assembling::emit::{FITS, Fit, put_coded};
 use crate::assembling::fault::{AsmFault, AsmFaultKind};
-use crate::assembling::line_faults::fault_of;
-use crate::assembling::state::{Placed, State, place, select};
+use crate::assembling::line_faults::fault_by;
+use crate::assembling::placed::{Placed, place};
+use crate::assembling::state::{State, select};
 use crate::assembling::symbols::{KnownNames, Symbols};
 use crate::source_line::SourceLine;
 use isa65::Cpu;
@@ -57,7 +58,7 @@ fn put_placed<A: Allocator + Clone, B: Allocator>(
     names: &KnownNames<'_, '_, A>,
     placed: &Placed,
 ) -> Result<Fit, AllocError>
-    ensures { Emits result names.now placed.now.next (fragments_in placed.now.coded)
+    ensures { Emits result names.now placed.now.next (fragments_at (place_of placed.now))
         out.old out.new }
 {
     match placed.coded {
@@ -67,58 +68,53 @@ fn put_placed<A: Allocator + Clone, B: Allocator>(
 }
 
 /// Adds the bytes of a line in its state, or finds its lowest fault.
-pub fn code_placed<'t, 'n, 'a, A: Allocator + Clone, B: Allocator, C: Allocator>(
-    all: &KnownNames<'t, 'n, A>,
-    above: &KnownNames<'t, 'n, A>,
-    source: &SourceLine<'a, B>,
-    placed: &Placed<'_, 'a>,
-    out: &mut Vec<u8, C>,
+pub fn code_placed<A: Allocator + Clone, B: Allocator>(
+    names: &KnownNames<'_, '_, A>,
+    placed: &Placed,
+    out: &mut Vec<u8, B>,
 ) -> Result<Option<AsmFaultKind>, AllocError>
-    ensures { IfOk result (λ kind. (s : AState) → s.above ≡ above.now
-        → IsPlaced placed.now s (source_of source.now)
-        → Codes kind all.now s (Some (source_of source.now)) out.old.items out.new.items) }
+    ensures { IfOk result (λ kind. Codes kind names.now (Some (place_of placed.now))
+        out.old.items out.new.items) }
 {
-    let fit = put_placed(out, all, placed)?;
-    Ok(fault_of(above, source, placed, fit))
+    let fit = put_placed(out, names, placed)?;
+    Ok(fault_by(placed, fit))
 }
 
-/// Whether a line has no fault by the names above it.
-fn is_faultless<'a, A: Allocator + Clone, B: Allocator>(
-    above: &KnownNames<'_, 'a, A>,
-    source: &SourceLine<'a, B>,
-    placed: &Placed<'_, 'a>,
-    fit: Fit,
-) -> bool
-    ensures { (s : AState) → s.above ≡ above.now → IsPlaced placed.now s (source_of source.now)
-        → IsFit fit above.now placed.now.next (fragments_in placed.now.coded)
-        → is_some (fault_of above.now s (Some (source_of source.now))) ≡ not result }
+/// Whether a line has no fault.
+fn is_faultless(placed: &Placed, fit: Fit) -> bool
+    ensures { is_some (fault_by fit (place_of placed.now)) ≡ not result }
 {
-    fit.has_room && fault_of(above, source, placed, fit).is_none()
+    fit.has_room && fault_by(placed, fit).is_none()
+}
+
+/// Whether a line that has a fault by the names above it has one by whatever names stand below it.
+fn is_faulty(placed: &Placed, fit: Fit) -> bool
+    ensures { result ≡ (fit.is_known || nat_lt 65536 placed.now.next) }
+{
+    fit.is_known || placed.next > 65536
 }
 
 /// Codes a line if its names all stand above it and it has no fault. If not, returns whether it
 /// has a fault whatever stands below it.
 #[tactic(auto, using(crate::proofs::PassLaws::settles_over))]
-pub fn settle<'a, A: Allocator + Clone, B: Allocator>(
+pub fn settle<'a, A: Allocator + Clone>(
     work: &mut Work<'a, A>,
     above: &KnownNames<'_, 'a, A>,
-    source: &SourceLine<'a, B>,
-    placed: &Placed<'_, 'a>,
+    placed: &Placed,
 ) -> Result<Option<bool>, AllocError>
     ensures { IfOk result (λ kept. (s : AState) → s.above ≡ above.now
-        → IsPlaced placed.now s (source_of source.now)
-        → Settles work.old work.new s (Some (source_of source.now)) kept) }
+        → Settles work.old work.new s (Some (place_of placed.now)) kept) }
 {
     if work.is_over {
         return Ok(None);
     }
     let len = work.settled.len();
     let fit = put_placed(&mut work.settled, above, placed)?;
-    if is_faultless(above, source, placed, fit) {
+    if is_faultless(placed, fit) {
         return Ok(None);
     }
     work.settled.truncate(len);
-    Ok(Some(fit.is_known || placed.next > 65536))
+    Ok(Some(is_faulty(placed, fit)))
 }
 
 /// Keeps a line for later. Below one that has a fault whatever stands there no line counts, so none is kept.
@@ -159,8 +155,7 @@ pub fn code_late<'a, L: Allocator + Clone, A: Allocator + Clone, C: Allocator>(
     out: &mut Vec<u8, C>,
 ) -> Result<Option<(AsmFaultKind, About<'a>)>, AllocError>
     ensures codes { IfOk result (λ found. Codes (option_map (λ f. f.0) found) names.now
-        (late_state names.now state.old.layout.now late.now) (said_of late.now)
-        out.old.items out.new.items) }
+        (late_line names.now state.old.layout.now late.now) out.old.items out.new.items) }
     ensures layout { state.new.layout.now ≡ state.old.layout.now }
 {
     let Some(source) = &late.source else {
@@ -171,7 +166,7 @@ pub fn code_late<'a, L: Allocator + Clone, A: Allocator + Clone, C: Allocator>(
     let above = names.first(late.count);
     let placed = place(state, &above, source);
     let all = names.all();
-    match code_placed(&all, &above, source, &placed, out)? {
+    match code_placed(&all, &placed, out)? {
         Some(kind) => {
             let about = explain(kind, &all, state.layout, placed.next, source);
             Ok(Some((kind, about)))

@@ -1,7 +1,7 @@
 //! The value and size of an expression.
 
 ghost use Rattle.std.specs.Prelude.{◌≡◌, ◌+◌, Some};
-ghost use Rattle.stmt65.specs.Words.{address_of, apart, below, definition_of, entry_in, entry_limit, has_zero_page_size, held, held_value, is_known, is_small, lowered, numeral_of, value_in, value_of, word_in};
+ghost use Rattle.stmt65.specs.Words.{address_of, apart, below, capped, definition_of, entry_in, entry_limit, has_zero_page_size, is_known, is_small, lowered, numeral_of, value_in, value_of, word_in};
 
 use crate::assembling::entries::limit;
 use crate::assembling::symbols::{Definition, KnownNames};
@@ -14,7 +14,7 @@ use std::alloc::Allocator;
 /// is greater than 2^64 - 1 counts as that.
 #[tactic(auto, unfolding(crate::specs::Symbols::value_in))]
 fn value_in<A: Allocator + Clone>(names: &KnownNames<'_, '_, A>, value: &Value) -> Option<u128>
-    ensures { result ≡ value_in names.now (held_value (value_of value.now)) }
+    ensures { capped result ≡ capped (value_in names.now (value_of value.now)) }
 {
     match *value {
         Value::Number(n) => Some(u128::from(n.value())),
@@ -45,8 +45,7 @@ fn apart(address: u16, base: u16) -> Option<u128>
 
 /// The address of a name with this definition, less a number; `None` if that is below 0 or the name has no address.
 fn lessened(definition: Definition, n: Numeral) -> Option<u128>
-    ensures { result ≡ apart (address_of (Some (definition_of definition.entry)))
-        (Some (held (numeral_of n.entry))) }
+    ensures { result ≡ apart (address_of (Some (definition_of definition.entry))) (Some (numeral_of n.entry)) }
 {
     let address = definition.address()?;
     let difference = u64::from(address).checked_sub(n.value())?;
@@ -55,7 +54,7 @@ fn lessened(definition: Definition, n: Numeral) -> Option<u128>
 
 /// The value of a name with this definition, and of what is added to it.
 fn value_from(definition: Definition, n: Numeral, minus: Minus) -> Option<u128>
-    ensures { result ≡ lowered minus (definition.entry.value + held (numeral_of n.entry)) }
+    ensures { capped result ≡ capped (lowered minus (definition.entry.value + numeral_of n.entry)) }
 {
     lowered(minus, u128::from(definition.value) + u128::from(n.value()))
 }
@@ -109,7 +108,7 @@ fn in_an_entry(directive: Directive, value: Option<u128>) -> Option<u32>
 }
 
 /// The value if it is from 0 to $FFFF.
-#[tactic(auto, using(crate::proofs::HeldLemmas::held_values))]
+#[tactic(auto, using(crate::proofs::NameLemmas::below_capped), unfolding(crate::specs::Symbols::word_in))]
 pub fn word_in<A: Allocator + Clone>(names: &KnownNames<'_, '_, A>, value: &Value) -> Option<u16>
     ensures { result ≡ word_in names.now (value_of value.now) }
 {
@@ -117,7 +116,7 @@ pub fn word_in<A: Allocator + Clone>(names: &KnownNames<'_, '_, A>, value: &Valu
 }
 
 /// The value if an entry of the directive has room for it.
-#[tactic(auto, using(crate::proofs::HeldLemmas::held_values))]
+#[tactic(auto, using(crate::proofs::NameLemmas::entry_capped), unfolding(crate::specs::Coding::entry_in))]
 pub fn entry_in<A: Allocator + Clone>(
     names: &KnownNames<'_, '_, A>,
     directive: Directive,
@@ -128,10 +127,13 @@ pub fn entry_in<A: Allocator + Clone>(
     in_an_entry(directive, value_in(names, value))
 }
 
-/// Whether the expression has zero-page size, with its number held in 64 bits.
-#[tactic(auto, unfolding(crate::specs::Symbols::has_zero_page_size, crate::specs::Symbols::value_in))]
-fn held_zero_page_size<A: Allocator + Clone>(above: &KnownNames<'_, '_, A>, value: &Value) -> bool
-    ensures { result ≡ has_zero_page_size above.now (held_value (value_of value.now)) }
+/// Whether the value is below $100, and a name in it is defined as `name := number`.
+#[tactic(auto, using(crate::proofs::NameLemmas::small_capped), unfolding(crate::specs::Symbols::has_zero_page_size, crate::specs::Symbols::value_in))]
+pub fn has_zero_page_size<A: Allocator + Clone>(
+    above: &KnownNames<'_, '_, A>,
+    value: &Value,
+) -> bool
+    ensures { result ≡ has_zero_page_size above.now (value_of value.now) }
 {
     match *value {
         Value::Number(n) => n.value() < 256,
@@ -151,17 +153,6 @@ fn held_zero_page_size<A: Allocator + Clone>(above: &KnownNames<'_, '_, A>, valu
         }
         Value::Difference(_, _) => false,
     }
-}
-
-/// Whether the value is below $100, and a name in it is defined as `name := number`.
-#[tactic(auto, using(crate::proofs::HeldLemmas::held_values))]
-pub fn has_zero_page_size<A: Allocator + Clone>(
-    above: &KnownNames<'_, '_, A>,
-    value: &Value,
-) -> bool
-    ensures { result ≡ has_zero_page_size above.now (value_of value.now) }
-{
-    held_zero_page_size(above, value)
 }
 
 fn is_small(value: Option<u128>) -> bool

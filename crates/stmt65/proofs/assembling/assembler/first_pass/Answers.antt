@@ -6,14 +6,14 @@ use Rattle.stmt65.proofs.assembling.assembler.first_pass.Goals as goal
 
 pub lines-init : goal.lines-init
 lines-init g c = record {
-  at = at_start c.args.source.now.language c.args.source.now.layout.now c.args.source.now.start _ c.args.source.now.text.now c.in_ok-pass.ensures.state c.in_ok-pass.ensures.work;
+  at = at_start c.args.source.now _ c.in_ok-pass.ensures.start c.in_ok-pass.ensures.state c.in_ok-pass.ensures.work;
   shorter = omega arith;
   ends = λ _. rw c.requires (ap (λ (s : State). held_addresses s (source_readings c.args.source.now)) c.in_ok-pass.ensures.state);
 }
 
 pub lines-preserved : goal.lines-preserved
 lines-preserved g c = record {
-  at = at_next c.args.source.now.language _ _ _ c.lines.number c.lines.pass c.pass_line.new.pass c.lines.rest.now c.in-Some.line.now c.in-Some.after.now c.lines.invariant.at c.in-Some.ensures.0 c.in_ok-pass_line.ensures;
+  at = at_next c.args.source.now c.lines.number c.lines.pass c.pass_line.new.pass c.lines.rest.now c.in-Some.line.now c.in-Some.after.now c.lines.invariant.at c.in-Some.ensures.0 c.in_ok-pass_line.ensures;
   shorter = omega (arith, c.in-Some.ensures.1);
   ends = λ wanted.
       let taken = rw wanted at c.in_ok-take_down.ensures in

@@ -1,5 +1,6 @@
-use Rattle.stmt65.proofs.HeldLemmas.{codes}
+use Rattle.stmt65.specs.Words.{place_of}
+use Rattle.stmt65.proofs.PassLaws.{codes}
 use Rattle.stmt65.proofs.assembling.late.code_placed.Goals as goal
 
 pub returns : goal.returns
-returns g c = λ s above is. codes _ c.args.placed.now s _ c.in_ok-fit.fit _ _ _ is (c.fault_of.ensures c.args.all.now s c.in_ok-fit.ensures.fits above is) c.in_ok-fit.ensures
+returns g c = codes _ (place_of c.args.placed.now) c.in_ok-fit.fit _ _ _ c.in_ok-fit.ensures c.fault_by.ensures

@@ -1,0 +1,188 @@
+-- What a line means by some definitions it means by all that agree with them on its names.
+use Rattle.std.specs.Prelude.{◌≡◌, ◌+◌, ◌≤◌, ◌∷◌}
+use Rattle.stmt65.proofs.Lemmas.{and_parts, ap, arith, nat_tests, refl, sym, ◌∙◌}
+use Rattle.std.proofs.lemmas.Bool.{cases_lt}
+use Rattle.stmt65.specs.Words.{AreFirstOf, AsmFault, AsmFaultKind, Definition, DifferenceValue, Directive, Entry, Fill, Fixed, Fragment, LessValue, List, Minus, NameValue, None, NumberValue, Option, Oversized, Place, Result, Some, Value, [], address_of, apart, below, bytes_at, bytes_eq, capped, entry_in, entry_limit, fault_at, find_name, flat_map, fragment_bytes, fragment_fits, fragments_at, held, held_definition, held_definitions, is_constant, is_fragment_known, is_known, is_small, is_some, length, line_then, list_all, lowered, option_map, take, true, unless, value_in, word_in}
+use Rattle.std.specs.Prelude.{ℕ, Bool, false, option_and_then}
+use Rattle.stmt65.specs.declared.directive.Directive.TheVariants.{Word}
+use Rattle.stmt65.proofs.Cases.{by_test}
+
+-- what a view leaves as it was is the same of two that are seen alike
+by_view : {A X : Type 0} (view : A → A) (f : A → X) → ((a : A) → f (view a) ≡ f a) → (a b : A) → view a ≡ view b → f a ≡ f b
+by_view view f same a b e = sym (same a) ∙ ap f e ∙ same b
+
+-- ---- numbers that are held in 64 bits
+
+below-capped : (limit : ℕ) → limit ≤ 4294967296 → (o : Option ℕ) → below limit (capped o) ≡ below limit o
+below-capped limit h None = refl
+below-capped limit h (Some n) = grind arith
+
+pub below_capped : (limit : ℕ) (o p : Option ℕ) → limit ≤ 4294967296 → capped o ≡ capped p → below limit o ≡ below limit p
+below_capped limit o p h e = by_view capped (below limit) (below-capped limit h) o p e
+
+pub entry_capped : (d : Directive) (o p : Option ℕ) → capped o ≡ capped p → below (entry_limit d) o ≡ below (entry_limit d) p
+entry_capped Word o p e = below_capped 65536 o p (omega arith) e
+entry_capped _ o p e = below_capped _ o p (omega arith) e
+
+small-capped : (o : Option ℕ) → is_small (capped o) ≡ is_small o
+small-capped None = refl
+small-capped (Some n) = grind (arith, nat_tests)
+
+pub small_capped : (o p : Option ℕ) → capped o ≡ capped p → is_small o ≡ is_small p
+small_capped o p e = by_view capped is_small small-capped o p e
+
+-- less one, or not
+pub lowered_capped : (less : Minus) (n m : ℕ) → held n ≡ held m → capped (lowered less n) ≡ capped (lowered less m)
+lowered_capped less n m e = grind (arith, cases_lt)
+
+-- ---- a definition that is held
+
+pub number-held : (less : Minus) (n : ℕ) (o : Option Definition) → capped (option_and_then (λ d. lowered less (d.value + n)) (option_map held_definition o)) ≡ capped (option_and_then (λ d. lowered less (d.value + n)) o)
+number-held less n None = refl
+number-held less n (Some d) = lowered_capped less (held d.value + n) (d.value + n) (omega arith)
+
+pub address-held : (o : Option Definition) → address_of (option_map held_definition o) ≡ address_of o
+address-held None = refl
+address-held (Some d) = below_capped 65536 (Some (held d.value)) (Some d.value) (omega arith) (ap Some (omega arith))
+
+pub constant-held : (o : Option Definition) → is_constant (option_map held_definition o) ≡ is_constant o
+constant-held None = refl
+constant-held (Some d) = refl
+
+pub some-held : (o : Option Definition) → is_some (option_map held_definition o) ≡ is_some o
+some-held None = refl
+some-held (Some d) = refl
+
+pub find_name-held : (w : List ℕ) (ds : List Definition) → find_name w (held_definitions ds) ≡ option_map held_definition (find_name w ds)
+unfolding find_name
+find_name-held w [] = refl
+find_name-held w (d ∷ ds) = by_test (bytes_eq d.name w) (λ e. rw e refl) (λ e. rw e (find_name-held w ds))
+
+-- ---- definitions that agree
+
+-- each name of the first has the same definition in the others, but for what is held of its value
+abbrev pub Agree : List Definition → List Definition → Type 0
+Agree ds all = (w : List ℕ) → is_some (find_name w ds) ≡ true → option_map held_definition (find_name w all) ≡ option_map held_definition (find_name w ds)
+
+held_agree : (ds : List Definition) → Agree ds (held_definitions ds)
+held_agree ds w h = rw (find_name-held w ds) (twice (find_name w ds))
+  where
+    twice : (o : Option Definition) → option_map held_definition (option_map held_definition o) ≡ option_map held_definition o
+    twice None = refl
+    twice (Some d) = let same : held (held d.value) ≡ held d.value = omega arith in rw same refl
+
+agree_held : (ds : List Definition) → Agree (held_definitions ds) ds
+agree_held ds w h = sym (held_agree ds w (sym (rw (find_name-held w ds) (some-held (find_name w ds))) ∙ h))
+
+find_first : (w : List ℕ) (ds all : List Definition) → take (length ds) all ≡ ds → is_some (find_name w ds) ≡ true → find_name w all ≡ find_name w ds
+unfolding find_name
+find_first w [] all e h = absurd cc
+find_first w (d ∷ ds) [] e h = absurd cc
+find_first w (d ∷ ds) (x ∷ all) e h = grind (arith, (find_first w ds all))
+
+first_agree : (ds all : List Definition) → AreFirstOf ds all → Agree ds all
+first_agree ds all e w h = ap (option_map held_definition) (find_first w ds all e h)
+
+-- what is seen of the definition of a name that has one
+seen_alike : {X : Type 0} (f : Option Definition → X) (ds all : List Definition) (w : List ℕ) → ((o : Option Definition) → f (option_map held_definition o) ≡ f o) → Agree ds all → is_some (find_name w ds) ≡ true → f (find_name w all) ≡ f (find_name w ds)
+seen_alike f ds all w same agree h = by_view (option_map held_definition) f same (find_name w all) (find_name w ds) (agree w h)
+
+value_alike : (ds all : List Definition) (v : Value) → Agree ds all → is_known ds v ≡ true → capped (value_in all v) ≡ capped (value_in ds v)
+unfolding value_in is_known
+value_alike ds all (NumberValue n) agree h = refl
+value_alike ds all (NameValue w n less) agree h = seen_alike (λ o. capped (option_and_then (λ d. lowered less (d.value + n)) o)) ds all w (number-held less n) agree h
+value_alike ds all (LessValue w n) agree h = ap (λ (a : Option ℕ). capped (apart a (Some n))) (seen_alike address_of ds all w address-held agree h)
+value_alike ds all (DifferenceValue w v) agree h = let both = and_parts (is_some (find_name w ds)) (is_some (find_name v ds)) h in rw (seen_alike address_of ds all w address-held agree both.0, seen_alike address_of ds all v address-held agree both.1) refl
+
+known_alike : (ds all : List Definition) (v : Value) → Agree ds all → is_known ds v ≡ true → is_known all v ≡ true
+unfolding is_known
+known_alike ds all (NumberValue n) agree h = refl
+known_alike ds all (NameValue w n less) agree h = seen_alike is_some ds all w some-held agree h ∙ h
+known_alike ds all (LessValue w n) agree h = seen_alike is_some ds all w some-held agree h ∙ h
+known_alike ds all (DifferenceValue w v) agree h = let both = and_parts (is_some (find_name w ds)) (is_some (find_name v ds)) h in rw (seen_alike is_some ds all w some-held agree both.0, seen_alike is_some ds all v some-held agree both.1) h
+
+-- ---- fragments
+
+-- fragments whose names are known are the same
+pub record Alike (ds all : List Definition) (next : ℕ) (fs : List Fragment) : Type 0 where
+  pub known : list_all (is_fragment_known all) fs ≡ true
+  pub fits : list_all (fragment_fits all next) fs ≡ list_all (fragment_fits ds next) fs
+  pub bytes : flat_map (fragment_bytes all next) fs ≡ flat_map (fragment_bytes ds next) fs
+
+fragment_known : (ds all : List Definition) (f : Fragment) → Agree ds all → is_fragment_known ds f ≡ true → is_fragment_known all f ≡ true
+fragment_known ds all (Fixed b) agree h = refl
+fragment_known ds all (Fill n b) agree h = refl
+fragment_known ds all _ agree h = known_alike ds all _ agree h
+
+word_alike : (ds all : List Definition) (v : Value) → Agree ds all → is_known ds v ≡ true → word_in all v ≡ word_in ds v
+unfolding word_in
+word_alike ds all v agree h = below_capped 65536 _ _ (omega arith) (value_alike ds all v agree h)
+
+entry_alike : (ds all : List Definition) (d : Directive) (v : Value) → Agree ds all → is_known ds v ≡ true → entry_in all d v ≡ entry_in ds d v
+unfolding entry_in
+entry_alike ds all d v agree h = entry_capped d _ _ (value_alike ds all v agree h)
+
+fits_alike : (ds all : List Definition) (next : ℕ) (f : Fragment) → Agree ds all → is_fragment_known ds f ≡ true → fragment_fits all next f ≡ fragment_fits ds next f
+unfolding fragment_fits
+fits_alike ds all next (Fixed b) agree h = refl
+fits_alike ds all next (Fill n b) agree h = refl
+fits_alike ds all next (Oversized v) agree h = refl
+fits_alike ds all next (Entry d v) agree h = rw (entry_alike ds all d v agree h) refl
+fits_alike ds all next _ agree h = rw (word_alike ds all _ agree h) refl
+
+bytes_alike : (ds all : List Definition) (next : ℕ) (f : Fragment) → Agree ds all → is_fragment_known ds f ≡ true → fragment_bytes all next f ≡ fragment_bytes ds next f
+unfolding fragment_bytes
+bytes_alike ds all next (Fixed b) agree h = refl
+bytes_alike ds all next (Fill n b) agree h = refl
+bytes_alike ds all next (Entry d v) agree h = rw (entry_alike ds all d v agree h) refl
+bytes_alike ds all next _ agree h = rw (word_alike ds all _ agree h) refl
+
+alike : (ds all : List Definition) (next : ℕ) (fs : List Fragment) → Agree ds all → list_all (is_fragment_known ds) fs ≡ true → Alike ds all next fs
+alike ds all next [] agree h = record { known = refl; fits = refl; bytes = refl }
+alike ds all next (f ∷ fs) agree h =
+    let both = and_parts (is_fragment_known ds f) (list_all (is_fragment_known ds) fs) h in
+    let rest = alike ds all next fs agree both.1 in
+    record {
+      known = rw (fragment_known ds all f agree both.0) rest.known;
+      fits = rw (fits_alike ds all next f agree both.0, rest.fits) refl;
+      bytes = rw (bytes_alike ds all next f agree both.0, rest.bytes) refl;
+    }
+
+-- ---- lines
+
+abbrev pub knows : List Definition → Place → Bool
+knows all p = list_all (is_fragment_known all) (fragments_at p)
+
+fault_alike : (ds all : List Definition) (p : Place) → Agree ds all → knows ds p ≡ true → fault_at all (Some p) ≡ fault_at ds (Some p)
+unfolding fault_at
+fault_alike ds all p agree h = let same = alike ds all p.next (fragments_at p) agree h in rw (same.known, same.fits, h) refl
+
+line_bytes_alike : (ds all : List Definition) (p : Place) → Agree ds all → knows ds p ≡ true → bytes_at all (Some p) ≡ bytes_at ds (Some p)
+unfolding bytes_at
+line_bytes_alike ds all p agree h = (alike ds all p.next (fragments_at p) agree h).bytes
+
+pub fault_first : (ds all : List Definition) (p : Place) → AreFirstOf ds all → knows ds p ≡ true → fault_at all (Some p) ≡ fault_at ds (Some p)
+fault_first ds all p first h = fault_alike ds all p (first_agree ds all first) h
+
+pub bytes_first : (ds all : List Definition) (p : Place) → AreFirstOf ds all → knows ds p ≡ true → bytes_at all (Some p) ≡ bytes_at ds (Some p)
+bytes_first ds all p first h = line_bytes_alike ds all p (first_agree ds all first) h
+
+pub unless_any : (n : ℕ) (fault : Option AsmFaultKind) (a b : Result (List ℕ) AsmFault) → is_some fault ≡ true → unless n fault a ≡ unless n fault b
+unless_any n None a b h = absurd cc
+unless_any n (Some kind) a b h = refl
+
+-- a line with a name that has no definition has a fault, which no value and no address changes
+fault_unknown : (ds all : List Definition) (p : Place) → knows ds p ≡ false → knows all p ≡ false → (fault_at all (Some p) ≡ fault_at ds (Some p)) × (is_some (fault_at ds (Some p)) ≡ true)
+unfolding fault_at
+fault_unknown ds all p e g = grind arith
+
+-- what comes of a line by the definitions that are held
+pub line_then-held : (all : List Definition) (n : ℕ) (line : Option Place) (rest : Result (List ℕ) AsmFault) → line_then (held_definitions all) n line rest ≡ line_then all n line rest
+unfolding fault_at bytes_at
+line_then-held all n None rest = refl
+line_then-held all n (Some p) rest =
+    by_test (knows all p)
+    (λ e. rw (fault_alike all (held_definitions all) p (held_agree all) e, line_bytes_alike all (held_definitions all) p (held_agree all) e) refl)
+    (λ e. by_test (knows (held_definitions all) p)
+    (λ g. absurd (let h = (alike (held_definitions all) all p.next (fragments_at p) (agree_held all) g).known in cc))
+    (λ g. let same = fault_unknown all (held_definitions all) p e g in rw same.0 (unless_any n _ _ _ same.1)))

@@ -1,0 +1,149 @@
+//! A line in its state.
+
+ghost use Rattle.std.specs.Prelude.{◌≡◌, List};
+ghost use Rattle.stmt65.specs.Words.{Definition as ADefinition, IsCoding, coding_len, defined_by, definitions_in, fragments_in, has_unknown_cpu, held, held_definitions, is_named_in, is_past_start, line_operation, place_in, place_of, source_of, state_of};
+
+use crate::assembling::coding::{Coded, coding};
+use crate::assembling::emit::coded_len;
+use crate::assembling::state::{State, cpu_set};
+use crate::assembling::symbols::{Definition, KnownNames};
+use crate::source_line::{Operation, SourceLine};
+use std::alloc::Allocator;
+
+/// A line in its state: what its bytes stand for, or `None` if the CPU has no such form, the address after it, what it
+/// defines, and three of its faults.
+#[derive(Clone, Copy)]
+pub struct Placed<'s, 'a> {
+    pub coded: Option<Coded<'s, 'a>>,
+    pub next: u64,
+    pub definition: Option<Definition<'a>>,
+    /// Whether it sets a CPU by a text that is no CPU's.
+    pub has_unknown_cpu: bool,
+    /// Whether a line above has a name that it defines.
+    pub is_twice: bool,
+    /// Whether it enters a segment past its start.
+    pub is_past_start: bool,
+}
+
+#[tactic(auto, unfolding(crate::specs::Coding::coding))]
+fn coding_in<'s, 'a, L: Allocator + Clone, A: Allocator + Clone, B: Allocator>(
+    state: &State<'_, '_, L>,
+    above: &KnownNames<'_, '_, A>,
+    source: &'s SourceLine<'a, B>,
+) -> Option<Coded<'s, 'a>>
+    ensures { IsCoding result (state_of state.now above.now) (line_operation source.now) }
+{
+    match source {
+        SourceLine::Statement { operation, .. } => coding(state, above, operation),
+        SourceLine::Assignment(_, _) | SourceLine::PlaceAssignment(_, _) => Some(Coded::Nothing),
+    }
+}
+
+#[tactic(auto, unfolding(crate::specs::Coding::coding_len))]
+fn length_of(coded: Option<Coded>) -> u64
+    ensures { result ≡ held (coding_len (fragments_in coded.entry)) }
+{
+    match coded {
+        Some(coded) => coded_len(coded),
+        None => 0,
+    }
+}
+
+/// What a line at this address defines.
+#[tactic(auto, unfolding(crate::specs::Meaning::defined_by))]
+fn definition_in<'a, B: Allocator>(
+    address: u64,
+    source: &SourceLine<'a, B>,
+) -> Option<Definition<'a>>
+    ensures { definitions_in result ≡ held_definitions (defined_by address (source_of source.now)) }
+{
+    match source {
+        SourceLine::Assignment(name, n) => Some(Definition {
+            name: *name,
+            value: n.value(),
+            constant: true,
+        }),
+        SourceLine::PlaceAssignment(name, n) => Some(Definition {
+            name: *name,
+            value: address.saturating_add(n.value()),
+            constant: false,
+        }),
+        SourceLine::Statement {
+            label: Some(name),
+            ..
+        } => Some(Definition {
+            name: *name,
+            value: address,
+            constant: false,
+        }),
+        SourceLine::Statement { label: None, .. } => None,
+    }
+}
+
+/// Whether the line sets a CPU by a text that is no CPU's.
+#[tactic(auto, unfolding(crate::specs::Meaning::has_unknown_cpu))]
+fn has_unknown_cpu<'a, B: Allocator>(source: &SourceLine<'a, B>) -> bool
+    ensures { result ≡ has_unknown_cpu (line_operation source.now) }
+{
+    match source {
+        SourceLine::Statement {
+            operation: Operation::SetCpu(text),
+            ..
+        } => cpu_set(text).is_none(),
+        _ => false,
+    }
+}
+
+/// Whether a line above has the name of a definition.
+fn is_twice<A: Allocator + Clone>(
+    above: &KnownNames<'_, '_, A>,
+    definition: Option<Definition>,
+) -> bool
+    ensures { result ≡ is_named_in above.now (definitions_in definition.entry) }
+{
+    match definition {
+        Some(definition) => above.find(definition.name).is_some(),
+        None => false,
+    }
+}
+
+/// Whether the line enters a segment past its start.
+#[tactic(auto, unfolding(crate::specs::Meaning::is_past_start))]
+fn is_past_start<'a, L: Allocator + Clone, B: Allocator>(
+    state: &State<'_, '_, L>,
+    source: &SourceLine<'a, B>,
+) -> bool
+    ensures { (above : List ADefinition) → result
+        ≡ is_past_start (state_of state.now above) (line_operation source.now) }
+{
+    match source {
+        SourceLine::Statement {
+            operation: Operation::Segment(name),
+            ..
+        } => match state.layout.start_of(name) {
+            Some(start) => u64::from(start) < state.address,
+            None => false,
+        },
+        _ => false,
+    }
+}
+
+/// The line in its state.
+pub fn place<'s, 'a, L: Allocator + Clone, A: Allocator + Clone, B: Allocator>(
+    state: &State<'_, '_, L>,
+    above: &KnownNames<'_, '_, A>,
+    source: &'s SourceLine<'a, B>,
+) -> Placed<'s, 'a>
+    ensures { place_of result ≡ place_in (state_of state.now above.now) (source_of source.now) }
+{
+    let coded = coding_in(state, above, source);
+    let definition = definition_in(state.address, source);
+    Placed {
+        coded,
+        next: state.address.saturating_add(length_of(coded)),
+        definition,
+        has_unknown_cpu: has_unknown_cpu(source),
+        is_twice: is_twice(above, definition),
+        is_past_start: is_past_start(state, source),
+    }
+}
