@@ -1,6 +1,6 @@
 -- What the code holds of a text is enough for its meaning.
 use Rattle.std.proofs.Common.{◌≡◌, ℕ, Bool, false, ltb, ◌+◌, ◌<◌, List, [], ◌∷◌, Option, Some, None, refl, sym, ap, ◌∙◌, arith}
-use Rattle.std.specs.Prelude.{Result, is_some, ◌||◌}
+use Rattle.std.specs.Prelude.{Result, is_none, unwrap_or, is_some, ◌||◌}
 use Rattle.std.specs.List.{list_any}
 use Rattle.std.proofs.lemmas.List.{map-append}
 use Rattle.std.proofs.lemmas.Bool.{ltb-false, ltb-true}
@@ -9,11 +9,19 @@ use Rattle.stmt65.specs.Words.{AsmFault, Assignment, Coded, Definition, Differen
 use Rattle.stmt65.proofs.Cases.{by_option, by_test}
 use Rattle.stmt65.proofs.NameLemmas.{address-held, constant-held, find_name-held, line_then-held, number-held, small_capped, some-held}
 
--- the address after a line
-pub next_held : (s : State) (source : SourceLine) (coded : Option Coded) (len : ℕ) → IsCoding coded s (operation_in source) → len ≡ held (coding_len (fragments_in coded))
-    → held (s.at + len) ≡ held (next_of s source)
-unfolding next_of fragments_of
-next_held s source coded len e f = rw (f, ← e) (omega arith)
+-- what the coding of a line is coded as, and the address after it
+pub fragments_coded : (s : State) (source : SourceLine) (coded : Option Coded) → IsCoding coded s (operation_in source) → fragments_in coded ≡ fragments_of s source
+unfolding fragments_of
+fragments_coded s source coded e = ap (λ (o : Option (List Fragment)). unwrap_or o []) e
+
+pub form_coded : (s : State) (source : SourceLine) (coded : Option Coded) → IsCoding coded s (operation_in source) → is_none coded ≡ has_no_form s source
+unfolding has_no_form
+form_coded s source None e = rw (← e) refl
+form_coded s source (Some coded) e = rw (← e) refl
+
+pub next_coded : (s : State) (source : SourceLine) (coded : Option Coded) (len : ℕ) → IsCoding coded s (operation_in source) → len ≡ held (coding_len (fragments_in coded)) → held (s.at + len) ≡ held (next_of s source)
+unfolding next_of
+next_coded s source coded len e f = rw (f, fragments_coded s source coded e) (omega arith)
 
 -- ---- a line is in its place what it is by the rules
 
@@ -38,7 +46,7 @@ past-held : (n : ℕ) → ltb 65536 (held n) ≡ ltb 65536 n
 past-held n = grind (arith, nat_tests)
 
 fault-placed : (all : List Definition) (s : State) (source : SourceLine) → fault_at all (Some (place_in s source)) ≡ fault_of all s (Some source)
-unfolding fault_at place_in fault_of has_no_form is_undefined is_twice is_out_of_range is_past_end fragments_of
+unfolding fault_at place_in fault_of is_undefined is_twice is_out_of_range is_past_end
 fault-placed all s source =
     let named = any_named-held (λ w. is_some (find_name w s.above)) (defined_by s.at source) in
     let fits : fragment_fits all (held (next_of s source)) ≡ fragment_fits all (next_of s source) = λ i f. fits-held all (next_of s source) f i in
@@ -50,7 +58,7 @@ unfolding fault_of is_past_end
 none_past all s source h = let past : ltb 65536 (next_of s source) ≡ false = grind arith in omega (arith, ltb-false 65536 (next_of s source) past)
 
 bytes-placed : (all : List Definition) (s : State) (source : SourceLine) → None ≡ fault_of all s (Some source) → bytes_at all (Some (place_in s source)) ≡ bytes_of all s (Some source)
-unfolding bytes_at place_in bytes_of fragments_of
+unfolding bytes_at place_in bytes_of
 bytes-placed all s source h = rw (none_past all s source h) refl
 
 -- ---- a state, held
@@ -102,7 +110,7 @@ named-held above [] = refl
 named-held above (d ∷ ds) = rw (find_name-held d.name above, some-held (find_name d.name above), named-held above ds) refl
 
 place-held : (s : State) (source : SourceLine) → place_in (held_state s) source ≡ place_in s source
-unfolding place_in next_of fragments_of held_state
+unfolding place_in next_of has_no_form fragments_of held_state
 place-held s source =
     let same : held (held s.at + coding_len (fragments_of s source)) ≡ held (s.at + coding_len (fragments_of s source)) = omega arith in
     rw (coding-held s (operation_in source), past_start-held s (operation_in source), defined-held s.at source, named-held s.above (held_definitions (defined_by s.at source)), same) refl

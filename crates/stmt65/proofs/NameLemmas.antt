@@ -2,7 +2,7 @@
 use Rattle.std.specs.Prelude.{◌≡◌, ◌+◌, ◌≤◌, ◌∷◌}
 use Rattle.stmt65.proofs.Lemmas.{and_parts, ap, arith, nat_tests, refl, sym, ◌∙◌}
 use Rattle.std.proofs.lemmas.Bool.{cases_lt}
-use Rattle.stmt65.specs.Words.{AreFirstOf, AsmFault, AsmFaultKind, Definition, DifferenceValue, Directive, Entry, Fill, Fixed, Fragment, LessValue, List, Minus, NameValue, None, NumberValue, Option, Oversized, Place, Result, Some, Value, [], address_of, apart, below, bytes_at, bytes_eq, capped, entry_in, entry_limit, fault_at, find_name, flat_map, fragment_bytes, fragment_fits, fragments_at, held, held_definition, held_definitions, is_constant, is_fragment_known, is_known, is_small, is_some, length, line_then, list_all, lowered, option_map, take, true, unless, value_in, word_in}
+use Rattle.stmt65.specs.Words.{AreFirstOf, AsmFault, AsmFaultKind, Definition, DifferenceValue, Directive, Entry, Fill, Fixed, Fragment, LessValue, List, Minus, NameValue, None, NumberValue, Option, Oversized, Place, Result, Some, Value, [], address_of, apart, below, bytes_at, bytes_eq, capped, entry_in, entry_limit, fault_at, find_name, flat_map, fragment_bytes, fragment_fits, held, held_definition, held_definitions, is_constant, is_fragment_known, is_known, is_small, is_some, length, line_then, list_all, lowered, option_map, take, true, unless, value_in, word_in}
 use Rattle.std.specs.Prelude.{ℕ, Bool, false, option_and_then}
 use Rattle.stmt65.specs.declared.directive.Directive.TheVariants.{Word}
 use Rattle.stmt65.proofs.Cases.{by_test}
@@ -151,15 +151,15 @@ alike ds all next (f ∷ fs) agree h =
 -- ---- lines
 
 abbrev pub knows : List Definition → Place → Bool
-knows all p = list_all (is_fragment_known all) (fragments_at p)
+knows all p = list_all (is_fragment_known all) p.fragments
 
 fault_alike : (ds all : List Definition) (p : Place) → Agree ds all → knows ds p ≡ true → fault_at all (Some p) ≡ fault_at ds (Some p)
 unfolding fault_at
-fault_alike ds all p agree h = let same = alike ds all p.next (fragments_at p) agree h in rw (same.known, same.fits, h) refl
+fault_alike ds all p agree h = let same = alike ds all p.next p.fragments agree h in rw (same.known, same.fits, h) refl
 
 line_bytes_alike : (ds all : List Definition) (p : Place) → Agree ds all → knows ds p ≡ true → bytes_at all (Some p) ≡ bytes_at ds (Some p)
 unfolding bytes_at
-line_bytes_alike ds all p agree h = (alike ds all p.next (fragments_at p) agree h).bytes
+line_bytes_alike ds all p agree h = (alike ds all p.next p.fragments agree h).bytes
 
 pub fault_first : (ds all : List Definition) (p : Place) → AreFirstOf ds all → knows ds p ≡ true → fault_at all (Some p) ≡ fault_at ds (Some p)
 fault_first ds all p first h = fault_alike ds all p (first_agree ds all first) h
@@ -184,5 +184,5 @@ line_then-held all n (Some p) rest =
     by_test (knows all p)
     (λ e. rw (fault_alike all (held_definitions all) p (held_agree all) e, line_bytes_alike all (held_definitions all) p (held_agree all) e) refl)
     (λ e. by_test (knows (held_definitions all) p)
-    (λ g. absurd (let h = (alike (held_definitions all) all p.next (fragments_at p) (agree_held all) g).known in cc))
+    (λ g. absurd (let h = (alike (held_definitions all) all p.next p.fragments (agree_held all) g).known in cc))
     (λ g. let same = fault_unknown all (held_definitions all) p e g in rw same.0 (unless_any n _ _ _ same.1)))

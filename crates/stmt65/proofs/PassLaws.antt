@@ -3,7 +3,7 @@ use Rattle.std.proofs.Common.{◌≡◌, ℕ, Bool, true, false, cond, ltb, ◌+
 use Rattle.std.specs.Prelude.{◌||◌, Result, Ok, Err, IfNone, OnOk, is_some}
 use Rattle.std.proofs.Math.Seq.{take-append_seam, take-length}
 use Rattle.std.proofs.lemmas.List.{append-nil, drop-append-le, drop_all, drop_more, length-drop, take-append-le, take_all}
-use Rattle.stmt65.specs.Words.{AreFirstOf, AsmFault, AsmFaultKind, Codes, Definition, Fit, GoesOn, IsFaulty, IsIdle, IsLeft, IsOf, IsPassed, IsSound, Late, Layout, Pass, Place, PutsAll, Settles, Source, SourceLine, State, Takes, Work, bytes_at, coded_late, fault_at, fault_by, fragments_at, fronts, held_after, held_coded, held_definitions, held_final, late_line, line_in, line_then, parts, reading_of, readings, said_of, source_definitions, source_meaning, source_state, state_in, with_front, work_of}
+use Rattle.stmt65.specs.Words.{AreFirstOf, AsmFault, AsmFaultKind, Codes, Definition, Fit, GoesOn, IsFaulty, IsIdle, IsLeft, IsOf, IsPassed, IsSound, Late, Layout, Pass, Place, PutsAll, Settles, Source, SourceLine, State, Takes, Work, bytes_at, coded_late, fault_at, fault_by, fronts, held_after, held_coded, held_definitions, held_final, late_line, line_in, line_then, parts, reading_of, readings, said_of, source_definitions, source_meaning, source_state, state_in, with_front, work_of}
 use Rattle.text65.specs.Lines.{text_lines}
 use Rattle.stmt65.proofs.Cases.{by_test}
 use Rattle.stmt65.proofs.CodingLemmas.{front_kept}
@@ -70,7 +70,7 @@ on_ok (Err e) h f = tt
 room_there : (fit : Fit) (p : Place) → None ≡ fault_by fit p → fit.has_room ≡ true
 room_there fit p e = grind arith
 
-pub codes : (all : List Definition) (p : Place) (fit : Fit) (fault : Option AsmFaultKind) (old new : List ℕ) → PutsAll fit all p.next (fragments_at p) old new → fault ≡ fault_by fit p → Codes fault all (Some p) old new
+pub codes : (all : List Definition) (p : Place) (fit : Fit) (fault : Option AsmFaultKind) (old new : List ℕ) → PutsAll fit all p.next p.fragments old new → fault ≡ fault_by fit p → Codes fault all (Some p) old new
 unfolding fault_at bytes_at
 codes all p fit fault old new puts e = record { finds = rw (← puts.fits.known, ← puts.fits.room) e; adds = go fault e }
   where
@@ -96,9 +96,9 @@ known_there : (fit : Fit) (p : Place) → None ≡ fault_by fit p → fit.is_kno
 known_there fit p e = grind arith
 
 pub settles_now : {A : Type 0} (p q : Work A) (s : State) (place : Place) (fit : Fit) (ds : List Definition) → s.above ≡ ds → p.is_over ≡ false → q.late ≡ p.late → q.mark ≡ p.mark → q.is_over ≡ p.is_over
-    → PutsAll fit ds place.next (fragments_at place) p.settled.items q.settled.items → is_some (fault_by fit place) ≡ false → Settles p q s (Some place) None
+    → PutsAll fit ds place.next place.fragments p.settled.items q.settled.items → is_some (fault_by fit place) ≡ false → Settles p q s (Some place) None
 settles_now p q s place fit ds same e late mark over puts none =
-    let puts' : PutsAll fit s.above place.next (fragments_at place) p.settled.items q.settled.items = rw same puts in
+    let puts' : PutsAll fit s.above place.next place.fragments p.settled.items q.settled.items = rw same puts in
     let none' = faultless _ none in
     let known : knows s.above place ≡ true = sym puts'.fits.known ∙ known_there fit place none' in
     let coded = codes s.above place fit None p.settled.items q.settled.items puts' none' in
@@ -115,11 +115,11 @@ unfolding fault_at
 past_end all p past = grind arith
 
 pub settles_later : {A : Type 0} (p q : Work A) (s : State) (place : Place) (fit : Fit) (ds : List Definition) (mid : List ℕ) (is_faulty : Bool) → s.above ≡ ds → p.is_over ≡ false → q.late ≡ p.late → q.mark ≡ p.mark → q.is_over ≡ p.is_over
-    → PutsAll fit ds place.next (fragments_at place) p.settled.items mid → q.settled.items ≡ take (length p.settled.items) mid → is_some (fault_by fit place) ≡ true → is_faulty ≡ (fit.is_known || ltb 65536 place.next)
+    → PutsAll fit ds place.next place.fragments p.settled.items mid → q.settled.items ≡ take (length p.settled.items) mid → is_some (fault_by fit place) ≡ true → is_faulty ≡ (fit.is_known || ltb 65536 place.next)
     → Settles p q s (Some place) (Some is_faulty)
 unfolding fault_at
 settles_later p q s place fit ds mid is_faulty same e late mark over puts cut some f =
-    let puts' : PutsAll fit s.above place.next (fragments_at place) p.settled.items mid = rw same puts in
+    let puts' : PutsAll fit s.above place.next place.fragments p.settled.items mid = rw same puts in
     let some' : is_some (fault_at s.above (Some place)) ≡ true = rw (← puts'.fits.known, ← puts'.fits.room) some in
     record {
       takes = tt;

@@ -1,5 +1,5 @@
 -- What the assembler's values stand for.
-use Rattle.std.specs.Prelude.{◌≡◌, ◌++◌, ◌+◌, ◌||◌, ℕ, Bool, not, List, [], ◌∷◌, map, nat_lt, Option, Some, None, is_some, unwrap_or, Result, Ok}
+use Rattle.std.specs.Prelude.{◌≡◌, ◌++◌, ◌+◌, ◌||◌, ℕ, Bool, not, List, [], ◌∷◌, map, nat_lt, Option, Some, None, is_none, is_some, unwrap_or, Result, Ok}
 use Rattle.std.specs.List.{flat_map, list_all, list_any}
 use Rattle.std.specs.Option.{option_map, option_to_list}
 use Rattle.stmt65.specs.Types.{AsmFault, AsmFaultKind, Coded as CodeCoded, DefinedTwice, Fit, NoSuchForm, OutOfRange, PastEnd, PastStart, Placed, Syntax, Undefined, UnknownCpu}
@@ -13,7 +13,7 @@ use Rattle.stmt65.specs.Code.SymbolViews.{definition_of}
 use Rattle.stmt65.specs.Coding.{State, Fragment, are_known, coding, fragment_bytes, fragment_fits}
 use Rattle.stmt65.specs.Code.CodingViews.{coded_of}
 use Rattle.stmt65.specs.Code.Held.{held}
-use Rattle.stmt65.specs.Meaning.{next_of, cpu_after, operation_in, defined_by, first_of, has_large, has_unknown_cpu, is_past_start, unless, with_front}
+use Rattle.stmt65.specs.Meaning.{next_of, cpu_after, operation_in, defined_by, first_of, fragments_of, has_large, has_no_form, has_unknown_cpu, is_past_start, unless, with_front}
 
 -- ---- a line
 
@@ -46,24 +46,35 @@ abbrev pub IsCoding : Option CodeCoded → State → Operation → Type 0
 IsCoding coded s operation = option_map coded_of coded ≡ coding s operation
 
 -- A line in its state, as the code holds it: what its bytes stand for, the address after it, what it defines, and
--- whether it names an unknown CPU, defines a name a second time, or enters a segment past its start.
+-- whether it names an unknown CPU, has a form that the CPU has not, defines a name a second time, or enters a segment
+-- past its start.
 pub record Place : Type 0 where
-  pub coded : Option (List Fragment)
+  pub fragments : List Fragment
   pub next : ℕ
   pub defined : List Definition
   pub unknown_cpu : Bool
+  pub no_form : Bool
   pub twice : Bool
   pub past_start : Bool
 
-abbrev pub place_of : Placed → Place
-place_of p = record { coded = option_map coded_of p.coded; next = p.next; defined = definitions_in p.definition; unknown_cpu = p.has_unknown_cpu; twice = p.is_twice; past_start = p.is_past_start }
+abbrev pub place_of : List Definition → Placed → Place
+place_of above p = record {
+  fragments = fragments_in p.coded;
+  next = p.next;
+  defined = definitions_in p.definition;
+  unknown_cpu = p.has_unknown_cpu;
+  no_form = is_none p.coded;
+  twice = is_named_in above (definitions_in p.definition);
+  past_start = p.is_past_start;
+}
 
 unfoldable pub place_in : State → SourceLine → Place
 place_in s source = record {
-  coded = coding s (operation_in source);
+  fragments = fragments_of s source;
   next = held (next_of s source);
   defined = held_definitions (defined_by s.at source);
   unknown_cpu = has_unknown_cpu (operation_in source);
+  no_form = has_no_form s source;
   twice = is_named_in s.above (held_definitions (defined_by s.at source));
   past_start = is_past_start s (operation_in source);
 }
@@ -72,15 +83,11 @@ place_in s source = record {
 abbrev pub line_in : State → Option SourceLine → Option Place
 line_in s line = option_map (place_in s) line
 
--- what its bytes stand for; a form that the CPU has not gives none
-abbrev pub fragments_at : Place → List Fragment
-fragments_at p = unwrap_or p.coded []
-
 -- the first of the tests of a line, by what its names and values have
 abbrev pub fault_by : Fit → Place → Option AsmFaultKind
 fault_by fit p = first_of (
     (UnknownCpu, p.unknown_cpu) ∷
-    (NoSuchForm, not (is_some p.coded)) ∷
+    (NoSuchForm, p.no_form) ∷
     (Undefined, not fit.is_known) ∷
     (DefinedTwice, p.twice) ∷
     (OutOfRange, has_large p.defined || not fit.has_room) ∷
@@ -90,12 +97,12 @@ fault_by fit p = first_of (
 -- the lowest fault of a line; `all` are the definitions of the whole text
 unfoldable pub fault_at : List Definition → Option Place → Option AsmFaultKind
 fault_at all None = Some Syntax
-fault_at all (Some p) = fault_by (record { is_known = are_known all (fragments_at p); has_room = list_all (fragment_fits all p.next) (fragments_at p) }) p
+fault_at all (Some p) = fault_by (record { is_known = are_known all p.fragments; has_room = list_all (fragment_fits all p.next) p.fragments }) p
 
 -- the bytes of a line that has no fault
 unfoldable pub bytes_at : List Definition → Option Place → List ℕ
 bytes_at all None = []
-bytes_at all (Some p) = flat_map (fragment_bytes all p.next) (fragments_at p)
+bytes_at all (Some p) = flat_map (fragment_bytes all p.next) p.fragments
 
 -- what comes of line n, with what comes of the lines below it
 abbrev pub line_then : List Definition → ℕ → Option Place → Result (List ℕ) AsmFault → Result (List ℕ) AsmFault

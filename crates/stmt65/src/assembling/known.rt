@@ -57,7 +57,7 @@ fn follow<'a, L: Allocator + Clone, A: Allocator + Clone, B: Allocator, C: Alloc
 {
     let above = names.first(count);
     let placed = place(state, &above, &source);
-    if let Some(_) = code_placed(&names.all(), &placed, out)? {
+    if let Some(_) = code_placed(&names.all(), &above, &placed, out)? {
         return Ok(None);
     }
     let Some(count) = count_after(names, count, placed.definition) else {

@@ -2,7 +2,7 @@
 
 ghost use Rattle.std.specs.Prelude.{◌≡◌, ◌||◌, IfOk, OnOk, Some, drop, false, is_some, nat_lt, not, take};
 ghost use Rattle.std.specs.Option.{option_map};
-ghost use Rattle.stmt65.specs.Words.{Codes, Emits, IsIdle, Keeps, Settles, State as AState, fault_by, fragments_at, late_line, place_of};
+ghost use Rattle.stmt65.specs.Words.{Codes, Emits, IsIdle, Keeps, Settles, State as AState, fault_by, fragments_in, late_line, place_of};
 
 use crate::assembling::about::{About, explain};
 use crate::assembling::emit::{FITS, Fit, put_coded};
@@ -58,7 +58,7 @@ fn put_placed<A: Allocator + Clone, B: Allocator>(
     names: &KnownNames<'_, '_, A>,
     placed: &Placed,
 ) -> Result<Fit, AllocError>
-    ensures { Emits result names.now placed.now.next (fragments_at (place_of placed.now))
+    ensures { Emits result names.now placed.now.next (fragments_in placed.now.coded)
         out.old out.new }
 {
     match placed.coded {
@@ -69,22 +69,27 @@ fn put_placed<A: Allocator + Clone, B: Allocator>(
 
 /// Adds the bytes of a line in its state, or finds its lowest fault.
 pub fn code_placed<A: Allocator + Clone, B: Allocator>(
-    names: &KnownNames<'_, '_, A>,
+    all: &KnownNames<'_, '_, A>,
+    above: &KnownNames<'_, '_, A>,
     placed: &Placed,
     out: &mut Vec<u8, B>,
 ) -> Result<Option<AsmFaultKind>, AllocError>
-    ensures { IfOk result (λ kind. Codes kind names.now (Some (place_of placed.now))
+    ensures { IfOk result (λ kind. Codes kind all.now (Some (place_of above.now placed.now))
         out.old.items out.new.items) }
 {
-    let fit = put_placed(out, names, placed)?;
-    Ok(fault_by(placed, fit))
+    let fit = put_placed(out, all, placed)?;
+    Ok(fault_by(above, placed, fit))
 }
 
-/// Whether a line has no fault.
-fn is_faultless(placed: &Placed, fit: Fit) -> bool
-    ensures { is_some (fault_by fit (place_of placed.now)) ≡ not result }
+/// Whether a line has no fault by the names above it.
+fn is_faultless<A: Allocator + Clone>(
+    above: &KnownNames<'_, '_, A>,
+    placed: &Placed,
+    fit: Fit,
+) -> bool
+    ensures { is_some (fault_by fit (place_of above.now placed.now)) ≡ not result }
 {
-    fit.has_room && fault_by(placed, fit).is_none()
+    fit.has_room && fault_by(above, placed, fit).is_none()
 }
 
 /// Whether a line that has a fault by the names above it has one by whatever names stand below it.
@@ -103,14 +108,14 @@ pub fn settle<'a, A: Allocator + Clone>(
     placed: &Placed,
 ) -> Result<Option<bool>, AllocError>
     ensures { IfOk result (λ kept. (s : AState) → s.above ≡ above.now
-        → Settles work.old work.new s (Some (place_of placed.now)) kept) }
+        → Settles work.old work.new s (Some (place_of above.now placed.now)) kept) }
 {
     if work.is_over {
         return Ok(None);
     }
     let len = work.settled.len();
     let fit = put_placed(&mut work.settled, above, placed)?;
-    if is_faultless(placed, fit) {
+    if is_faultless(above, placed, fit) {
         return Ok(None);
     }
     work.settled.truncate(len);
@@ -166,7 +171,7 @@ pub fn code_late<'a, L: Allocator + Clone, A: Allocator + Clone, C: Allocator>(
     let above = names.first(late.count);
     let placed = place(state, &above, source);
     let all = names.all();
-    match code_placed(&all, &placed, out)? {
+    match code_placed(&all, &above, &placed, out)? {
         Some(kind) => {
             let about = explain(kind, &all, state.layout, placed.next, source);
             Ok(Some((kind, about)))

@@ -1,7 +1,7 @@
 //! A line in its state.
 
 ghost use Rattle.std.specs.Prelude.{◌≡◌, List};
-ghost use Rattle.stmt65.specs.Words.{Definition as ADefinition, IsCoding, coding_len, defined_by, definitions_in, fragments_in, has_unknown_cpu, held, held_definitions, is_named_in, is_past_start, line_operation, place_in, place_of, source_of, state_of};
+ghost use Rattle.stmt65.specs.Words.{Definition as ADefinition, IsCoding, coding_len, defined_by, definitions_in, fragments_in, has_unknown_cpu, held, held_definitions, is_past_start, line_operation, place_in, place_of, source_of, state_of};
 
 use crate::assembling::coding::{Coded, coding};
 use crate::assembling::emit::coded_len;
@@ -11,7 +11,7 @@ use crate::source_line::{Operation, SourceLine};
 use std::alloc::Allocator;
 
 /// A line in its state: what its bytes stand for, or `None` if the CPU has no such form, the address after it, what it
-/// defines, and three of its faults.
+/// defines, and two of its faults.
 #[derive(Clone, Copy)]
 pub struct Placed<'s, 'a> {
     pub coded: Option<Coded<'s, 'a>>,
@@ -19,8 +19,6 @@ pub struct Placed<'s, 'a> {
     pub definition: Option<Definition<'a>>,
     /// Whether it sets a CPU by a text that is no CPU's.
     pub has_unknown_cpu: bool,
-    /// Whether a line above has a name that it defines.
-    pub is_twice: bool,
     /// Whether it enters a segment past its start.
     pub is_past_start: bool,
 }
@@ -94,19 +92,6 @@ fn has_unknown_cpu<'a, B: Allocator>(source: &SourceLine<'a, B>) -> bool
     }
 }
 
-/// Whether a line above has the name of a definition.
-fn is_twice<A: Allocator + Clone>(
-    above: &KnownNames<'_, '_, A>,
-    definition: Option<Definition>,
-) -> bool
-    ensures { result ≡ is_named_in above.now (definitions_in definition.entry) }
-{
-    match definition {
-        Some(definition) => above.find(definition.name).is_some(),
-        None => false,
-    }
-}
-
 /// Whether the line enters a segment past its start.
 #[tactic(auto, unfolding(crate::specs::Meaning::is_past_start))]
 fn is_past_start<'a, L: Allocator + Clone, B: Allocator>(
@@ -134,16 +119,15 @@ pub fn place<'s, 'a, L: Allocator + Clone, A: Allocator + Clone, B: Allocator>(
     above: &KnownNames<'_, '_, A>,
     source: &'s SourceLine<'a, B>,
 ) -> Placed<'s, 'a>
-    ensures { place_of result ≡ place_in (state_of state.now above.now) (source_of source.now) }
+    ensures { place_of above.now result
+        ≡ place_in (state_of state.now above.now) (source_of source.now) }
 {
     let coded = coding_in(state, above, source);
-    let definition = definition_in(state.address, source);
     Placed {
         coded,
         next: state.address.saturating_add(length_of(coded)),
-        definition,
+        definition: definition_in(state.address, source),
         has_unknown_cpu: has_unknown_cpu(source),
-        is_twice: is_twice(above, definition),
         is_past_start: is_past_start(state, source),
     }
 }
