@@ -1,18 +1,19 @@
 -- The table of names keeps its index.
-use Rattle.std.proofs.Common.{◌≡◌, ℕ, zero, suc, Bool, true, false, cond, ◌+◌, ◌<◌, ◌≤◌, List, [], ◌∷◌, ◌++◌, length, map, take, Option, Some, None, refl, sym, ap, ◌∙◌, arith, length-append, Bor}
-use Rattle.std.specs.Prelude.{◌≢◌, eqb, get_or, is_some}
+use Rattle.std.proofs.Common.{◌≡◌, ℕ, zero, suc, Bool, true, false, cond, ltb, ◌+◌, ◌<◌, ◌≤◌, List, [], ◌∷◌, ◌++◌, length, map, take, Option, Some, None, refl, sym, ap, ◌∙◌, arith, length-append, Bor}
+use Rattle.std.specs.Prelude.{◌≢◌, eqb, get_or, is_some, option_map}
 use Rattle.std.specs.List.{slice_get}
 use Rattle.std.specs.Str.{bytes_eq}
 use Rattle.std.specs.BTreeMap.{BTreeMap}
 use Rattle.std.specs.Map.{update}
 use Rattle.std.proofs.lemmas.Bool.{eqb-false, eqb-true}
+use Rattle.std.proofs.lemmas.Bool.Decides.{nat_tests}
 use Rattle.std.proofs.lemmas.Slice.Eq.{bytes_eq-Decides}
 use Rattle.std.proofs.lemmas.List.{length-map, map-append}
 use Rattle.std.proofs.Math.Seq.{take-length}
 use Rattle.stmt65.specs.Words.{Definition, definition_of, find_name, first_at}
 use Rattle.stmt65.specs.declared.assembling.symbols.Definition.{Definition as CodeDefinition}
 use Rattle.stmt65.specs.Code.SymbolViews.{IsIndex, is_named, place_by, place_of, slot_of, taker_of}
-use Rattle.stmt65.proofs.Cases.{by_option, by_test}
+use Rattle.stmt65.proofs.Cases.{by_test}
 
 -- no names in no definitions
 pub index_empty : (ds : List CodeDefinition) (slots : List ℕ) (others : BTreeMap (Bor (List ℕ)) ℕ) → ds ≡ [] → 0 < length slots → ((k : ℕ) → get_or slots k 0 ≡ 0) → others.entries ≡ []
@@ -28,39 +29,26 @@ index_empty ds slots others e some free g = rw (e, g) (record {
 pub all_names : (ds : List CodeDefinition) (n : ℕ) → n ≡ length ds → take n (map definition_of ds) ≡ map definition_of ds
 all_names ds n e = rw (e, ← length-map ds definition_of) (take-length (map definition_of ds))
 
--- a name is found where it stands, among the definitions up to there
-found : (q : List ℕ) (ds : List Definition) (n i : ℕ) → first_at q ds ≡ Some i → i < n → find_name q (take n ds) ≡ slice_get ds i
+-- the definition at a place, among so many of the first
+abbrev at_place : ℕ → List Definition → Option ℕ → Option Definition
+at_place n ds None = None
+at_place n ds (Some i) = cond (ltb i n) (slice_get ds i) None
+
+at_none : (ds : List Definition) (o : Option ℕ) → at_place 0 ds o ≡ None
+at_none ds None = refl
+at_none ds (Some i) = grind arith
+
+at_more : (x : Definition) (ds : List Definition) (n : ℕ) (o : Option ℕ) → at_place (suc n) (x ∷ ds) (option_map suc o) ≡ at_place n ds o
+at_more x ds n None = refl
+at_more x ds n (Some i) = grind (arith, nat_tests)
+
+-- a name is found where it stands first
+pub finds : (q : List ℕ) (ds : List Definition) (n : ℕ) → find_name q (take n ds) ≡ at_place n ds (first_at q ds)
 unfolding find_name first_at
-found q [] n i e h = cc
-found q (x ∷ ds) zero i e h = absurd (omega arith)
-found q (x ∷ ds) (suc n) i e h =
-    by_test (bytes_eq x.name q)
-    (λ f. let e' = rw f at e in let same : i ≡ 0 = cc in rw (f, same) refl)
-    (λ f. by_option (first_at q ds)
-    (λ j k. let e' = rw (f, k) at e in let same : i ≡ suc j = cc in rw (f, same) (found q ds n j k (omega arith)))
-    (λ k. let e' = rw (f, k) at e in absurd cc))
-
--- a name that stands nowhere there
-missed : (q : List ℕ) (ds : List Definition) (n : ℕ) → ((i : ℕ) → first_at q ds ≡ Some i → n ≤ i) → find_name q (take n ds) ≡ None
-unfolding find_name first_at
-missed q [] zero h = refl
-missed q [] (suc n) h = refl
-missed q (x ∷ ds) zero h = refl
-missed q (x ∷ ds) (suc n) h =
-    by_test (bytes_eq x.name q)
-    (λ f. absurd (let k = h 0 (rw f refl) in omega arith))
-    (λ f. rw f (missed q ds n (λ i e. let k = h (suc i) (rw (f, e) refl) in omega arith)))
-
-pub find_within : (q : List ℕ) (ds : List Definition) (n i : ℕ) (o : Option ℕ) → o ≡ first_at q ds → o ≡ Some i → i < n → slice_get ds i ≡ find_name q (take n ds)
-find_within q ds n i o e f h = sym (found q ds n i (sym e ∙ f) h)
-
-pub find_past : (q : List ℕ) (ds : List Definition) (n i : ℕ) (o : Option ℕ) → o ≡ first_at q ds → o ≡ Some i → n ≤ i → None ≡ find_name q (take n ds)
-find_past q ds n i o e f h = sym (missed q ds n (λ j g. let same : i ≡ j = cc in omega arith))
-
-pub find_none : (q : List ℕ) (ds : List Definition) (n : ℕ) (o : Option ℕ) → o ≡ first_at q ds → o ≡ None → None ≡ find_name q (take n ds)
-find_none q ds n o e f = sym (missed q ds n (λ j g. absurd cc))
-
-pub ruleset finds = (find_within, find_past, find_none)
+finds q [] zero = refl
+finds q [] (suc n) = refl
+finds q (x ∷ ds) zero = sym (at_none (x ∷ ds) (first_at q (x ∷ ds)))
+finds q (x ∷ ds) (suc n) = by_test (bytes_eq x.name q) (λ e. rw e (grind arith)) (λ e. rw (e, at_more x ds n (first_at q ds)) (finds q ds n))
 
 -- ---- one more definition
 
@@ -96,89 +84,67 @@ stays : (q : List ℕ) (ds : List CodeDefinition) (d : CodeDefinition) (n : ℕ)
 stays q ds d zero o h = refl
 stays q ds d (suc i) o h = ap (λ (x : Option CodeDefinition). cond (is_named q x) (Some i) o) (slice_get-front ds d i (omega arith))
 
--- another name stands where it stood
-other : (o : Option ℕ) (n : ℕ) → o ≡ or_here o false n
+other : (o : Option ℕ) (n : ℕ) → or_here o false n ≡ o
 other None n = refl
 other (Some i) n = refl
-
-none : (o : Option ℕ) → is_some o ≡ false → o ≡ None
-none None e = refl
-none (Some i) e = cc
 
 within_more : (ds : List CodeDefinition) (d : CodeDefinition) (n : ℕ) → n ≤ length ds → n ≤ length (ds ++ d ∷ [])
 within_more ds d n h = omega (arith, h, length-append ds (d ∷ []))
 
-same_name : (d : CodeDefinition) (q : List ℕ) → bytes_eq d.name.now q ≡ true → d.name.now ≡ q
-same_name d q e = (bytes_eq-Decides d.name.now q).0 e
-
-known_none : (q : List ℕ) (ds : List CodeDefinition) → is_some (first_at q (map definition_of ds)) ≡ false → first_at q (map definition_of ds) ≡ None
-known_none q ds e = none (first_at q (map definition_of ds)) e
+-- where each name stands once a definition is added: another name stands where it stood
+index_more : (ds : List CodeDefinition) (count : ℕ) (taker next : ℕ → ℕ) (others later : List ℕ → Option ℕ) (d : CodeDefinition) → IsIndex ds count taker others
+    → ((k : ℕ) → next k ≤ length (ds ++ d ∷ [])) → ((q : List ℕ) → next (slot_of count q) ≡ 0 → later q ≡ None)
+    → ((q : List ℕ) → bytes_eq d.name.now q ≡ false → place_by q (ds ++ d ∷ []) (next (slot_of count q)) (later q) ≡ place_by q ds (taker (slot_of count q)) (others q))
+    → place_by d.name.now (ds ++ d ∷ []) (next (slot_of count d.name.now)) (later d.name.now) ≡ or_here (first_at d.name.now (map definition_of ds)) true (length ds)
+    → IsIndex (ds ++ d ∷ []) count next later
+index_more ds count taker next others later d h within free same here = record {
+  some = h.some;
+  within = within;
+  free = free;
+  finds = λ q. by_test (bytes_eq d.name.now q)
+      (λ e. let is = (bytes_eq-Decides d.name.now q).0 e in rw (pushed q ds d, e, ← is) here)
+      (λ e. rw (pushed q ds d, e, other) (same q e ∙ h.finds q));
+}
 
 pub index_known : (ds : List CodeDefinition) (count : ℕ) (taker : ℕ → ℕ) (others : List ℕ → Option ℕ) (d : CodeDefinition) → IsIndex ds count taker others → is_some (first_at d.name.now (map definition_of ds)) ≡ true
     → IsIndex (ds ++ d ∷ []) count taker others
-index_known ds count taker others d h known = record {
-  some = h.some;
-  within = λ k. within_more ds d (taker k) (h.within k);
-  free = h.free;
-  finds = λ q. stays q ds d (taker (slot_of count q)) (others q) (h.within (slot_of count q)) ∙ h.finds q ∙ go q (bytes_eq d.name.now q) refl ∙ sym (pushed q ds d);
-}
+index_known ds count taker others d h known =
+    index_more ds count taker taker others others d h (λ k. within_more ds d (taker k) (h.within k)) h.free
+    (λ q e. stays q ds d (taker (slot_of count q)) (others q) (h.within (slot_of count q)))
+    (stays d.name.now ds d (taker (slot_of count d.name.now)) (others d.name.now) (h.within (slot_of count d.name.now)) ∙ h.finds d.name.now ∙ here (first_at d.name.now (map definition_of ds)) known)
   where
-    here : (o : Option ℕ) (b : Bool) → is_some o ≡ true → o ≡ or_here o b (length ds)
-    here None b e = absurd cc
-    here (Some i) b e = refl
-
-    go : (q : List ℕ) (b : Bool) → bytes_eq d.name.now q ≡ b → first_at q (map definition_of ds) ≡ or_here (first_at q (map definition_of ds)) (bytes_eq d.name.now q) (length ds)
-    go q true e = here (first_at q (map definition_of ds)) (bytes_eq d.name.now q) (ap (λ (w : List ℕ). is_some (first_at w (map definition_of ds))) (sym (same_name d q e)) ∙ known)
-    go q false e = other (first_at q (map definition_of ds)) (length ds) ∙ ap (λ (b : Bool). or_here (first_at q (map definition_of ds)) b (length ds)) (sym e)
+    here : (o : Option ℕ) → is_some o ≡ true → o ≡ or_here o true (length ds)
+    here None e = absurd cc
+    here (Some i) e = refl
 
 -- a name whose slot is taken
-pub index_other : (ds : List CodeDefinition) (count : ℕ) (taker : ℕ → ℕ) (others next : List ℕ → Option ℕ) (d : CodeDefinition) (n : ℕ) → IsIndex ds count taker others → is_some (first_at d.name.now (map definition_of ds)) ≡ false → n ≡ length ds
-    → taker (slot_of count d.name.now) ≢ 0 → ((q : List ℕ) → next q ≡ update bytes_eq others d.name.now (Some n) q) → IsIndex (ds ++ d ∷ []) count taker next
-index_other ds count taker others next d n h unknown is taken now = record {
-  some = h.some;
-  within = λ k. within_more ds d (taker k) (h.within k);
-  free = λ q e. alone q e (bytes_eq d.name.now q) refl;
-  finds = λ q. stays q ds d (taker (slot_of count q)) (next q) (h.within (slot_of count q)) ∙ go q (taker (slot_of count q)) refl (bytes_eq d.name.now q) refl ∙ sym (pushed q ds d);
-}
+pub index_other : (ds : List CodeDefinition) (count : ℕ) (taker : ℕ → ℕ) (others later : List ℕ → Option ℕ) (d : CodeDefinition) (n : ℕ) → IsIndex ds count taker others → first_at d.name.now (map definition_of ds) ≡ None → n ≡ length ds
+    → taker (slot_of count d.name.now) ≢ 0 → ((q : List ℕ) → later q ≡ update bytes_eq others d.name.now (Some n) q) → IsIndex (ds ++ d ∷ []) count taker later
+index_other ds count taker others later d n h unknown is taken now =
+    index_more ds count taker taker others later d h (λ k. within_more ds d (taker k) (h.within k)) free
+    (λ q e. stays q ds d (taker (slot_of count q)) (later q) (h.within (slot_of count q)) ∙ ap (place_by q ds (taker (slot_of count q))) (now q ∙ rw e refl))
+    (stays d.name.now ds d (taker (slot_of count d.name.now)) (later d.name.now) (h.within (slot_of count d.name.now)) ∙ here (taker (slot_of count d.name.now)) taken (h.finds d.name.now ∙ unknown))
   where
-    alone : (q : List ℕ) → taker (slot_of count q) ≡ 0 → (b : Bool) → bytes_eq d.name.now q ≡ b → next q ≡ None
-    alone q e true f = absurd (taken (ap (λ (w : List ℕ). taker (slot_of count w)) (same_name d q f) ∙ e))
-    alone q e false f = now q ∙ rw f (h.free q e)
+    free : (q : List ℕ) → taker (slot_of count q) ≡ 0 → later q ≡ None
+    free q e = by_test (bytes_eq d.name.now q)
+        (λ f. let is = (bytes_eq-Decides d.name.now q).0 f in absurd (taken (rw is e)))
+        (λ f. now q ∙ rw f (h.free q e))
 
-    new : (q : List ℕ) (i : ℕ) (b : Bool) → is_named q (slice_get ds i) ≡ b → cond (is_named q (slice_get ds i)) (Some i) (others q) ≡ None → cond (is_named q (slice_get ds i)) (Some i) (Some n) ≡ Some n
-    new q i true e f = let f' = rw e at f in absurd cc
-    new q i false e f = rw e refl
-
-    go : (q : List ℕ) (t : ℕ) → taker (slot_of count q) ≡ t → (b : Bool) → bytes_eq d.name.now q ≡ b → place_by q ds (taker (slot_of count q)) (next q) ≡ or_here (first_at q (map definition_of ds)) (bytes_eq d.name.now q) (length ds)
-    go q zero e true f = absurd (taken (ap (λ (w : List ℕ). taker (slot_of count w)) (same_name d q f) ∙ e))
-    go q (suc i) e true f =
-        let k = known_none q ds (ap (λ (w : List ℕ). is_some (first_at w (map definition_of ds))) (sym (same_name d q f)) ∙ unknown) in
-        let old = rw e at (h.finds q) in
-        rw (e, now q, f, k, ← is) (new q i (is_named q (slice_get ds i)) refl (old ∙ k))
-    go q t e false f = rw (now q, f) (h.finds q ∙ other (first_at q (map definition_of ds)) (length ds))
+    here : (t : ℕ) → t ≢ 0 → place_by d.name.now ds t (others d.name.now) ≡ None → place_by d.name.now ds t (later d.name.now) ≡ or_here (first_at d.name.now (map definition_of ds)) true (length ds)
+    here zero e f = absurd (e refl)
+    here (suc i) e f = let same = (bytes_eq-Decides d.name.now d.name.now).1 refl in by_test (is_named d.name.now (slice_get ds i)) (λ g. let f' = rw g at f in absurd cc) (λ g. rw (unknown, now d.name.now, same, g, is) refl)
 
 -- a name whose slot is free
-pub index_taken : (ds : List CodeDefinition) (count more : ℕ) (taker next : ℕ → ℕ) (others : List ℕ → Option ℕ) (d : CodeDefinition) (n : ℕ) → IsIndex ds count taker others → is_some (first_at d.name.now (map definition_of ds)) ≡ false → n ≡ length ds
+pub index_taken : (ds : List CodeDefinition) (count more : ℕ) (taker next : ℕ → ℕ) (others : List ℕ → Option ℕ) (d : CodeDefinition) (n : ℕ) → IsIndex ds count taker others → first_at d.name.now (map definition_of ds) ≡ None → n ≡ length ds
     → more ≡ count → taker (slot_of count d.name.now) ≡ 0 → next (slot_of count d.name.now) ≡ suc n → ((k : ℕ) → k ≢ slot_of count d.name.now → next k ≡ taker k) → IsIndex (ds ++ d ∷ []) more next others
-index_taken ds count more taker next others d n h unknown is same free here now = rw same (record {
-  some = h.some;
-  within = λ k. by_test (eqb k (slot_of count d.name.now)) (λ e. bound k (eqb-true k (slot_of count d.name.now) e)) (λ e. rw (now k (eqb-false k (slot_of count d.name.now) e)) (within_more ds d (taker k) (h.within k)));
-  free = λ q e. by_test (eqb (slot_of count q) (slot_of count d.name.now)) (λ f. absurd (let g = eqb-true (slot_of count q) (slot_of count d.name.now) f in let e' = rw (g, here) at e in omega arith)) (λ f. h.free q (sym (now (slot_of count q) (eqb-false (slot_of count q) (slot_of count d.name.now) f)) ∙ e));
-  finds = λ q. by_test (eqb (slot_of count q) (slot_of count d.name.now)) (λ f. inside q (eqb-true (slot_of count q) (slot_of count d.name.now) f) (bytes_eq d.name.now q) refl ∙ sym (pushed q ds d))
-      (λ f. off q (eqb-false (slot_of count q) (slot_of count d.name.now) f) (bytes_eq d.name.now q) refl ∙ sym (pushed q ds d));
-})
+index_taken ds count more taker next others d n h unknown is same free here now = rw same (
+    index_more ds count taker next others others d h
+    (λ k. at_slot k (λ e. rw (e, here, is) (omega (arith, length-append ds (d ∷ [])))) (λ e. rw e (within_more ds d (taker k) (h.within k))))
+    (λ q e. at_slot (slot_of count q) (λ f. absurd (let g = rw (f, here) at e in omega arith)) (λ f. h.free q (sym f ∙ e)))
+    (λ q e. at_slot (slot_of count q) (λ f. let none = h.free q (rw f free) in rw (f, here, is, free, slice_get-last, e) none)
+    (λ f. rw f (stays q ds d (taker (slot_of count q)) (others q) (h.within (slot_of count q)))))
+    (let named = (bytes_eq-Decides d.name.now d.name.now).1 refl in rw (here, is, slice_get-last, named, unknown) refl))
   where
-    bound : (k : ℕ) → k ≡ slot_of count d.name.now → next k ≤ length (ds ++ d ∷ [])
-    bound k e = rw (e, here, is) (omega (arith, length-append ds (d ∷ [])))
-
-    -- in the slot of the new name no name stood
-    empty : (q : List ℕ) → slot_of count q ≡ slot_of count d.name.now → first_at q (map definition_of ds) ≡ None
-    empty q e = let old = rw (e, free) at (h.finds q) in sym old
-
-    inside : (q : List ℕ) → slot_of count q ≡ slot_of count d.name.now → (b : Bool) → bytes_eq d.name.now q ≡ b → place_by q (ds ++ d ∷ []) (next (slot_of count q)) (others q) ≡ or_here (first_at q (map definition_of ds)) (bytes_eq d.name.now q) (length ds)
-    inside q e true f = rw (e, here, is, slice_get-last, f, empty q e) refl
-    inside q e false f = rw (e, here, is, slice_get-last, f, empty q e) (h.free q (ap taker e ∙ free))
-
-    off : (q : List ℕ) → slot_of count q ≢ slot_of count d.name.now → (b : Bool) → bytes_eq d.name.now q ≡ b → place_by q (ds ++ d ∷ []) (next (slot_of count q)) (others q) ≡ or_here (first_at q (map definition_of ds)) (bytes_eq d.name.now q) (length ds)
-    off q e true f = absurd (e (ap (slot_of count) (sym (same_name d q f))))
-    off q e false f = rw (now (slot_of count q) e, f) (stays q ds d (taker (slot_of count q)) (others q) (h.within (slot_of count q)) ∙ h.finds q ∙ other (first_at q (map definition_of ds)) (length ds))
+    -- in the slot of the new name, or in another one
+    at_slot : {P : Type 0} (k : ℕ) → (k ≡ slot_of count d.name.now → P) → (next k ≡ taker k → P) → P
+    at_slot k f g = by_test (eqb k (slot_of count d.name.now)) (λ e. f (eqb-true k (slot_of count d.name.now) e)) (λ e. g (now k (eqb-false k (slot_of count d.name.now) e)))

@@ -109,7 +109,6 @@ fn is_named(definitions: &[Definition<'_>], place: usize, name: &[u8]) -> bool
 
 impl<'a, A: Allocator + Clone> Symbols<'a, A> {
     /// No definitions, where about so many are to come.
-    #[tactic(auto, using(crate::proofs::SymbolLaws::index_empty))]
     pub fn new(alloc: A, count: usize) -> Result<Self, AllocError>
         ensures { IfOk result (λ s. s ≡ []) }
     {

@@ -1,5 +1,5 @@
-use Rattle.std.proofs.Common.{◌≡◌, ◌∙◌, ◌+◌, ℕ, false, true, ap, arith, length, map, set, sym}
-use Rattle.std.specs.Prelude.{get_or, is_some}
+use Rattle.std.proofs.Common.{◌≡◌, ◌∙◌, ◌+◌, ℕ, true, ap, arith, length, map, set, sym}
+use Rattle.std.specs.Prelude.{None, get_or, is_some}
 use Rattle.std.proofs.lemmas.Grind.{get_or-set_at, get_or_default_zero}
 use Rattle.std.proofs.lemmas.List.{get_or-set_other, length-set}
 use Rattle.std.proofs.lemmas.Map.Text.{btree_map_updates_str}
@@ -18,7 +18,7 @@ pub invariant_of-self-then-is_free : goal.invariant_of-self-then-is_free
 invariant_of-self-then-is_free g c =
     let s = c.self.inside in
     let name = c.args.definition.name.now in
-    let unknown : is_some (first_at name (map definition_of s.definitions.items)) ≡ false = grind (arith, c.place_of.ensures, c.is_some-is_known.ensures, c.if-is_known.false, c.self.view_is) in
+    let unknown : first_at name (map definition_of s.definitions.items) ≡ None = grind (arith, c.place_of.ensures, c.is_some-is_known.ensures, c.if-is_known.false, c.self.view_is) in
     let slot : c.slot_of-slot.result ≡ slot_of (length s.slots.items) name = c.slot_of-slot.ensures.slot ∙ ap (λ (n : ℕ). slot_of n name) (c.len.ensures ∙ s.slots.ok.0) in
     let free : get_or s.slots.items (slot_of (length s.slots.items) name) 0 ≡ 0 = grind (arith, slot, c.index.ensures, c.if-is_free.true) in
     rw c.in_ok-push.ensures.items (index_taken s.definitions.items (length s.slots.items) _ (taker_of s.slots.items) (taker_of (set s.slots.items c.slot_of-slot.result (c.len-place.result + 1))) (place_of s.others) c.args.definition c.len-place.result c.self.invariant unknown
@@ -30,7 +30,7 @@ pub invariant_of-self-in-Ok : goal.invariant_of-self-in-Ok
 invariant_of-self-in-Ok g c =
     let s = c.self.inside in
     let name = c.args.definition.name.now in
-    let unknown : is_some (first_at name (map definition_of s.definitions.items)) ≡ false = grind (arith, c.place_of.ensures, c.is_some-is_known.ensures, c.if-is_known.false, c.self.view_is) in
+    let unknown : first_at name (map definition_of s.definitions.items) ≡ None = grind (arith, c.place_of.ensures, c.is_some-is_known.ensures, c.if-is_known.false, c.self.view_is) in
     let slot : c.slot_of-slot.result ≡ slot_of (length s.slots.items) name = c.slot_of-slot.ensures.slot ∙ ap (λ (n : ℕ). slot_of n name) (c.len.ensures ∙ s.slots.ok.0) in
     let there : get_or s.slots.items (slot_of (length s.slots.items) name) 0 ≡ c.index.result.now =
     sym (c.index.ensures ∙ get_or_default_zero s.slots.items c.slot_of-slot.result c.index.result.now (omega (arith, c.slot_of-slot.ensures.within, c.len.ensures, s.slots.ok.0)) ∙ ap (λ (k : ℕ). get_or s.slots.items k 0) slot) in
