@@ -176,29 +176,6 @@ fn of_values<'a, A: Allocator + Clone, B: Allocator>(
     None
 }
 
-/// What a fault of this kind of a line is about, if the text of the line does not say it.
-fn of_operation<'a, L: Allocator + Clone, A: Allocator + Clone, B: Allocator>(
-    kind: AsmFaultKind,
-    names: &KnownNames<'_, '_, A>,
-    layout: &Layout<'_, L>,
-    next: u64,
-    operation: &Operation<'a, B>,
-) -> Option<About<'a>> {
-    match (kind, operation) {
-        (AsmFaultKind::Undefined, _) => of_values(kind, names, operation),
-        (AsmFaultKind::OutOfRange, Operation::Reserve(_, _)) => Some(About::Reserve),
-        (AsmFaultKind::OutOfRange, _) => match too_far(names, next, operation) {
-            None => of_values(kind, names, operation),
-            found => found,
-        },
-        (AsmFaultKind::PastStart, Operation::Segment(name)) => {
-            let start = layout.start_of(name)?;
-            Some(About::Past(next.saturating_sub(u64::from(start)), start))
-        }
-        _ => None,
-    }
-}
-
 /// What a fault of a line is about, by names among which are all of the line that have a
 /// definition, and the address after the line.
 pub fn explain<'a, L: Allocator + Clone, A: Allocator + Clone, B: Allocator>(
@@ -208,10 +185,19 @@ pub fn explain<'a, L: Allocator + Clone, A: Allocator + Clone, B: Allocator>(
     next: u64,
     source: &SourceLine<'a, B>,
 ) -> About<'a> {
-    match source {
-        SourceLine::Statement { operation, .. } => {
-            of_operation(kind, names, layout, next, operation).unwrap_or(About::Line)
+    let SourceLine::Statement { operation, .. } = source else {
+        return About::Line;
+    };
+    let found = match (kind, operation) {
+        (AsmFaultKind::Undefined, _) => of_values(kind, names, operation),
+        (AsmFaultKind::OutOfRange, Operation::Reserve(_, _)) => Some(About::Reserve),
+        (AsmFaultKind::OutOfRange, _) => {
+            too_far(names, next, operation).or(of_values(kind, names, operation))
         }
-        _ => About::Line,
-    }
+        (AsmFaultKind::PastStart, Operation::Segment(name)) => layout.start_of(name).map(
+            |start| About::Past(next.saturating_sub(u64::from(start)), start),
+        ),
+        _ => None,
+    };
+    found.unwrap_or(About::Line)
 }
