@@ -25,24 +25,20 @@ unfolding coding_len
 text_len [] = refl
 text_len (b ∷ bs) = let ih = text_len bs in omega arith
 
--- an operand, and its opcode before it
-pub operand_len-none : 0 ≡ held (coding_len [])
+-- an opcode, and its operand
+pub instruction_len-none : (b : ℕ) → 1 ≡ held (coding_len (Fixed b ∷ []))
 unfolding coding_len
-operand_len-none = refl
+instruction_len-none b = refl
 
-pub operand_len-one : (f : Fragment) (n : ℕ) → n ≡ held (fragment_len f) → n ≡ held (coding_len (f ∷ []))
+pub instruction_len-one : (b : ℕ) (f : Fragment) (n len : ℕ) → n ≡ held (fragment_len f) → len ≡ held (n + 1) → len ≡ held (coding_len (Fixed b ∷ f ∷ []))
 unfolding coding_len
-operand_len-one f n e = omega (arith, e)
+instruction_len-one b f n len e h = omega (arith, e, h)
 
-pub operand_len-two : (f g : Fragment) (m k n : ℕ) → m ≡ held (fragment_len f) → k ≡ held (fragment_len g) → n ≡ held (m + k) → n ≡ held (coding_len (f ∷ g ∷ []))
+pub instruction_len-two : (b : ℕ) (f g : Fragment) (m k n len : ℕ) → m ≡ held (fragment_len f) → k ≡ held (fragment_len g) → n ≡ held (m + k) → len ≡ held (n + 1) → len ≡ held (coding_len (Fixed b ∷ f ∷ g ∷ []))
 unfolding coding_len
-operand_len-two f g m k n e h s = omega (arith, e, h, s)
+instruction_len-two b f g m k n len e h s t = omega (arith, e, h, s, t)
 
-pub ruleset operand_lens = (operand_len-none, operand_len-one, operand_len-two)
-
-pub opcode_len : (b : ℕ) (fs : List Fragment) (len n : ℕ) → len ≡ held (coding_len fs) → n ≡ held (len + 1) → n ≡ held (coding_len (Fixed b ∷ fs))
-unfolding coding_len
-opcode_len b fs len n e h = omega (arith, e, h)
+pub ruleset instruction_lens = (instruction_len-none, instruction_len-one, instruction_len-two)
 
 -- the entries of a directive are alike
 pub entries_len : (d : Directive) (vs : List CodeValue) → coding_len (entry_fragments d vs) ≡ length vs * length (entry_bytes d 0)

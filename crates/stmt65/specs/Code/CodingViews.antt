@@ -44,7 +44,7 @@ entry_fragments d vs = map (Entry d) (map value_of vs)
 abbrev pub coded_of : CodeCoded → List Fragment
 coded_of code_coded.Nothing = []
 coded_of (code_coded.Instruction i) = instruction_of i
-coded_of (code_coded.Operand o) = operand_of o
+coded_of (code_coded.Fill f) = fragment_of f ∷ []
 coded_of (code_coded.Data ds) = data_fragments ds.now
 coded_of (code_coded.Values d vs) = entry_fragments d vs.now
 

@@ -62,8 +62,8 @@ pub enum Coded<'s, 'a> {
     Nothing,
     /// An opcode and its operand.
     Instruction(Instruction<'s, 'a>),
-    /// An operand whose opcode has been taken, or bytes that are reserved.
-    Operand(Operand<'s, 'a>),
+    /// Bytes of one value.
+    Fill(Fragment<'s, 'a>),
     /// Numbers and strings.
     Data(&'s [Datum<'a>]),
     /// Numbers as the directive gives them.
@@ -207,7 +207,7 @@ fn gap<'s, 'a, L: Allocator + Clone>(state: &State<'_, '_, L>, name: &[u8]) -> C
     match state.layout.start_of(name) {
         Some(start) => {
             let missing = u64::from(start).saturating_sub(state.address);
-            Coded::Operand(Operand::One(Fragment::Gap(missing as u16, state.layout.fill())))
+            Coded::Fill(Fragment::Gap(missing as u16, state.layout.fill()))
         }
         None => Coded::Nothing,
     }
@@ -234,10 +234,7 @@ pub fn coding<'s, 'a, L: Allocator + Clone, A: Allocator + Clone, B: Allocator>(
         }
         Operation::Data(data) => Some(Coded::Data(data)),
         Operation::Values(directive, values) => Some(Coded::Values(*directive, values)),
-        Operation::Reserve(count, value) => {
-            let reserved = Fragment::Reserved(count, value);
-            Some(Coded::Operand(Operand::One(reserved)))
-        }
+        Operation::Reserve(count, value) => { Some(Coded::Fill(Fragment::Reserved(count, value))) }
         Operation::Segment(name) => Some(gap(state, name)),
         Operation::Nothing | Operation::Code | Operation::SetCpu(_) => Some(Coded::Nothing),
     }

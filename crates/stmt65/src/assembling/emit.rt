@@ -54,22 +54,17 @@ fn values_len(directive: Directive, values: &[Value]) -> u64
     (values.len() as u64).saturating_mul(size(directive))
 }
 
-#[tactic(auto, using(crate::proofs::CodingLemmas::operand_lens))]
-fn operand_len(operand: Operand) -> u64
-    ensures { result ≡ held (coding_len (operand_of operand.entry)) }
-{
-    match operand {
-        Operand::None => 0,
-        Operand::One(fragment) => fragment_len(fragment),
-        Operand::Two(first, second) => fragment_len(first).saturating_add(fragment_len(second)),
-    }
-}
-
-#[tactic(auto, using(crate::proofs::CodingLemmas::opcode_len))]
+#[tactic(auto, using(crate::proofs::CodingLemmas::instruction_lens))]
 fn instruction_len(instruction: Instruction) -> u64
     ensures { result ≡ held (coding_len (instruction_of instruction.entry)) }
 {
-    operand_len(instruction.operand).saturating_add(1)
+    match instruction.operand {
+        Operand::None => 1,
+        Operand::One(fragment) => fragment_len(fragment).saturating_add(1),
+        Operand::Two(first, second) => fragment_len(first)
+            .saturating_add(fragment_len(second))
+            .saturating_add(1),
+    }
 }
 
 /// How many bytes the coding has; 2^64 - 1 in place of every greater length.
@@ -80,7 +75,7 @@ pub fn coded_len(coded: Coded) -> u64
     match coded {
         Coded::Nothing => 0,
         Coded::Instruction(instruction) => instruction_len(instruction),
-        Coded::Operand(operand) => operand_len(operand),
+        Coded::Fill(fragment) => fragment_len(fragment),
         Coded::Data(data) => data_len(data),
         Coded::Values(directive, values) => values_len(directive, values),
     }
@@ -234,7 +229,7 @@ pub fn put_coded<A: Allocator + Clone, B: Allocator>(
     match coded {
         Coded::Nothing => Ok(FITS),
         Coded::Instruction(instruction) => put_instruction(out, names, next, instruction),
-        Coded::Operand(operand) => put_operand(out, names, next, operand),
+        Coded::Fill(fragment) => put(out, names, next, fragment),
         Coded::Data(data) => put_data(out, names, next, data),
         Coded::Values(directive, values) => put_values(out, names, next, directive, values),
     }
