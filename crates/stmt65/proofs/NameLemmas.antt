@@ -80,7 +80,7 @@ find_first w [] all e h = absurd cc
 find_first w (d ∷ ds) [] e h = absurd cc
 find_first w (d ∷ ds) (x ∷ all) e h = grind (arith, (find_first w ds all))
 
-first_agree : (ds all : List Definition) → AreFirstOf ds all → Agree ds all
+pub first_agree : (ds all : List Definition) → AreFirstOf ds all → Agree ds all
 first_agree ds all e w h = ap (option_map held_definition) (find_first w ds all e h)
 
 -- what is seen of the definition of a name that has one
@@ -103,17 +103,6 @@ known_alike ds all (DifferenceValue w v) agree h = let both = and_parts (is_some
 
 -- ---- fragments
 
--- fragments whose names are known are the same
-pub record Alike (ds all : List Definition) (next : ℕ) (fs : List Fragment) : Type 0 where
-  pub known : list_all (is_fragment_known all) fs ≡ true
-  pub fits : list_all (fragment_fits all next) fs ≡ list_all (fragment_fits ds next) fs
-  pub bytes : flat_map (fragment_bytes all next) fs ≡ flat_map (fragment_bytes ds next) fs
-
-fragment_known : (ds all : List Definition) (f : Fragment) → Agree ds all → is_fragment_known ds f ≡ true → is_fragment_known all f ≡ true
-fragment_known ds all (Fixed b) agree h = refl
-fragment_known ds all (Fill n b) agree h = refl
-fragment_known ds all _ agree h = known_alike ds all _ agree h
-
 word_alike : (ds all : List Definition) (v : Value) → Agree ds all → is_known ds v ≡ true → word_in all v ≡ word_in ds v
 unfolding word_in
 word_alike ds all v agree h = below_capped 65536 _ _ (omega arith) (value_alike ds all v agree h)
@@ -122,50 +111,42 @@ entry_alike : (ds all : List Definition) (d : Directive) (v : Value) → Agree d
 unfolding entry_in
 entry_alike ds all d v agree h = entry_capped d _ _ (value_alike ds all v agree h)
 
-fits_alike : (ds all : List Definition) (next : ℕ) (f : Fragment) → Agree ds all → is_fragment_known ds f ≡ true → fragment_fits all next f ≡ fragment_fits ds next f
-unfolding fragment_fits
-fits_alike ds all next (Fixed b) agree h = refl
-fits_alike ds all next (Fill n b) agree h = refl
-fits_alike ds all next (Oversized v) agree h = refl
-fits_alike ds all next (Entry d v) agree h = rw (entry_alike ds all d v agree h) refl
-fits_alike ds all next _ agree h = rw (word_alike ds all _ agree h) refl
+-- a fragment that is known in both, and is the same
+fragment_alike : (ds all : List Definition) (next : ℕ) (f : Fragment) → Agree ds all → is_fragment_known ds f ≡ true
+    → (is_fragment_known all f ≡ true) × (fragment_fits all next f ≡ fragment_fits ds next f) × (fragment_bytes all next f ≡ fragment_bytes ds next f)
+unfolding fragment_fits fragment_bytes
+fragment_alike ds all next (Fixed b) agree h = (refl, refl, refl)
+fragment_alike ds all next (Fill n b) agree h = (refl, refl, refl)
+fragment_alike ds all next (Oversized v) agree h = (known_alike ds all v agree h, refl, rw (word_alike ds all v agree h) refl)
+fragment_alike ds all next (Entry d v) agree h = (known_alike ds all v agree h, rw (entry_alike ds all d v agree h) refl, rw (entry_alike ds all d v agree h) refl)
+fragment_alike ds all next _ agree h = (known_alike ds all _ agree h, rw (word_alike ds all _ agree h) refl, rw (word_alike ds all _ agree h) refl)
 
-bytes_alike : (ds all : List Definition) (next : ℕ) (f : Fragment) → Agree ds all → is_fragment_known ds f ≡ true → fragment_bytes all next f ≡ fragment_bytes ds next f
-unfolding fragment_bytes
-bytes_alike ds all next (Fixed b) agree h = refl
-bytes_alike ds all next (Fill n b) agree h = refl
-bytes_alike ds all next (Entry d v) agree h = rw (entry_alike ds all d v agree h) refl
-bytes_alike ds all next _ agree h = rw (word_alike ds all _ agree h) refl
+-- the same of fragments
+pub record Alike (ds all : List Definition) (next : ℕ) (fs : List Fragment) : Type 0 where
+  pub known : list_all (is_fragment_known all) fs ≡ true
+  pub fits : list_all (fragment_fits all next) fs ≡ list_all (fragment_fits ds next) fs
+  pub bytes : flat_map (fragment_bytes all next) fs ≡ flat_map (fragment_bytes ds next) fs
 
 alike : (ds all : List Definition) (next : ℕ) (fs : List Fragment) → Agree ds all → list_all (is_fragment_known ds) fs ≡ true → Alike ds all next fs
 alike ds all next [] agree h = record { known = refl; fits = refl; bytes = refl }
 alike ds all next (f ∷ fs) agree h =
     let both = and_parts (is_fragment_known ds f) (list_all (is_fragment_known ds) fs) h in
+    let one = fragment_alike ds all next f agree both.0 in
     let rest = alike ds all next fs agree both.1 in
-    record {
-      known = rw (fragment_known ds all f agree both.0) rest.known;
-      fits = rw (fits_alike ds all next f agree both.0, rest.fits) refl;
-      bytes = rw (bytes_alike ds all next f agree both.0, rest.bytes) refl;
-    }
+    record { known = rw (one.0, rest.known) refl; fits = rw (one.1, rest.fits) refl; bytes = rw (one.2, rest.bytes) refl }
 
 -- ---- lines
 
 abbrev pub knows : List Definition → Place → Bool
 knows all p = list_all (is_fragment_known all) p.fragments
 
-fault_alike : (ds all : List Definition) (p : Place) → Agree ds all → knows ds p ≡ true → fault_at all (Some p) ≡ fault_at ds (Some p)
+pub fault_alike : (ds all : List Definition) (p : Place) → Agree ds all → knows ds p ≡ true → fault_at all (Some p) ≡ fault_at ds (Some p)
 unfolding fault_at
 fault_alike ds all p agree h = let same = alike ds all p.next p.fragments agree h in rw (same.known, same.fits, h) refl
 
-line_bytes_alike : (ds all : List Definition) (p : Place) → Agree ds all → knows ds p ≡ true → bytes_at all (Some p) ≡ bytes_at ds (Some p)
+pub bytes_alike : (ds all : List Definition) (p : Place) → Agree ds all → knows ds p ≡ true → bytes_at all (Some p) ≡ bytes_at ds (Some p)
 unfolding bytes_at
-line_bytes_alike ds all p agree h = (alike ds all p.next p.fragments agree h).bytes
-
-pub fault_first : (ds all : List Definition) (p : Place) → AreFirstOf ds all → knows ds p ≡ true → fault_at all (Some p) ≡ fault_at ds (Some p)
-fault_first ds all p first h = fault_alike ds all p (first_agree ds all first) h
-
-pub bytes_first : (ds all : List Definition) (p : Place) → AreFirstOf ds all → knows ds p ≡ true → bytes_at all (Some p) ≡ bytes_at ds (Some p)
-bytes_first ds all p first h = line_bytes_alike ds all p (first_agree ds all first) h
+bytes_alike ds all p agree h = (alike ds all p.next p.fragments agree h).bytes
 
 pub unless_any : (n : ℕ) (fault : Option AsmFaultKind) (a b : Result (List ℕ) AsmFault) → is_some fault ≡ true → unless n fault a ≡ unless n fault b
 unless_any n None a b h = absurd cc
@@ -182,7 +163,7 @@ unfolding fault_at bytes_at
 line_then-held all n None rest = refl
 line_then-held all n (Some p) rest =
     by_test (knows all p)
-    (λ e. rw (fault_alike all (held_definitions all) p (held_agree all) e, line_bytes_alike all (held_definitions all) p (held_agree all) e) refl)
+    (λ e. rw (fault_alike all (held_definitions all) p (held_agree all) e, bytes_alike all (held_definitions all) p (held_agree all) e) refl)
     (λ e. by_test (knows (held_definitions all) p)
     (λ g. absurd (let h = (alike (held_definitions all) all p.next p.fragments (agree_held all) g).known in cc))
     (λ g. let same = fault_unknown all (held_definitions all) p e g in rw same.0 (unless_any n _ _ _ same.1)))

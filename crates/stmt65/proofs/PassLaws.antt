@@ -1,6 +1,6 @@
 -- What a pass has done, line after line.
-use Rattle.std.proofs.Common.{◌≡◌, ℕ, Bool, true, false, cond, ltb, ◌+◌, ◌≤◌, List, [], ◌∷◌, ◌++◌, length, take, drop, get_or, ◌<◌, arith, length-append, Option, Some, None, refl, sym, ap, ◌∙◌, append_assoc}
-use Rattle.std.specs.Prelude.{◌||◌, Result, Ok, Err, IfNone, OnOk, is_some}
+use Rattle.std.proofs.Common.{◌≡◌, ℕ, Bool, true, false, ltb, ◌+◌, ◌≤◌, List, [], ◌∷◌, ◌++◌, length, take, drop, get_or, ◌<◌, arith, length-append, Option, Some, None, refl, sym, ap, ◌∙◌, append_assoc}
+use Rattle.std.specs.Prelude.{◌||◌, Result, Ok, Err, IfNone, is_some}
 use Rattle.std.proofs.Math.Seq.{take-append_seam, take-length}
 use Rattle.std.proofs.lemmas.List.{append-nil, drop-append-le, drop_all, drop_more, length-drop, take-append-le, take_all}
 use Rattle.stmt65.specs.Words.{AreFirstOf, AsmFault, AsmFaultKind, Codes, Definition, Fit, GoesOn, IsFaulty, IsIdle, IsLeft, IsOf, IsPassed, IsSound, Late, Layout, Pass, Place, PutsAll, Settles, Source, SourceLine, State, Takes, Work, bytes_at, coded_late, fault_at, fault_by, fronts, held_after, held_coded, held_definitions, held_final, late_line, line_in, line_then, parts, reading_of, readings, said_of, source_definitions, source_meaning, source_state, state_in, with_front, work_of}
@@ -8,7 +8,7 @@ use Rattle.text65.specs.Lines.{text_lines}
 use Rattle.stmt65.proofs.Cases.{by_test}
 use Rattle.stmt65.proofs.CodingLemmas.{front_kept}
 use Rattle.stmt65.proofs.HeldLemmas.{definitions_held, meaning_held}
-use Rattle.stmt65.proofs.NameLemmas.{bytes_first, fault_first, knows, unless_any}
+use Rattle.stmt65.proofs.NameLemmas.{bytes_alike, fault_alike, first_agree, knows, unless_any}
 
 -- ---- what stands above a line, and below it
 
@@ -63,48 +63,32 @@ late_push all layout (k ∷ ls) l settled rest h = grind (arith, (late_push all 
 
 -- ---- work
 
-pub on_ok : {T E P Q : Type 0} (r : Result T E) → OnOk r P → (P → Q) → OnOk r Q
-on_ok (Ok x) h f = f h
-on_ok (Err e) h f = tt
-
-room_there : (fit : Fit) (p : Place) → None ≡ fault_by fit p → fit.has_room ≡ true
-room_there fit p e = grind arith
+none_fits : (fit : Fit) (p : Place) → None ≡ fault_by fit p → (fit.is_known ≡ true) × (fit.has_room ≡ true)
+none_fits fit p e = grind arith
 
 pub codes : (all : List Definition) (p : Place) (fit : Fit) (fault : Option AsmFaultKind) (old new : List ℕ) → PutsAll fit all p.next p.fragments old new → fault ≡ fault_by fit p → Codes fault all (Some p) old new
 unfolding fault_at bytes_at
 codes all p fit fault old new puts e = record { finds = rw (← puts.fits.known, ← puts.fits.room) e; adds = go fault e }
   where
     go : (fault : Option AsmFaultKind) → fault ≡ fault_by fit p → IfNone fault (new ≡ old ++ bytes_at all (Some p))
-    go None e = rw (room_there fit p e) at puts.adds
+    go None e = rw (none_fits fit p e).1 at puts.adds
     go (Some kind) e = tt
 
-faultless : {X : Type 0} (o : Option X) → is_some o ≡ false → None ≡ o
-faultless None h = refl
-faultless (Some x) h = absurd cc
+pub settles_over : {A : Type 0} (p : Work A) (above : List Definition) (line : Option Place) → p.is_over ≡ true → Settles p p above line None
+settles_over p above line e = record { takes = λ n layout. record { sound = λ h. h; same = λ h all rest first. rw e refl }; leaves = tt; faulty = tt }
 
-takes_none : {A : Type 0} (p : Work A) (n : ℕ) (s : State) (line : Option Place) → p.is_over ≡ true → Takes p p n s line
-takes_none p n s line e = record { sound = λ h. h; same = λ h all rest g. rw e refl }
+takes_bytes : {A : Type 0} (p q : Work A) (n : ℕ) (layout : Layout) (above : List Definition) (line : Option Place) (bytes : List ℕ) → p.is_over ≡ false → q.late ≡ p.late → q.mark ≡ p.mark → q.is_over ≡ p.is_over → q.settled.items ≡ p.settled.items ++ bytes
+    → ((all : List Definition) → AreFirstOf above all → fault_at all line ≡ None) → ((all : List Definition) → AreFirstOf above all → bytes_at all line ≡ bytes) → Takes p q n layout above line
+takes_bytes p q n layout above line bytes e late mark over put h k = grind (arith, length-append, late_more)
 
-takes_bytes : {A : Type 0} (p q : Work A) (n : ℕ) (s : State) (line : Option Place) (bytes : List ℕ) → p.is_over ≡ false → q.late ≡ p.late → q.mark ≡ p.mark → q.is_over ≡ false → q.settled.items ≡ p.settled.items ++ bytes
-    → ((all : List Definition) → AreFirstOf s.above all → fault_at all line ≡ None) → ((all : List Definition) → AreFirstOf s.above all → bytes_at all line ≡ bytes) → Takes p q n s line
-takes_bytes p q n s line bytes e late mark f put h k = grind (arith, length-append, late_more)
-
-pub settles_over : {A : Type 0} (p : Work A) (s : State) (line : Option Place) → p.is_over ≡ true → Settles p p s line None
-settles_over p s line e = record { takes = λ n. takes_none p n s line e; leaves = tt; faulty = tt }
-
-known_there : (fit : Fit) (p : Place) → None ≡ fault_by fit p → fit.is_known ≡ true
-known_there fit p e = grind arith
-
-pub settles_now : {A : Type 0} (p q : Work A) (s : State) (place : Place) (fit : Fit) (ds : List Definition) → s.above ≡ ds → p.is_over ≡ false → q.late ≡ p.late → q.mark ≡ p.mark → q.is_over ≡ p.is_over
-    → PutsAll fit ds place.next place.fragments p.settled.items q.settled.items → is_some (fault_by fit place) ≡ false → Settles p q s (Some place) None
-settles_now p q s place fit ds same e late mark over puts none =
-    let puts' : PutsAll fit s.above place.next place.fragments p.settled.items q.settled.items = rw same puts in
-    let none' = faultless _ none in
-    let known : knows s.above place ≡ true = sym puts'.fits.known ∙ known_there fit place none' in
-    let coded = codes s.above place fit None p.settled.items q.settled.items puts' none' in
+pub settles_now : {A : Type 0} (p q : Work A) (place : Place) (fit : Fit) (above : List Definition) → p.is_over ≡ false → q.late ≡ p.late → q.mark ≡ p.mark → q.is_over ≡ p.is_over
+    → PutsAll fit above place.next place.fragments p.settled.items q.settled.items → None ≡ fault_by fit place → Settles p q above (Some place) None
+settles_now p q place fit above e late mark over puts none =
+    let known : knows above place ≡ true = sym puts.fits.known ∙ (none_fits fit place none).0 in
+    let coded = codes above place fit None p.settled.items q.settled.items puts none in
     record {
-      takes = λ n. takes_bytes p q n s (Some place) (bytes_at s.above (Some place)) e late mark (over ∙ e) coded.adds
-          (λ all first. fault_first s.above all place first known ∙ sym coded.finds) (λ all first. bytes_first s.above all place first known);
+      takes = λ n layout. takes_bytes p q n layout above (Some place) (bytes_at above (Some place)) e late mark over coded.adds
+          (λ all first. fault_alike above all place (first_agree above all first) known ∙ sym coded.finds) (λ all first. bytes_alike above all place (first_agree above all first) known);
       leaves = tt;
       faulty = tt;
     }
@@ -114,23 +98,20 @@ past_end : (all : List Definition) (p : Place) → ltb 65536 p.next ≡ true →
 unfolding fault_at
 past_end all p past = grind arith
 
-pub settles_later : {A : Type 0} (p q : Work A) (s : State) (place : Place) (fit : Fit) (ds : List Definition) (mid : List ℕ) (is_faulty : Bool) → s.above ≡ ds → p.is_over ≡ false → q.late ≡ p.late → q.mark ≡ p.mark → q.is_over ≡ p.is_over
-    → PutsAll fit ds place.next place.fragments p.settled.items mid → q.settled.items ≡ take (length p.settled.items) mid → is_some (fault_by fit place) ≡ true → is_faulty ≡ (fit.is_known || ltb 65536 place.next)
-    → Settles p q s (Some place) (Some is_faulty)
+pub settles_later : {A : Type 0} (p q : Work A) (place : Place) (fit : Fit) (above : List Definition) (mid : List ℕ) (is_faulty : Bool) → p.is_over ≡ false → q.late ≡ p.late → q.mark ≡ p.mark → q.is_over ≡ p.is_over
+    → PutsAll fit above place.next place.fragments p.settled.items mid → q.settled.items ≡ take (length p.settled.items) mid → is_some (fault_by fit place) ≡ true → is_faulty ≡ (fit.is_known || ltb 65536 place.next)
+    → Settles p q above (Some place) (Some is_faulty)
 unfolding fault_at
-settles_later p q s place fit ds mid is_faulty same e late mark over puts cut some f =
-    let puts' : PutsAll fit s.above place.next place.fragments p.settled.items mid = rw same puts in
-    let some' : is_some (fault_at s.above (Some place)) ≡ true = rw (← puts'.fits.known, ← puts'.fits.room) some in
-    record {
-      takes = tt;
-      leaves = record { settled = cut ∙ puts.keeps; late = late; mark = mark; before = e; over = over ∙ e };
-      faulty = λ faulty all first. by_test fit.is_known
-          (λ known. ap is_some (fault_first s.above all place first (sym puts'.fits.known ∙ known)) ∙ some')
-          (λ unknown. past_end all place (sym (rw unknown at f) ∙ faulty));
-    }
+settles_later p q place fit above mid is_faulty e late mark over puts cut some f = record {
+  takes = tt;
+  leaves = record { settled = cut ∙ puts.keeps; late = late; mark = mark; before = e; over = over ∙ e };
+  faulty = λ faulty all first. by_test fit.is_known
+      (λ known. ap is_some (fault_alike above all place (first_agree above all first) (sym puts.fits.known ∙ known)) ∙ rw (← puts.fits.known, ← puts.fits.room) some)
+      (λ unknown. past_end all place (sym (rw unknown at f) ∙ faulty));
+}
 
-pub left_takes : {A : Type 0} (p left q : Work A) (n : ℕ) (s : State) (line : Option Place) → IsLeft p left → Takes left q n s line → Takes p q n s line
-left_takes p left q n s line is takes =
+pub left_takes : {A : Type 0} (p left q : Work A) (n : ℕ) (layout : Layout) (above : List Definition) (line : Option Place) → IsLeft p left → Takes left q n layout above line → Takes p q n layout above line
+left_takes p left q n layout above line is takes =
     let sound : IsSound p → IsSound left = λ h. record { mark = is.mark ∙ h.mark ∙ ap (λ ls. fronts ls.items) (sym is.late); within = rw (is.mark, is.settled) h.within } in
     record {
       sound = λ h. takes.sound (sound h);
@@ -139,7 +120,7 @@ left_takes p left q n s line is takes =
 
 -- a line is kept; where it has a fault, what comes below it is hidden
 pub takes_late : {A : Type 0} (p q : Work A) (l : Late A) (s : State) (is_faulty : Bool) → p.is_over ≡ false → q.is_over ≡ is_faulty → q.settled ≡ p.settled → q.late.items ≡ p.late.items ++ l ∷ [] → q.mark ≡ length p.settled.items
-    → (p.mark ≤ length p.settled.items → p.mark + l.front ≡ length p.settled.items) → IsOf l s → (is_faulty ≡ true → IsFaulty s.above (line_in s (said_of l))) → Takes p q l.number s (line_in s (said_of l))
+    → (p.mark ≤ length p.settled.items → p.mark + l.front ≡ length p.settled.items) → IsOf l s → (is_faulty ≡ true → IsFaulty s.above (line_in s (said_of l))) → Takes p q l.number s.layout s.above (line_in s (said_of l))
 takes_late p q l s is_faulty e f same late mark front is faulty = grind (arith, fronts_push, late_push, unless_any)
 
 -- ---- the first pass
@@ -168,7 +149,7 @@ pub passed : {A L M : Type 0} (source : Source M) (n : ℕ) (p : Pass A L) (text
 unfolding held_final held_coded
 passed source n p text h e =
     let names : p.names ≡ held_definitions (source_definitions source) = rw e at h.above in
-    record { names = names; means = sym (rw names (rw e at h.work)) }
+    record { names = names; means = sym (rw names (by_test p.work.is_over (λ over. rw (e, over) at h.work) (λ over. rw (e, over) at h.work))) }
 
 -- ---- the second pass
 
@@ -190,12 +171,7 @@ late_next all layout ls i l settled out front put new more rest total inside is 
     let so = rw (← codes.finds) at (late_at all layout ls i l settled out rest total inside is h) in
     rw (codes.adds, k, f, g) (sym (front-front (out ++ take l.front settled) (bytes_at all (late_line all layout l)) _) ∙ so)
 
-late_end : {A : Type 0} (all : List Definition) (layout : Layout) (ls : List (Late A)) (i : ℕ) (settled out : List ℕ) (rest total : Result (List ℕ) AsmFault) → length ls ≤ i
-    → with_front out (coded_late all layout (drop i ls) settled rest) ≡ total → total ≡ with_front (out ++ settled) rest
+pub late_end : {A : Type 0} (all : List Definition) (layout : Layout) (ls : List (Late A)) (i : ℕ) (settled out new : List ℕ) (total : Result (List ℕ) AsmFault) → length ls ≤ i
+    → with_front out (coded_late all layout (drop i ls) settled (Ok [])) ≡ total → new ≡ out ++ settled → total ≡ Ok new
 unfolding coded_late
-late_end all layout ls i settled out rest total past h = sym (rw (drop_all i ls past) at h) ∙ front-front out settled rest
-
-pub end_bytes : {A : Type 0} (all : List Definition) (layout : Layout) (ls : List (Late A)) (i : ℕ) (settled out new : List ℕ) (over : Bool) (total : Result (List ℕ) AsmFault) → length ls ≤ i
-    → with_front out (coded_late all layout (drop i ls) settled (cond over (Ok []) (Ok []))) ≡ total → new ≡ out ++ settled → total ≡ Ok new
-end_bytes all layout ls i settled out new true total past h f = late_end all layout ls i settled out (Ok []) total past h ∙ front-end (out ++ settled) ∙ ap (λ (l : List ℕ). Ok l) (sym f)
-end_bytes all layout ls i settled out new false total past h f = late_end all layout ls i settled out (Ok []) total past h ∙ front-end (out ++ settled) ∙ ap (λ (l : List ℕ). Ok l) (sym f)
+late_end all layout ls i settled out new total past h f = sym (rw (drop_all i ls past, append-nil) at h) ∙ ap (λ (l : List ℕ). Ok l) (sym f)

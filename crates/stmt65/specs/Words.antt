@@ -5,7 +5,7 @@ pub use Rattle.stmt65.specs.Answer.{Assembles, IsExplained, out_of_memory}
 pub use Rattle.stmt65.specs.Code.CodingViews.{Adds, AddsOne, Emits, IsFirstOf, IsFirstWay, Puts, PutsAll, coded_of, data_fragments, entry_fragments, fragment_of, instruction_of, operand_of}
 pub use Rattle.stmt65.specs.Code.Found.{Gives, GivesIfOk, Reads}
 pub use Rattle.stmt65.specs.Code.Held.{capped, held}
-pub use Rattle.stmt65.specs.Code.LateViews.{AreFirstOf, Codes, Follows, GoesOn, IsFaulty, IsIdle, IsLeft, IsOf, IsPassed, IsSound, Keeps, PassesOver, Settles, Takes, late_line, said_of, state_in, work_of}
+pub use Rattle.stmt65.specs.Code.LateViews.{AreFirstOf, Codes, Follows, GoesOn, IsFaulty, IsIdle, IsLeft, IsOf, IsPassed, IsSound, Keeps, PassesOver, Settles, Takes, late_line, said_of, state_in, work_end, work_of}
 unfoldable pub use Rattle.stmt65.specs.Code.LateViews.{coded_late, fronts}
 pub use Rattle.stmt65.specs.Code.LineEnds.{ends_left}
 pub use Rattle.stmt65.specs.Code.LineViews.{Lists, Prints, len_with}

@@ -58,6 +58,10 @@ fronts (l ∷ ls) = l.front + fronts ls
 abbrev pub work_of : {A : Type 0} → List Definition → Layout → Work A → Result (List ℕ) AsmFault → Result (List ℕ) AsmFault
 work_of all layout w rest = coded_late all layout w.late.items w.settled.items (if w.is_over then Ok [] else rest)
 
+-- what comes of all lines
+abbrev pub work_end : {A : Type 0} → List Definition → Layout → Work A → Result (List ℕ) AsmFault
+work_end all layout w = coded_late all layout w.late.items w.settled.items (Ok [])
+
 -- no line so far
 pub record IsIdle {A : Type 0} (w : Work A) : Type 0 where
   pub settled : w.settled.items ≡ []
@@ -75,9 +79,9 @@ abbrev pub AreFirstOf : List Definition → List Definition → Type 0
 AreFirstOf above all = take (length above) all ≡ above
 
 -- line n is added to the work, whatever names stand below it
-pub record Takes {A : Type 0} (p q : Work A) (n : ℕ) (s : State) (line : Option Place) : Type 0 where
+pub record Takes {A : Type 0} (p q : Work A) (n : ℕ) (layout : Layout) (above : List Definition) (line : Option Place) : Type 0 where
   pub sound : IsSound p → IsSound q
-  pub same : IsSound p → (all : List Definition) (rest : Result (List ℕ) AsmFault) → AreFirstOf s.above all → work_of all s.layout q rest ≡ work_of all s.layout p (line_then all n line rest)
+  pub same : IsSound p → (all : List Definition) (rest : Result (List ℕ) AsmFault) → AreFirstOf above all → work_of all layout q rest ≡ work_of all layout p (line_then all n line rest)
 
 -- the line has a fault, whatever names stand below it
 abbrev pub IsFaulty : List Definition → Option Place → Type 0
@@ -85,7 +89,7 @@ IsFaulty above line = (all : List Definition) → AreFirstOf above all → is_so
 
 -- a late line is added, whatever stands above it
 abbrev pub Keeps : {A : Type 0} → Late A → Bool → Work A → Work A → Type 0
-Keeps l is_faulty p q = (s : State) → IsOf l s → (is_faulty ≡ true → IsFaulty s.above (line_in s (said_of l))) → Takes p q l.number s (line_in s (said_of l))
+Keeps l is_faulty p q = (s : State) → IsOf l s → (is_faulty ≡ true → IsFaulty s.above (line_in s (said_of l))) → Takes p q l.number s.layout s.above (line_in s (said_of l))
 
 -- the work is not over, and stays as it was
 pub record IsLeft {A : Type 0} (p q : Work A) : Type 0 where
@@ -96,10 +100,10 @@ pub record IsLeft {A : Type 0} (p q : Work A) : Type 0 where
   pub over : q.is_over ≡ false
 
 -- a line is added, or it is to be kept, and it is said whether it has a fault whatever stands below it
-pub record Settles {A : Type 0} (p q : Work A) (s : State) (line : Option Place) (kept : Option Bool) : Type 0 where
-  pub takes : IfNone kept ((n : ℕ) → Takes p q n s line)
+pub record Settles {A : Type 0} (p q : Work A) (above : List Definition) (line : Option Place) (kept : Option Bool) : Type 0 where
+  pub takes : IfNone kept ((n : ℕ) (layout : Layout) → Takes p q n layout above line)
   pub leaves : IfSome kept (λ _. IsLeft p q)
-  pub faulty : IfSome kept (λ is_faulty. is_faulty ≡ true → IsFaulty s.above line)
+  pub faulty : IfSome kept (λ is_faulty. is_faulty ≡ true → IsFaulty above line)
 
 -- ---- passes
 
@@ -110,14 +114,14 @@ state_in p = state_of p.state p.names
 -- the state is that below the line, which is added to the work or is to be kept
 pub record PassesOver {A L : Type 0} (p q : Pass A L) (line : Option SourceLine) (kept : Option Bool) : Type 0 where
   pub state : state_in q ≡ held_after (state_in p) line
-  pub work : Settles p.work q.work (state_in p) (line_in (state_in p) line) kept
+  pub work : Settles p.work q.work p.names (line_in (state_in p) line) kept
 
 -- the pass has gone on below line n
 pub record GoesOn {A L : Type 0} (p q : Pass A L) (n : ℕ) (line : Option SourceLine) : Type 0 where
   pub state : state_in q ≡ held_after (state_in p) line
-  pub work : Takes p.work q.work n (state_in p) (line_in (state_in p) line)
+  pub work : Takes p.work q.work n p.state.layout.now p.names (line_in (state_in p) line)
 
 -- Below all lines of a text, whose meaning comes of the work.
 pub record IsPassed {A L M : Type 0} (p : Pass A L) (source : Source M) : Type 0 where
   pub names : p.names ≡ held_definitions (source_definitions source)
-  pub means : source_meaning source ≡ work_of p.names p.state.layout.now p.work (Ok [])
+  pub means : source_meaning source ≡ work_end p.names p.state.layout.now p.work

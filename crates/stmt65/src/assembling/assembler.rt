@@ -1,7 +1,7 @@
 //! The assembler: a pass over the lines of a text, and one over those that wait for a name below them.
 
 ghost use Rattle.std.specs.Prelude.{◌≡◌, ◌<◌, ◌++◌, [], ◌∷◌, if◌then◌else◌, map, true, Some, Ok, IfOk, OnOk};
-ghost use Rattle.stmt65.specs.Words.{Assembles, GoesOn, IsExplained, IsIdle, IsOf, IsPassed, PassesOver, definitions_in, held, meaning, parts, reading_of, source_addresses, source_meaning, source_of, source_state, state_in, work_of};
+ghost use Rattle.stmt65.specs.Words.{Assembles, GoesOn, IsExplained, IsIdle, IsOf, IsPassed, PassesOver, definitions_in, held, meaning, parts, reading_of, source_addresses, source_meaning, source_of, source_state, state_in, work_end};
 
 use crate::assembling::about::Explained;
 use crate::assembling::fault::AsmFault;
@@ -172,7 +172,7 @@ pub fn second_pass<'a, L: Allocator + Clone, A: Allocator + Clone, C: Allocator 
     mut out: Vec<u8, C>,
 ) -> Result<Vec<u8, C>, Explained<'a>>
     requires { out.items ≡ [] }
-    ensures { IsExplained result (work_of names.now state.old.layout.now work.now (Ok [])) }
+    ensures { IsExplained result (work_end names.now state.old.layout.now work.now) }
 {
     let mut rest = work.settled.as_slice();
     'late: for late in &work.late {

@@ -1,8 +1,9 @@
 //! The work on lines: a line whose names stand above it is coded at once, another one once all names are known.
 
-ghost use Rattle.std.specs.Prelude.{◌≡◌, ◌||◌, IfOk, OnOk, Some, drop, false, is_some, nat_lt, not, take};
+ghost use Rattle.std.specs.Prelude.{◌≡◌, ◌||◌, IfOk, None, OnOk, Some, drop, false, is_some, nat_lt, take, true};
 ghost use Rattle.std.specs.Option.{option_map};
-ghost use Rattle.stmt65.specs.Words.{Codes, Emits, IsIdle, Keeps, Settles, State as AState, fault_by, fragments_in, late_line, place_of};
+ghost use Rattle.std.specs.Bool.{OnFalse, OnTrue};
+ghost use Rattle.stmt65.specs.Words.{Codes, Emits, IsIdle, Keeps, Settles, fault_by, fragments_in, late_line, place_of};
 
 use crate::assembling::about::{About, explain};
 use crate::assembling::emit::{FITS, Fit, put_coded};
@@ -87,7 +88,8 @@ fn is_faultless<A: Allocator + Clone>(
     placed: &Placed,
     fit: Fit,
 ) -> bool
-    ensures { is_some (fault_by fit (place_of above.now placed.now)) ≡ not result }
+    ensures none { OnTrue result (None ≡ fault_by fit (place_of above.now placed.now)) }
+    ensures some { OnFalse result (is_some (fault_by fit (place_of above.now placed.now)) ≡ true) }
 {
     fit.has_room && fault_by(above, placed, fit).is_none()
 }
@@ -107,8 +109,8 @@ pub fn settle<'a, A: Allocator + Clone>(
     above: &KnownNames<'_, 'a, A>,
     placed: &Placed,
 ) -> Result<Option<bool>, AllocError>
-    ensures { IfOk result (λ kept. (s : AState) → s.above ≡ above.now
-        → Settles work.old work.new s (Some (place_of above.now placed.now)) kept) }
+    ensures { IfOk result (λ kept.
+        Settles work.old work.new above.now (Some (place_of above.now placed.now)) kept) }
 {
     if work.is_over {
         return Ok(None);

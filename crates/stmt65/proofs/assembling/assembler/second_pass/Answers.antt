@@ -1,5 +1,5 @@
 use Rattle.std.proofs.Common.{arith, inl, ◌∙◌}
-use Rattle.stmt65.proofs.PassLaws.{late_faulty, late_next, end_bytes}
+use Rattle.stmt65.proofs.PassLaws.{late_end, late_faulty, late_next}
 use Rattle.stmt65.proofs.assembling.assembler.second_pass.Goals as goal
 
 pub returns-in-Some : goal.returns-in-Some
@@ -19,5 +19,5 @@ late-preserved g c =
 
 pub returns : goal.returns
 returns g c =
-    end_bytes c.args.names.now c.args.state.now.layout.now c.args.work.now.late.items c.late.late-index c.late.rest.now c.late.out.items _ _ _
+    late_end c.args.names.now c.args.state.now.layout.now c.args.work.now.late.items c.late.late-index c.late.rest.now c.late.out.items _ _
     (omega (arith, (rw c.deref-late-items.ensures.value at c.late-test.false))) c.late.invariant.same c.in_ok-extend_from_slice-2.ensures.items

@@ -1,14 +1,13 @@
 use Rattle.std.proofs.Common.{◌∙◌, ap, refl}
-use Rattle.std.specs.Prelude.{not, take}
+use Rattle.std.specs.Prelude.{take}
 use Rattle.stmt65.specs.Words.{place_of}
 use Rattle.stmt65.proofs.PassLaws.{settles_later, settles_now}
 use Rattle.stmt65.proofs.assembling.late.settle.Goals as goal
 
 pub returns-then-is_faultless : goal.returns-then-is_faultless
-returns-then-is_faultless g c = λ s above.
-    settles_now c.args.work.now _ s (place_of c.args.above.now c.args.placed.now) c.in_ok-fit.fit c.args.above.now above c.if-work.false refl refl refl c.in_ok-fit.ensures (c.is_faultless.ensures ∙ ap not c.if-is_faultless.true)
+returns-then-is_faultless g c = settles_now c.args.work.now _ (place_of c.args.above.now c.args.placed.now) c.in_ok-fit.fit c.args.above.now c.if-work.false refl refl refl c.in_ok-fit.ensures (rw c.if-is_faultless.true at c.is_faultless.ensures.none)
 
 pub returns : goal.returns
-returns g c = λ s above.
-    settles_later c.args.work.now (record { settled = c.truncate.new.self; late = c.args.work.now.late; mark = c.args.work.now.mark; is_over = c.args.work.now.is_over }) s (place_of c.args.above.now c.args.placed.now) c.in_ok-fit.fit c.args.above.now c.put_placed.new.out.items _ above c.if-work.false refl refl refl
-    c.in_ok-fit.ensures (c.truncate.ensures.items ∙ ap (λ n. take n c.put_placed.new.out.items) (c.len-len.ensures ∙ c.args.work.now.settled.ok.0)) (c.is_faultless.ensures ∙ ap not c.if-is_faultless.false) c.is_faulty.ensures
+returns g c =
+    settles_later c.args.work.now (record { settled = c.truncate.new.self; late = c.args.work.now.late; mark = c.args.work.now.mark; is_over = c.args.work.now.is_over }) (place_of c.args.above.now c.args.placed.now) c.in_ok-fit.fit c.args.above.now c.put_placed.new.out.items _ c.if-work.false refl refl refl
+    c.in_ok-fit.ensures (c.truncate.ensures.items ∙ ap (λ n. take n c.put_placed.new.out.items) (c.len-len.ensures ∙ c.args.work.now.settled.ok.0)) (rw c.if-is_faultless.false at c.is_faultless.ensures.some) c.is_faulty.ensures
