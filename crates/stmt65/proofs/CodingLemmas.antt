@@ -77,9 +77,8 @@ apart_known (Some d) None h = grind (arith)
 value_known : (all : List Definition) (v : Value) → is_some (value_in all v) ≡ true → is_known all v ≡ true
 unfolding value_in is_known
 value_known all (NumberValue n) h = refl
-value_known all (LessValue w n) h = by_option (find_name w all) (λ d e. rw e refl) (λ e. let h' = rw e at h in absurd cc)
 value_known all (DifferenceValue w v) h = apart_known (find_name w all) (find_name v all) h
-value_known all (NameValue w n minus) h = by_option (find_name w all) (λ d e. rw e refl) (λ e. let h' = rw e at h in absurd cc)
+value_known all _ h = grind (arith, by_option)
 
 word_known : (all : List Definition) (v : Value) → is_some (word_in all v) ≡ true → is_known all v ≡ true
 unfolding word_in

@@ -28,16 +28,8 @@ stands : (all : List Definition) (s : State) (ls : List (Option SourceLine)) (ab
 unfolding lines_below
 stands all s [] [] below line e = cc
 stands all s [] (x ∷ above) below line e = cc
-stands all s (l ∷ ls) [] below line e = let same : record { state = s; says = l } ≡ line = cc in ap (λ (x : Line). x.state.at) (sym same) ∙ omega arith
-stands all s (l ∷ ls) (x ∷ above) below line e =
-    let same : record { state = s; says = l } ≡ x = cc in
-    let rest : lines_below (after s l) ls ≡ above ++ line ∷ below = cc in
-    let ih = stands all (after s l) ls above below line rest in
-    let front : line_bytes all x ≡ bytes_of all s l = ap (line_bytes all) (sym same) in
-    let len = length-append (line_bytes all x) (flat_map (line_bytes all) above) in
-    let len' : length (line_bytes all x) ≡ length (bytes_of all s l) = ap length front in
-    let next = at-after all s l in
-    omega arith
+stands all s (l ∷ ls) [] below line e = grind arith
+stands all s (l ∷ ls) (x ∷ above) below line e = grind (arith, length-append, (at-after all s l), (stands all (after s l) ls above below line))
 
 pub stands_at_its_bytes : StandsAtItsBytes
 stands_at_its_bytes all layout start ls above below line e = stands all (initial layout start) ls above below line e
@@ -98,12 +90,9 @@ fault-coded all n s [] m kind [] below line e number fault none = cc
 fault-coded all n s [] m kind (x ∷ above) below line e number fault none = cc
 fault-coded all n s (l ∷ ls) m kind [] below line e number fault none = grind arith
 fault-coded all n s (l ∷ ls) m kind (x ∷ above) below line e number fault none =
-    let same : record { state = s; says = l } ≡ x = cc in
-    let rest : lines_below (after s l) ls ≡ above ++ line ∷ below = cc in
-    let here : fault_of all s l ≡ None = ap (λ (y : Line). fault_of all y.state y.says) same ∙ All-head (IsFaultless all) x above none in
+    let here = All-head (IsFaultless all) x above none in
     let later : m ≡ length above + (n + 1) = omega arith in
-    let ih = fault-coded all (n + 1) (after s l) ls m kind above below line rest later fault (All-tail (IsFaultless all) x above none) in
-    rw (here, ih) refl
+    grind (arith, (fault-coded all (n + 1) (after s l) ls m kind above below line), (All-tail (IsFaultless all) x above none))
 
 pub means_fault : MeansFault
 unfolding meaning_of
