@@ -47,10 +47,7 @@ addresses-exact : (all : List Definition) (s : State) (ls : List (Option SourceL
 unfolding lines_below
 addresses-exact all s [] h = refl
 addresses-exact all s (l ∷ ls) h =
-    let line : Line = record { state = s; says = l } in
-    let here = address-exact all s l (All-head (IsFaultless all) line (lines_below (after s l) ls) h) in
-    let more = addresses-exact all (after s l) ls (All-tail (IsFaultless all) line (lines_below (after s l) ls) h) in
-    rw (here, more) refl
+    grind (arith, (address-exact all s l), All-head, (addresses-exact all (after s l) ls (All-tail (IsFaultless all) (record { state = s; says = l }) (lines_below (after s l) ls) h)))
 
 exact : (l : Language) (layout : Layout) (start : ℕ) (text bytes found : List ℕ) → meaning_in l layout start text ≡ Ok bytes → found ≡ map held (line_addresses layout start (readings l text)) → found ≡ line_addresses layout start (readings l text)
 unfolding meaning_in line_addresses

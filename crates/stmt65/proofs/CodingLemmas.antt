@@ -6,7 +6,7 @@ use Rattle.std.proofs.Math.Seq.{take-append_seam, take-length}
 use Rattle.std.proofs.lemmas.List.{append-nil, map-append, take_more}
 use Rattle.std.proofs.lemmas.List.Folds.{list_all-append}
 use Rattle.std.proofs.lemmas.Grind.{flat_map-append}
-use Rattle.stmt65.specs.Words.{Definition, DifferenceValue, LessValue, Directive, Distance, Entry, Fill, Fit, Fixed, Fragment, HalfOf, NameValue, NumberValue, Oversized, Puts, PutsAll, Single, Value, ZeroPage, address_of, apart, below, coding_len, data_fragments, datum_fragments, datum_of, entry_bytes, entry_fragments, entry_in, entry_limit, find_name, fragment_bytes, fragment_fits, fragment_len, held, is_fragment_known, is_known, is_near, value_in, value_of, word_in}
+use Rattle.stmt65.specs.Words.{Definition, DifferenceValue, Directive, Distance, Entry, Fit, Fixed, Fragment, NumberValue, Puts, PutsAll, Value, address_of, apart, below, coding_len, data_fragments, datum_fragments, datum_of, entry_bytes, entry_fragments, entry_in, entry_limit, find_name, fragment_bytes, fragment_fits, fragment_len, held, is_fragment_known, is_known, is_near, value_in, value_of, word_in}
 use Rattle.stmt65.specs.declared.source_line.Value.{Value as CodeValue}
 use Rattle.stmt65.specs.declared.source_line.Datum.{Datum as CodeDatum}
 use Rattle.std.specs.List.{list_all, flat_map}
@@ -86,14 +86,9 @@ word_known all v h = value_known all v (below_some 65536 (value_in all v) h)
 
 fragment_known : (all : List Definition) (next : ℕ) (f : Fragment) → fragment_fits all next f ≡ true → is_fragment_known all f ≡ true
 unfolding fragment_fits entry_in
-fragment_known all next (Fixed b) h = refl
-fragment_known all next (Single v) h = word_known all v (below_some 256 (word_in all v) h)
-fragment_known all next (ZeroPage v) h = word_known all v (below_some 256 (word_in all v) h)
-fragment_known all next (Oversized v) h = cc
 fragment_known all next (Entry d v) h = value_known all v (below_some (entry_limit d) (value_in all v) h)
-fragment_known all next (HalfOf half v) h = word_known all v h
-fragment_known all next (Fill n b) h = refl
 fragment_known all next (Distance v) h = word_known all v (near_some next (word_in all v) h)
+fragment_known all next _ h = grind (arith, word_known, below_some)
 
 pub string_known : (all : List Definition) (bs : List ℕ) → list_all (is_fragment_known all) (map Fixed bs) ≡ true
 string_known all [] = refl
@@ -123,11 +118,7 @@ pub misses_put : (all : List Definition) (next : ℕ) (f : Fragment) (fit : Fit)
 misses_put all next f fit answer old new puts here known room = grind (arith, and-true, take-length)
 
 pub text_put : (all : List Definition) (next : ℕ) (bs old new : List ℕ) → new ≡ old ++ bs → PutsAll fits all next (map Fixed bs) old new
-text_put all next bs old new e = record {
-  fits = record { known = sym (string_known all bs); room = sym (string_fits all next bs) };
-  adds = rw string_bytes e;
-  keeps = rw e (take-append_seam old bs);
-}
+text_put all next bs old new e = grind (arith, (string_known all bs), (string_fits all next bs), (string_bytes all next bs), take-append_seam)
 
 pub nothing_put : (all : List Definition) (next : ℕ) (fit : Fit) (old : List ℕ) → fit.is_known ≡ true → fit.has_room ≡ true → PutsAll fit all next [] old old
 nothing_put all next fit old known room = grind (arith, append-nil, take-length)
@@ -136,11 +127,7 @@ pub front_kept : {A : Type 0} (old mid new : List A) → take (length old) mid �
 front_kept [] mid new h g = refl
 front_kept (x ∷ old) [] new h g = absurd cc
 front_kept (x ∷ old) (y ∷ mid) [] h g = absurd cc
-front_kept (x ∷ old) (y ∷ mid) (z ∷ new) h g =
-    let h' : take (length old) mid ≡ old = cc in
-    let g' : take (length mid) new ≡ mid = cc in
-    let ih = front_kept old mid new h' g' in
-    cc
+front_kept (x ∷ old) (y ∷ mid) (z ∷ new) h g = grind (arith, (front_kept old mid new))
 
 pub more_put : (all : List Definition) (next : ℕ) (fs gs : List Fragment) (one other fit : Fit) (old mid new : List ℕ) → PutsAll one all next fs old mid → PutsAll other all next gs mid new
     → fit.is_known ≡ (one.is_known && other.is_known) → fit.has_room ≡ (one.has_room && other.has_room) → PutsAll fit all next (fs ++ gs) old new
@@ -148,11 +135,7 @@ more_put all next fs gs one other fit old mid new p q known room = grind (arith,
 
 pub opcode_put : (all : List Definition) (next b : ℕ) (fs : List Fragment) (fit : Fit) (old with_opcode new : List ℕ) → with_opcode ≡ old ++ b ∷ [] → PutsAll fit all next fs with_opcode new → PutsAll fit all next (Fixed b ∷ fs) old new
 unfolding fragment_fits fragment_bytes
-opcode_put all next b fs fit old with_opcode new e puts = record {
-  fits = record { known = puts.fits.known; room = puts.fits.room };
-  adds = rw (e, append_assoc old (b ∷ []) (flat_map (fragment_bytes all next) fs)) at puts.adds;
-  keeps = front_kept old with_opcode new (rw e (take-append_seam old (b ∷ []))) puts.keeps;
-}
+opcode_put all next b fs fit old with_opcode new e puts = grind (arith, append_assoc, (front_kept old with_opcode new), (take-append_seam old (b ∷ [])))
 
 pub ruleset data_put = (more_put, nothing_put, data_more)
 
