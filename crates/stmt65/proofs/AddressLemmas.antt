@@ -70,21 +70,18 @@ finds_from all s (l ∷ ls) offset h =
     by_test (leb (after s l).at (s.at + offset))
     (λ e.
     let here : length (line_bytes all line) ≤ offset = omega (arith, leb-true (after s l).at (s.at + offset) e) in
-    let parts' = length-append (bytes_of all s l) (flat_map (line_bytes all) lines) in
-    let ih = finds_from all (after s l) ls (offset - length (bytes_of all s l)) (omega (arith, here, parts', h)) in
+    let ih = finds_from all (after s l) ls (offset - length (bytes_of all s l)) (omega (arith, here, length-append (bytes_of all s l) (flat_map (line_bytes all) lines), h)) in
     let same : (after s l).at + (offset - length (bytes_of all s l)) ≡ s.at + offset = omega (arith, here, next) in
     let count : prefix_len (λ a. leb a (s.at + offset)) (map address_after lines) + 1 ≡ length ih.above + 1 = ap (λ (n : ℕ). line_past n (map address_after lines)) (sym same) ∙ ih.number in
     let front = length-append (bytes_of all s l) (flat_map (line_bytes all) ih.above) in
-    let low = ih.begins in
-    let high = ih.ends in
     record {
       above = line ∷ ih.above;
       line = ih.line;
       below = ih.below;
       parts = ap (λ (xs : List Line). line ∷ xs) ih.parts;
       number = rw e (omega (arith, count));
-      begins = omega (arith, front, low, here);
-      ends = omega (arith, front, high, here);
+      begins = omega (arith, front, ih.begins, here);
+      ends = omega (arith, front, ih.ends, here);
     })
     (λ e.
     let past = leb-false (after s l).at (s.at + offset) e in

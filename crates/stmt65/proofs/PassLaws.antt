@@ -111,12 +111,7 @@ settles_later p q place fit above mid is_faulty e late mark over puts cut some f
 }
 
 pub left_takes : {A : Type 0} (p left q : Work A) (n : ℕ) (layout : Layout) (above : List Definition) (line : Option Place) → IsLeft p left → Takes left q n layout above line → Takes p q n layout above line
-left_takes p left q n layout above line is takes =
-    let sound : IsSound p → IsSound left = λ h. record { mark = is.mark ∙ h.mark ∙ ap (λ ls. fronts ls.items) (sym is.late); within = rw (is.mark, is.settled) h.within } in
-    record {
-      sound = λ h. takes.sound (sound h);
-      same = λ h all rest first. takes.same (sound h) all rest first ∙ rw (is.settled, is.late, is.over, is.before) refl;
-    }
+left_takes p left q n layout above line is takes = grind arith
 
 -- a line is kept; where it has a fault, what comes below it is hidden
 pub takes_late : {A : Type 0} (p q : Work A) (l : Late A) (s : State) (is_faulty : Bool) → p.is_over ≡ false → q.is_over ≡ is_faulty → q.settled ≡ p.settled → q.late.items ≡ p.late.items ++ l ∷ [] → q.mark ≡ length p.settled.items
@@ -137,13 +132,7 @@ at_start source p small e idle = grind (arith, front-nil, definitions_held, mean
 
 pub at_next : {A L M : Type 0} (source : Source M) (n : ℕ) (p q : Pass A L) (text line rest : List ℕ) → AtLine source n p text → text_lines text ≡ line ∷ text_lines rest → GoesOn p q n (reading_of source.language (parts source.language line)) → AtLine source (n + 1) q rest
 unfolding held_final held_coded
-at_next source n p q text line rest h e goes =
-    let all = held_definitions (source_definitions source) in
-    let l = reading_of source.language (parts source.language line) in
-    let first : AreFirstOf (state_in p).above all = rw h.above at (first_final (state_in p) (readings source.language text)) in
-    let taken = goes.work.same h.sound all (held_coded all (n + 1) (held_after (state_in p) l) (readings source.language rest)) first in
-    let laid : q.state.layout.now ≡ p.state.layout.now = ap (λ (s : State). s.layout) goes.state ∙ layout-after (state_in p) l in
-    record { above = rw goes.state (rw e at h.above); sound = goes.work.sound h.sound; work = rw (goes.state, laid) (taken ∙ rw e at h.work) }
+at_next source n p q text line rest h e goes = grind (arith, (first_final (state_in p) (readings source.language text)), layout-after)
 
 pub passed : {A L M : Type 0} (source : Source M) (n : ℕ) (p : Pass A L) (text : List ℕ) → AtLine source n p text → text_lines text ≡ [] → IsPassed p source
 unfolding held_final held_coded
@@ -167,9 +156,7 @@ late_faulty all layout ls i l settled out old new rest total kind inside is h co
 pub late_next : {A : Type 0} (all : List Definition) (layout : Layout) (ls : List (Late A)) (i : ℕ) (l : Late A) (settled out front put new more : List ℕ) (rest total : Result (List ℕ) AsmFault) → i < length ls → l ≡ get_or ls i l
     → with_front out (coded_late all layout (drop i ls) settled rest) ≡ total → front ≡ take l.front settled → more ≡ drop l.front settled → put ≡ out ++ front → Codes None all (late_line all layout l) put new
     → with_front new (coded_late all layout (drop (i + 1) ls) more rest) ≡ total
-late_next all layout ls i l settled out front put new more rest total inside is h f g k codes =
-    let so = rw (← codes.finds) at (late_at all layout ls i l settled out rest total inside is h) in
-    rw (codes.adds, k, f, g) (sym (front-front (out ++ take l.front settled) (bytes_at all (late_line all layout l)) _) ∙ so)
+late_next all layout ls i l settled out front put new more rest total inside is h f g k codes = grind (arith, (late_at all layout ls i l settled out rest total inside is h), front-front)
 
 pub late_end : {A : Type 0} (all : List Definition) (layout : Layout) (ls : List (Late A)) (i : ℕ) (settled out new : List ℕ) (total : Result (List ℕ) AsmFault) → length ls ≤ i
     → with_front out (coded_late all layout (drop i ls) settled (Ok [])) ≡ total → new ≡ out ++ settled → total ≡ Ok new
