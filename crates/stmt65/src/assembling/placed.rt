@@ -5,9 +5,10 @@ ghost use Rattle.stmt65.specs.Words.{Definition as ADefinition, IsCoding, coding
 
 use crate::assembling::coding::{Coded, coding};
 use crate::assembling::emit::coded_len;
-use crate::assembling::state::{State, cpu_set};
+use crate::assembling::state::State;
 use crate::assembling::symbols::{Definition, KnownNames};
 use crate::source_line::{Operation, SourceLine};
+use isa65::Cpu;
 use std::alloc::Allocator;
 
 /// A line in its state: what its bytes stand for, or `None` if the CPU has no such form, the address after it, what it
@@ -87,7 +88,7 @@ fn has_unknown_cpu<'a, B: Allocator>(source: &SourceLine<'a, B>) -> bool
         SourceLine::Statement {
             operation: Operation::SetCpu(text),
             ..
-        } => cpu_set(text).is_none(),
+        } => Cpu::from_bytes(text).is_none(),
         _ => false,
     }
 }

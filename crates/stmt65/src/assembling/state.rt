@@ -1,7 +1,7 @@
 //! What stands above a line, beside the definitions.
 
 ghost use Rattle.std.specs.Prelude.{◌≡◌, [], unwrap_or};
-ghost use Rattle.stmt65.specs.Words.{cpu_after, cpu_set, initial, line_operation, state_of};
+ghost use Rattle.stmt65.specs.Words.{cpu_after, initial, line_operation, state_of};
 
 use crate::assembling::layout::Layout;
 use crate::source_line::{Operation, SourceLine};
@@ -28,13 +28,6 @@ pub fn first_state<'l, 'n, L: Allocator>(layout: &'l Layout<'n, L>, start: u16) 
         opcodes: EncodeTable::new(Cpu::M6502),
         layout,
     }
-}
-
-/// The CPU that the text of `.setcpu` names, in any letter case.
-pub fn cpu_set(text: &[u8]) -> Option<Cpu>
-    ensures { result ≡ cpu_set text.now }
-{
-    Cpu::from_bytes(text)
 }
 
 /// Selects the opcodes of a CPU, if there is one. They are tabled anew only if it is another one than before.
@@ -67,7 +60,7 @@ fn follow<'a, B: Allocator>(opcodes: &mut EncodeTable, source: &SourceLine<'a, B
         SourceLine::Statement {
             operation: Operation::SetCpu(text),
             ..
-        } => select(opcodes, cpu_set(text)),
+        } => select(opcodes, Cpu::from_bytes(text)),
         _ => {}
     }
 }

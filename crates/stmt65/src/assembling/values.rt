@@ -1,6 +1,6 @@
 //! The value and size of an expression.
 
-ghost use Rattle.std.specs.Prelude.{◌≡◌, ◌+◌, Some};
+ghost use Rattle.std.specs.Prelude.{◌≡◌, ◌≤◌, ◌+◌, Some};
 ghost use Rattle.stmt65.specs.Words.{address_of, apart, below, capped, definition_of, entry_in, entry_limit, has_zero_page_size, is_known, is_small, lowered, numeral_of, value_in, value_of, word_in};
 
 use crate::assembling::entries::limit;
@@ -25,30 +25,20 @@ fn value_in<A: Allocator + Clone>(names: &KnownNames<'_, '_, A>, value: &Value) 
         }
         Value::Less(name, n) => {
             let definition = names.find(name)?;
-            lessened(definition, n)
+            lessened(definition, n.value())
         }
         Value::Difference(name, other) => {
-            let address = names.find(name)?.address()?;
             let base = names.find(other)?.address()?;
-            apart(address, base)
+            lessened(names.find(name)?, u64::from(base))
         }
     }
 }
 
-/// How far an address is past another one, or `None` if it is before it.
-fn apart(address: u16, base: u16) -> Option<u128>
-    ensures { result ≡ apart (Some address) (Some base) }
-{
-    let difference = address.checked_sub(base)?;
-    Some(u128::from(difference))
-}
-
 /// The address of a name with this definition, less a number; `None` if that is below 0 or the name has no address.
-fn lessened(definition: Definition, n: Numeral) -> Option<u128>
-    ensures { result ≡ apart (address_of (Some (definition_of definition.entry))) (Some (numeral_of n.entry)) }
+fn lessened(definition: Definition, n: u64) -> Option<u128>
+    ensures { result ≡ apart (address_of (Some (definition_of definition.entry))) (Some n) }
 {
-    let address = definition.address()?;
-    let difference = u64::from(address).checked_sub(n.value())?;
+    let difference = u64::from(definition.address()?).checked_sub(n)?;
     Some(u128::from(difference))
 }
 
@@ -83,24 +73,13 @@ pub fn is_known<A: Allocator + Clone>(names: &KnownNames<'_, '_, A>, value: &Val
     }
 }
 
-/// The value if it is at most $FFFF.
-fn in_a_word(value: Option<u128>) -> Option<u16>
-    ensures { result ≡ below 65536 value }
+/// The value if it is below a limit.
+fn below(limit: u64, value: Option<u128>) -> Option<u32>
+    requires { limit ≤ 4294967296 }
+    ensures { result ≡ below limit value }
 {
     let value = value?;
-    if value < 65536 {
-        Some(value as u16)
-    } else {
-        None
-    }
-}
-
-/// The value if an entry of the directive has room for it.
-fn in_an_entry(directive: Directive, value: Option<u128>) -> Option<u32>
-    ensures { result ≡ below (entry_limit directive) value }
-{
-    let value = value?;
-    if value < u128::from(limit(directive)) {
+    if value < u128::from(limit) {
         Some(value as u32)
     } else {
         None
@@ -112,7 +91,8 @@ fn in_an_entry(directive: Directive, value: Option<u128>) -> Option<u32>
 pub fn word_in<A: Allocator + Clone>(names: &KnownNames<'_, '_, A>, value: &Value) -> Option<u16>
     ensures { result ≡ word_in names.now (value_of value.now) }
 {
-    in_a_word(value_in(names, value))
+    let word = below(0x1_0000, value_in(names, value))?;
+    Some(word as u16)
 }
 
 /// The value if an entry of the directive has room for it.
@@ -124,7 +104,7 @@ pub fn entry_in<A: Allocator + Clone>(
 ) -> Option<u32>
     ensures { result ≡ entry_in names.now directive (value_of value.now) }
 {
-    in_an_entry(directive, value_in(names, value))
+    below(limit(directive), value_in(names, value))
 }
 
 /// Whether the value is below $100, and a name in it is defined as `name := number`.
@@ -146,7 +126,7 @@ pub fn has_zero_page_size<A: Allocator + Clone>(
         },
         Value::Less(name, n) => {
             if let Some(definition) = above.find(name) {
-                definition.constant && is_small(lessened(definition, n))
+                definition.constant && is_small(lessened(definition, n.value()))
             } else {
                 false
             }
