@@ -29,10 +29,23 @@ pub fn is_fragment_known<A: Allocator + Clone>(
     }
 }
 
-/// From 128 below the address `next` to 127 above it.
-fn is_near(next: u64, word: u16) -> bool
-    ensures { result ≡ is_near next (Some word) }
+/// Whether there is a value, and it is a byte.
+fn is_byte(word: Option<u16>) -> bool
+    ensures { result ≡ is_some (below 256 word) }
 {
+    match word {
+        Some(word) => word < 256,
+        None => false,
+    }
+}
+
+/// From 128 below the address `next` to 127 above it.
+fn is_near(next: u64, word: Option<u16>) -> bool
+    ensures { result ≡ is_near next word }
+{
+    let Some(word) = word else {
+        return false;
+    };
     let word = u128::from(word);
     let next = u128::from(next);
     next <= word + 128 && word <= next + 127
@@ -45,37 +58,6 @@ fn distance(next: u64, word: u16) -> u8
     ((u64::from(word) + 256).saturating_sub(next) % 256) as u8
 }
 
-fn put_one<A: Allocator>(out: &mut Vec<u8, A>, byte: u8) -> Result<bool, AllocError>
-    ensures { Adds result true (byte ∷ []) out.old out.new }
-{
-    out.push(byte)?;
-    Ok(true)
-}
-
-/// The value as a byte, if it is one.
-fn put_byte<A: Allocator>(out: &mut Vec<u8, A>, word: Option<u16>) -> Result<bool, AllocError>
-    ensures { Adds result (is_some (below 256 word)) (low (or_zero word) ∷ []) out.old out.new }
-{
-    match word {
-        Some(word) if word < 256 => put_one(out, word as u8),
-        _ => Ok(false),
-    }
-}
-
-/// The value as a distance, if it is near.
-fn put_distance<A: Allocator>(
-    out: &mut Vec<u8, A>,
-    next: u64,
-    word: Option<u16>,
-) -> Result<bool, AllocError>
-    ensures { Adds result (is_near next word) (distance next (or_zero word) ∷ []) out.old out.new }
-{
-    match word {
-        Some(word) if is_near(next, word) => put_one(out, distance(next, word)),
-        _ => Ok(false),
-    }
-}
-
 /// The low or the high byte.
 fn half_of(half: Half, word: u16) -> u8
     ensures { result ≡ half_of half word }
@@ -86,18 +68,14 @@ fn half_of(half: Half, word: u16) -> u8
     }
 }
 
-/// The half of a value, if it has one.
-fn put_half<A: Allocator>(
-    out: &mut Vec<u8, A>,
-    half: Half,
-    word: Option<u16>,
-) -> Result<bool, AllocError>
-    ensures { Adds result (is_some word) (half_of half (or_zero word) ∷ []) out.old out.new }
+/// Adds a byte if it fits.
+fn put_byte<A: Allocator>(out: &mut Vec<u8, A>, fits: bool, byte: u8) -> Result<bool, AllocError>
+    ensures { Adds result fits (byte ∷ []) out.old out.new }
 {
-    match word {
-        Some(word) => put_one(out, half_of(half, word)),
-        None => Ok(false),
+    if fits {
+        out.push(byte)?;
     }
+    Ok(fits)
 }
 
 /// So many bytes of one value.
@@ -141,11 +119,20 @@ pub fn put_fragment<A: Allocator + Clone, B: Allocator>(
     ensures { AddsOne result names.now next (fragment_of fragment.entry) out.old out.new }
 {
     match fragment {
-        Fragment::Single(v) | Fragment::ZeroPage(v) => put_byte(out, word_in(names, v)),
+        Fragment::Single(v) | Fragment::ZeroPage(v) => {
+            let word = word_in(names, v);
+            put_byte(out, is_byte(word), half_of(Half::Low, word.unwrap_or(0)))
+        }
         Fragment::Oversized(_) => Ok(false),
         Fragment::Entry(directive, v) => put_entry(out, directive, entry_in(names, directive, v)),
-        Fragment::Distance(v) => put_distance(out, next, word_in(names, v)),
-        Fragment::Half(half, v) => put_half(out, half, word_in(names, v)),
+        Fragment::Distance(v) => {
+            let word = word_in(names, v);
+            put_byte(out, is_near(next, word), distance(next, word.unwrap_or(0)))
+        }
+        Fragment::Half(half, v) => {
+            let word = word_in(names, v);
+            put_byte(out, word.is_some(), half_of(half, word.unwrap_or(0)))
+        }
         Fragment::Reserved(count, value) => put_fill(out, count.value(), value.value()),
         Fragment::Gap(count, value) => put_fill(out, u64::from(count), u64::from(value)),
     }
