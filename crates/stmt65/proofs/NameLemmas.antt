@@ -7,29 +7,17 @@ use Rattle.std.specs.Prelude.{ℕ, Bool, false, option_and_then}
 use Rattle.stmt65.specs.declared.directive.Directive.TheVariants.{Word}
 use Rattle.stmt65.proofs.Cases.{by_test}
 
--- what a view leaves as it was is the same of two that are seen alike
-by_view : {A X : Type 0} (view : A → A) (f : A → X) → ((a : A) → f (view a) ≡ f a) → (a b : A) → view a ≡ view b → f a ≡ f b
-by_view view f same a b e = sym (same a) ∙ ap f e ∙ same b
-
 -- ---- numbers that are held in 64 bits
 
-below-capped : (limit : ℕ) → limit ≤ 4294967296 → (o : Option ℕ) → below limit (capped o) ≡ below limit o
-below-capped limit h None = refl
-below-capped limit h (Some n) = grind arith
-
 pub below_capped : (limit : ℕ) (o p : Option ℕ) → limit ≤ 4294967296 → capped o ≡ capped p → below limit o ≡ below limit p
-below_capped limit o p h e = by_view capped (below limit) (below-capped limit h) o p e
+below_capped limit o p h e = grind arith
 
 pub entry_capped : (d : Directive) (o p : Option ℕ) → capped o ≡ capped p → below (entry_limit d) o ≡ below (entry_limit d) p
 entry_capped Word o p e = below_capped 65536 o p (omega arith) e
 entry_capped _ o p e = below_capped _ o p (omega arith) e
 
-small-capped : (o : Option ℕ) → is_small (capped o) ≡ is_small o
-small-capped None = refl
-small-capped (Some n) = grind (arith, nat_tests)
-
 pub small_capped : (o p : Option ℕ) → capped o ≡ capped p → is_small o ≡ is_small p
-small_capped o p e = by_view capped is_small small-capped o p e
+small_capped o p e = grind (arith, nat_tests)
 
 -- less one, or not
 pub lowered_capped : (less : Minus) (n m : ℕ) → held n ≡ held m → capped (lowered less n) ≡ capped (lowered less m)
@@ -85,7 +73,7 @@ first_agree ds all e w h = ap (option_map held_definition) (find_first w ds all 
 
 -- what is seen of the definition of a name that has one
 seen_alike : {X : Type 0} (f : Option Definition → X) (ds all : List Definition) (w : List ℕ) → ((o : Option Definition) → f (option_map held_definition o) ≡ f o) → Agree ds all → is_some (find_name w ds) ≡ true → f (find_name w all) ≡ f (find_name w ds)
-seen_alike f ds all w same agree h = by_view (option_map held_definition) f same (find_name w all) (find_name w ds) (agree w h)
+seen_alike f ds all w same agree h = sym (same (find_name w all)) ∙ ap f (agree w h) ∙ same (find_name w ds)
 
 value_alike : (ds all : List Definition) (v : Value) → Agree ds all → is_known ds v ≡ true → capped (value_in all v) ≡ capped (value_in ds v)
 unfolding value_in is_known

@@ -68,11 +68,8 @@ none_fits fit p e = grind arith
 
 pub codes : (all : List Definition) (p : Place) (fit : Fit) (fault : Option AsmFaultKind) (old new : List ℕ) → PutsAll fit all p.next p.fragments old new → fault ≡ fault_by fit p → Codes fault all (Some p) old new
 unfolding fault_at bytes_at
-codes all p fit fault old new puts e = record { finds = rw (← puts.fits.known, ← puts.fits.room) e; adds = go fault e }
-  where
-    go : (fault : Option AsmFaultKind) → fault ≡ fault_by fit p → IfNone fault (new ≡ old ++ bytes_at all (Some p))
-    go None e = rw (none_fits fit p e).1 at puts.adds
-    go (Some kind) e = tt
+codes all p fit None old new puts e = record { finds = rw (← puts.fits.known, ← puts.fits.room) e; adds = rw (none_fits fit p e).1 at puts.adds }
+codes all p fit (Some kind) old new puts e = record { finds = rw (← puts.fits.known, ← puts.fits.room) e; adds = tt }
 
 pub settles_over : {A : Type 0} (p : Work A) (above : List Definition) (line : Option Place) → p.is_over ≡ true → Settles p p above line None
 settles_over p above line e = record { takes = λ n layout. record { sound = λ h. h; same = λ h all rest first. rw e refl }; leaves = tt; faulty = tt }
