@@ -61,18 +61,14 @@ data_step ds i len more new d h e f g = rw (data_more ds i d h, coding_len_appen
 
 -- an expression that has a value, a small one or one near an address, has names that are defined
 below_some : (limit : ℕ) (o : Option ℕ) → is_some (below limit o) ≡ true → is_some o ≡ true
-below_some limit None h = cc
-below_some limit (Some n) h = refl
+below_some limit o h = grind arith
 
 near_some : (next : ℕ) (o : Option ℕ) → is_near next o ≡ true → is_some o ≡ true
-near_some next None h = cc
-near_some next (Some n) h = refl
+near_some next o h = grind arith
 
 -- two names of which both have an address
 apart_known : (a b : Option Definition) → is_some (apart (address_of a) (address_of b)) ≡ true → (is_some a && is_some b) ≡ true
-apart_known None b h = absurd cc
-apart_known (Some d) (Some e) h = refl
-apart_known (Some d) None h = grind (arith)
+apart_known a b h = grind arith
 
 value_known : (all : List Definition) (v : Value) → is_some (value_in all v) ≡ true → is_known all v ≡ true
 unfolding value_in is_known

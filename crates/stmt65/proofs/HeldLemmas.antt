@@ -16,8 +16,7 @@ fragments_coded s source coded e = ap (λ (o : Option (List Fragment)). unwrap_o
 
 pub form_coded : (s : State) (source : SourceLine) (coded : Option Coded) → IsCoding coded s (operation_in source) → is_none coded ≡ has_no_form s source
 unfolding has_no_form
-form_coded s source None e = rw (← e) refl
-form_coded s source (Some coded) e = rw (← e) refl
+form_coded s source coded e = grind arith
 
 pub next_coded : (s : State) (source : SourceLine) (coded : Option Coded) (len : ℕ) → IsCoding coded s (operation_in source) → len ≡ held (coding_len (fragments_in coded)) → held (s.at + len) ≡ held (next_of s source)
 unfolding next_of
@@ -34,8 +33,7 @@ large-held [] = refl
 large-held (d ∷ ds) = let same : ltb 65535 (held d.value) ≡ ltb 65535 d.value = grind (arith, nat_tests) in rw (same, large-held ds) refl
 
 near-held : (next : ℕ) (o : Option ℕ) → is_near (held next) (below 65536 o) ≡ is_near next (below 65536 o)
-near-held next None = refl
-near-held next (Some n) = grind arith
+near-held next o = grind arith
 
 fits-held : (all : List Definition) (next : ℕ) (f : Fragment) → fragment_fits all (held next) f ≡ fragment_fits all next f
 unfolding fragment_fits word_in
@@ -80,12 +78,10 @@ short-held ds _ = refl
 
 -- an address, from one that is held: what is missing before it, and whether it lies before
 gap-held : (layout : Layout) (at : ℕ) (o : Option Definition) → gap layout (held at) (address_of o) ≡ gap layout at (address_of o)
-gap-held layout at None = refl
-gap-held layout at (Some d) = grind (arith, ltb-true)
+gap-held layout at o = grind (arith, ltb-true)
 
 before-held : (at : ℕ) (o : Option Definition) → is_before (address_of o) (held at) ≡ is_before (address_of o) at
-before-held at None = refl
-before-held at (Some d) = grind (arith, nat_tests, by_test)
+before-held at o = grind (arith, nat_tests, by_test)
 
 coding-held : (s : State) (operation : Operation) → coding (held_state s) operation ≡ coding s operation
 unfolding coding held_state

@@ -26,20 +26,16 @@ lowered_capped less n m e = grind (arith, cases_lt)
 -- ---- a definition that is held
 
 pub number-held : (less : Minus) (n : ℕ) (o : Option Definition) → capped (option_and_then (λ d. lowered less (d.value + n)) (option_map held_definition o)) ≡ capped (option_and_then (λ d. lowered less (d.value + n)) o)
-number-held less n None = refl
-number-held less n (Some d) = lowered_capped less (held d.value + n) (d.value + n) (omega arith)
+number-held less n o = grind (arith, lowered_capped)
 
 pub address-held : (o : Option Definition) → address_of (option_map held_definition o) ≡ address_of o
-address-held None = refl
-address-held (Some d) = below_capped 65536 (Some (held d.value)) (Some d.value) (omega arith) (ap Some (omega arith))
+address-held o = grind (arith, nat_tests)
 
 pub constant-held : (o : Option Definition) → is_constant (option_map held_definition o) ≡ is_constant o
-constant-held None = refl
-constant-held (Some d) = refl
+constant-held o = grind arith
 
 pub some-held : (o : Option Definition) → is_some (option_map held_definition o) ≡ is_some o
-some-held None = refl
-some-held (Some d) = refl
+some-held o = grind arith
 
 pub find_name-held : (w : List ℕ) (ds : List Definition) → find_name w (held_definitions ds) ≡ option_map held_definition (find_name w ds)
 unfolding find_name

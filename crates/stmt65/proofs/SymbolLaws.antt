@@ -35,12 +35,10 @@ at_place n ds None = None
 at_place n ds (Some i) = cond (ltb i n) (slice_get ds i) None
 
 at_none : (ds : List Definition) (o : Option ℕ) → at_place 0 ds o ≡ None
-at_none ds None = refl
-at_none ds (Some i) = grind arith
+at_none ds o = grind arith
 
 at_more : (x : Definition) (ds : List Definition) (n : ℕ) (o : Option ℕ) → at_place (suc n) (x ∷ ds) (option_map suc o) ≡ at_place n ds o
-at_more x ds n None = refl
-at_more x ds n (Some i) = grind (arith, nat_tests)
+at_more x ds n o = grind (arith, nat_tests)
 
 -- a name is found where it stands first
 pub finds : (q : List ℕ) (ds : List Definition) (n : ℕ) → find_name q (take n ds) ≡ at_place n ds (first_at q ds)
@@ -85,8 +83,7 @@ stays q ds d zero o h = refl
 stays q ds d (suc i) o h = ap (λ (x : Option CodeDefinition). cond (is_named q x) (Some i) o) (slice_get-front ds d i (omega arith))
 
 other : (o : Option ℕ) (n : ℕ) → or_here o false n ≡ o
-other None n = refl
-other (Some i) n = refl
+other o n = grind arith
 
 within_more : (ds : List CodeDefinition) (d : CodeDefinition) (n : ℕ) → n ≤ length ds → n ≤ length (ds ++ d ∷ [])
 within_more ds d n h = omega (arith, h, length-append ds (d ∷ []))
