@@ -108,11 +108,7 @@ pub index_known : (ds : List CodeDefinition) (count : ℕ) (taker : ℕ → ℕ)
 index_known ds count taker others d h known =
     index_more ds count taker taker others others d h (λ k. within_more ds d (taker k) (h.within k)) h.free
     (λ q e. stays q ds d (taker (slot_of count q)) (others q) (h.within (slot_of count q)))
-    (stays d.name.now ds d (taker (slot_of count d.name.now)) (others d.name.now) (h.within (slot_of count d.name.now)) ∙ h.finds d.name.now ∙ here (first_at d.name.now (map definition_of ds)) known)
-  where
-    here : (o : Option ℕ) → is_some o ≡ true → o ≡ or_here o true (length ds)
-    here None e = absurd cc
-    here (Some i) e = refl
+    (grind (arith, (stays d.name.now ds d (taker (slot_of count d.name.now)) (others d.name.now) (h.within (slot_of count d.name.now))), (h.finds d.name.now)))
 
 -- a name whose slot is taken
 pub index_other : (ds : List CodeDefinition) (count : ℕ) (taker : ℕ → ℕ) (others later : List ℕ → Option ℕ) (d : CodeDefinition) (n : ℕ) → IsIndex ds count taker others → first_at d.name.now (map definition_of ds) ≡ None → n ≡ length ds
@@ -120,16 +116,12 @@ pub index_other : (ds : List CodeDefinition) (count : ℕ) (taker : ℕ → ℕ)
 index_other ds count taker others later d n h unknown is taken now =
     index_more ds count taker taker others later d h (λ k. within_more ds d (taker k) (h.within k)) free
     (λ q e. stays q ds d (taker (slot_of count q)) (later q) (h.within (slot_of count q)) ∙ ap (place_by q ds (taker (slot_of count q))) (now q ∙ rw e refl))
-    (stays d.name.now ds d (taker (slot_of count d.name.now)) (later d.name.now) (h.within (slot_of count d.name.now)) ∙ here (taker (slot_of count d.name.now)) taken (h.finds d.name.now ∙ unknown))
+    (let same = (bytes_eq-Decides d.name.now d.name.now).1 refl in grind (arith, (stays d.name.now ds d (taker (slot_of count d.name.now)) (later d.name.now) (h.within (slot_of count d.name.now))), (h.finds d.name.now), (now d.name.now)))
   where
     free : (q : List ℕ) → taker (slot_of count q) ≡ 0 → later q ≡ None
     free q e = by_test (bytes_eq d.name.now q)
         (λ f. let is = (bytes_eq-Decides d.name.now q).0 f in absurd (taken (rw is e)))
         (λ f. now q ∙ rw f (h.free q e))
-
-    here : (t : ℕ) → t ≢ 0 → place_by d.name.now ds t (others d.name.now) ≡ None → place_by d.name.now ds t (later d.name.now) ≡ or_here (first_at d.name.now (map definition_of ds)) true (length ds)
-    here zero e f = absurd (e refl)
-    here (suc i) e f = let same = (bytes_eq-Decides d.name.now d.name.now).1 refl in by_test (is_named d.name.now (slice_get ds i)) (λ g. let f' = rw g at f in absurd cc) (λ g. rw (unknown, now d.name.now, same, g, is) refl)
 
 -- a name whose slot is free
 pub index_taken : (ds : List CodeDefinition) (count more : ℕ) (taker next : ℕ → ℕ) (others : List ℕ → Option ℕ) (d : CodeDefinition) (n : ℕ) → IsIndex ds count taker others → first_at d.name.now (map definition_of ds) ≡ None → n ≡ length ds
