@@ -98,9 +98,7 @@ index_more ds count taker next others later d h within free same here = record {
   some = h.some;
   within = within;
   free = free;
-  finds = λ q. by_test (bytes_eq d.name.now q)
-      (λ e. let is = (bytes_eq-Decides d.name.now q).0 e in rw (pushed q ds d, e, ← is) here)
-      (λ e. rw (pushed q ds d, e, other) (same q e ∙ h.finds q));
+  finds = λ q. grind (arith, (bytes_eq-Decides d.name.now q), (pushed q ds d), other, (same q), (h.finds q));
 }
 
 pub index_known : (ds : List CodeDefinition) (count : ℕ) (taker : ℕ → ℕ) (others : List ℕ → Option ℕ) (d : CodeDefinition) → IsIndex ds count taker others → is_some (first_at d.name.now (map definition_of ds)) ≡ true
@@ -114,14 +112,10 @@ index_known ds count taker others d h known =
 pub index_other : (ds : List CodeDefinition) (count : ℕ) (taker : ℕ → ℕ) (others later : List ℕ → Option ℕ) (d : CodeDefinition) (n : ℕ) → IsIndex ds count taker others → first_at d.name.now (map definition_of ds) ≡ None → n ≡ length ds
     → taker (slot_of count d.name.now) ≢ 0 → ((q : List ℕ) → later q ≡ update bytes_eq others d.name.now (Some n) q) → IsIndex (ds ++ d ∷ []) count taker later
 index_other ds count taker others later d n h unknown is taken now =
-    index_more ds count taker taker others later d h (λ k. within_more ds d (taker k) (h.within k)) free
+    index_more ds count taker taker others later d h (λ k. within_more ds d (taker k) (h.within k))
+    (λ q e. grind (arith, (bytes_eq-Decides d.name.now q), (now q), (h.free q)))
     (λ q e. stays q ds d (taker (slot_of count q)) (later q) (h.within (slot_of count q)) ∙ ap (place_by q ds (taker (slot_of count q))) (now q ∙ rw e refl))
     (let same = (bytes_eq-Decides d.name.now d.name.now).1 refl in grind (arith, (stays d.name.now ds d (taker (slot_of count d.name.now)) (later d.name.now) (h.within (slot_of count d.name.now))), (h.finds d.name.now), (now d.name.now)))
-  where
-    free : (q : List ℕ) → taker (slot_of count q) ≡ 0 → later q ≡ None
-    free q e = by_test (bytes_eq d.name.now q)
-        (λ f. let is = (bytes_eq-Decides d.name.now q).0 f in absurd (taken (rw is e)))
-        (λ f. now q ∙ rw f (h.free q e))
 
 -- a name whose slot is free
 pub index_taken : (ds : List CodeDefinition) (count more : ℕ) (taker next : ℕ → ℕ) (others : List ℕ → Option ℕ) (d : CodeDefinition) (n : ℕ) → IsIndex ds count taker others → first_at d.name.now (map definition_of ds) ≡ None → n ≡ length ds
