@@ -17,10 +17,10 @@ unfoldable pub held_addresses : State → List (Option SourceLine) → List ℕ
 held_addresses s [] = []
 held_addresses s (l ∷ ls) = (held_after s l).at ∷ held_addresses (held_after s l) ls
 
-pub addresses_step : (l : Language) (s t : State) (text line rest found : List ℕ) (all : List ℕ) → found ++ held_addresses s (readings l text) ≡ all → text_lines text ≡ line ∷ text_lines rest → t ≡ held_after s (reading_of l (parts l line))
-    → (found ++ t.at ∷ []) ++ held_addresses t (readings l rest) ≡ all
+pub addresses_step : (l : Language) (s t : State) (text line rest found more all : List ℕ) → found ++ held_addresses s (readings l text) ≡ all → text_lines text ≡ line ∷ text_lines rest → t ≡ held_after s (reading_of l (parts l line)) → more ≡ found ++ t.at ∷ []
+    → more ++ held_addresses t (readings l rest) ≡ all
 unfolding held_addresses
-addresses_step l s t text line rest found all h e k = grind (arith, append_assoc)
+addresses_step l s t text line rest found more all h e k m = grind (arith, append_assoc)
 
 -- ---- and those of the meaning
 

@@ -1,5 +1,5 @@
-use Rattle.std.proofs.Common.{◌++◌, ◌∙◌, ℕ, List, ap, arith}
-use Rattle.stmt65.specs.Words.{State, readings, source_readings, state_in}
+use Rattle.std.proofs.Common.{ap, arith}
+use Rattle.stmt65.specs.Words.{State, source_readings, state_in}
 use Rattle.stmt65.proofs.AddressLemmas.{addresses_step, found_lines, held_addresses}
 use Rattle.stmt65.proofs.PassLaws.{at_start, at_next}
 use Rattle.stmt65.proofs.assembling.assembler.first_pass.Goals as goal
@@ -16,9 +16,7 @@ lines-preserved g c = record {
   at = at_next c.args.source.now c.lines.number c.lines.pass c.pass_line.new.pass c.lines.rest.now c.in-Some.line.now c.in-Some.after.now c.lines.invariant.at c.in-Some.ensures.0 c.in_ok-pass_line.ensures;
   shorter = omega (arith, c.in-Some.ensures.1);
   ends = λ wanted.
-      let taken = rw wanted at c.in_ok-take_down.ensures in
-      ap (λ (l : List ℕ). l ++ held_addresses (state_in c.pass_line.new.pass) (readings c.args.source.now.language c.in-Some.after.now)) taken
-      ∙ addresses_step c.args.source.now.language (state_in c.lines.pass) (state_in c.pass_line.new.pass) c.lines.rest.now c.in-Some.line.now c.in-Some.after.now c.lines.ends _ (c.lines.invariant.ends wanted) c.in-Some.ensures.0 c.in_ok-pass_line.ensures.state;
+      addresses_step c.args.source.now.language (state_in c.lines.pass) _ c.lines.rest.now c.in-Some.line.now c.in-Some.after.now c.lines.ends _ _ (c.lines.invariant.ends wanted) c.in-Some.ensures.0 c.in_ok-pass_line.ensures.state (rw wanted at c.in_ok-take_down.ensures);
 }
 
 pub returns-clause-ends : goal.returns-clause-ends
