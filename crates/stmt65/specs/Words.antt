@@ -17,7 +17,7 @@ pub use Rattle.stmt65.specs.Code.StatementViews.{expr_seen, in_hex, operands_see
 pub use Rattle.stmt65.specs.Code.SymbolViews.{definition_of}
 unfoldable pub use Rattle.stmt65.specs.Code.SymbolViews.{first_at}
 pub use Rattle.stmt65.specs.Code.Widths.{AreBytes, AreWordWide, IsInWidth, IsWordWide}
-pub use Rattle.stmt65.specs.Coding.{Distance, Entry, Fill, Fixed, Fragment, HalfOf, Oversized, Single, State, Way, ZeroPage, byte_fragment, datum_fragments, distance, entry_bytes, entry_limit, first_way, fragment_len, gap, half_of, is_fragment_known, is_near, is_short, kind_fragment, low, modes_in, or_zero, way_in, word_operand, zero_page}
+pub use Rattle.stmt65.specs.Coding.{Distance, Entry, Fill, Fixed, Fragment, Oversized, Single, State, Way, ZeroPage, byte_fragment, datum_fragments, distance, entry_bytes, entry_limit, first_way, fragment_len, gap, half_of, is_fragment_known, is_near, is_short, kind_fragment, low, modes_in, or_zero, way_in, word_operand, zero_page}
 unfoldable pub use Rattle.stmt65.specs.Coding.{coding, coding_len, entry_in, fragment_bytes, fragment_fits, ways}
 pub use Rattle.stmt65.specs.Columns.{default_columns, fits_label}
 unfoldable pub use Rattle.stmt65.specs.Definitions.{definitions_of}
@@ -33,7 +33,7 @@ pub use Rattle.stmt65.specs.Line.{plain_line, with_fields}
 unfoldable pub use Rattle.stmt65.specs.Line.{filled, line_of}
 pub use Rattle.stmt65.specs.LineAddresses.{FindsLine, GivesByte, address_after, line_past}
 unfoldable pub use Rattle.stmt65.specs.LineAddresses.{line_addresses}
-pub use Rattle.stmt65.specs.Meaning.{cpu_set, first_of, has_large, initial, meaning, operation_in, readings, unless, with_front}
+pub use Rattle.stmt65.specs.Meaning.{first_of, has_large, initial, meaning, operation_in, readings, unless, with_front}
 unfoldable pub use Rattle.stmt65.specs.Meaning.{after, bytes_of, coded, cpu_after, defined_by, fault_of, final, fragments_of, has_no_form, has_unknown_cpu, is_out_of_range, is_past_end, is_past_start, is_twice, is_undefined, meaning_in, meaning_of, next_of}
 pub use Rattle.stmt65.specs.ModeLaws.{EachWay, HasMode, IsModeOf, IsWay, LacksForm, ModesAreWays, NeedsMode, TakesMode, TakesModes, WaysAreModes, is_way, mode_fragments}
 pub use Rattle.stmt65.specs.Names.{same}
