@@ -1,9 +1,8 @@
 -- What a line means by some definitions it means by all that agree with them on its names.
-use Rattle.std.specs.Prelude.{◌≡◌, ◌+◌, ◌≤◌, ◌∷◌}
+use Rattle.std.specs.Prelude.{◌≡◌, ◌+◌, ◌≤◌, ◌∷◌, ℕ, Bool, false, option_and_then}
 use Rattle.stmt65.proofs.Lemmas.{and_parts, ap, arith, nat_tests, refl, sym, ◌∙◌}
 use Rattle.std.proofs.lemmas.Bool.{cases_lt}
 use Rattle.stmt65.specs.Words.{AreFirstOf, AsmFault, AsmFaultKind, Definition, DifferenceValue, Directive, Entry, Fill, Fixed, Fragment, LessValue, List, Minus, NameValue, None, NumberValue, Option, Oversized, Place, Result, Some, Value, [], address_of, apart, below, bytes_at, bytes_eq, capped, entry_in, entry_limit, fault_at, find_name, flat_map, fragment_bytes, fragment_fits, held, held_definition, held_definitions, is_constant, is_fragment_known, is_known, is_small, is_some, length, line_then, list_all, lowered, option_map, take, true, unless, value_in, word_in}
-use Rattle.std.specs.Prelude.{ℕ, Bool, false, option_and_then}
 use Rattle.stmt65.specs.declared.directive.Directive.TheVariants.{Word}
 use Rattle.stmt65.proofs.Cases.{by_test}
 
@@ -49,11 +48,7 @@ abbrev pub Agree : List Definition → List Definition → Type 0
 Agree ds all = (w : List ℕ) → is_some (find_name w ds) ≡ true → option_map held_definition (find_name w all) ≡ option_map held_definition (find_name w ds)
 
 held_agree : (ds : List Definition) → Agree ds (held_definitions ds)
-held_agree ds w h = rw (find_name-held w ds) (twice (find_name w ds))
-  where
-    twice : (o : Option Definition) → option_map held_definition (option_map held_definition o) ≡ option_map held_definition o
-    twice None = refl
-    twice (Some d) = let same : held (held d.value) ≡ held d.value = omega arith in rw same refl
+held_agree ds w h = grind (arith, (find_name-held w ds))
 
 agree_held : (ds : List Definition) → Agree (held_definitions ds) ds
 agree_held ds w h = sym (held_agree ds w (sym (rw (find_name-held w ds) (some-held (find_name w ds))) ∙ h))
