@@ -1,5 +1,5 @@
 -- What a command line asks for.
-use Rattle.std.specs.Prelude.{◌&&◌, ◌||◌, ℕ, Bool, not, nat_eq, List, String, Option, Some, None, Result, Ok, Err, codes, drop, is_some, if◌then◌else◌}
+use Rattle.std.specs.Prelude.{◌&&◌, ◌||◌, Bool, not, nat_eq, List, String, Option, Some, None, Result, Ok, Err, codes, drop, is_some, if◌then◌else◌}
 use Rattle.std.specs.List.{list_any, starts_with, take_while}
 use Rattle.std.specs.Str.{bytes_eq}
 use Rattle.std.specs.String.{string_bytes}

@@ -1,7 +1,6 @@
 -- The words of clauses and proofs, here and in the crates above, from one place.
 pub use Rattle.as65.specs.Types.{Stretch}
 pub use Rattle.as65.specs.Assembled.{AssembledView, seen}
-pub use Rattle.as65.specs.Code.NamedStarts.{named_start_of}
 pub use Rattle.as65.specs.Code.Passing.{IsAtLine, IsInBoth, beside, line_left, passed_at}
 unfoldable pub use Rattle.as65.specs.Code.Passing.{IsReady}
 pub use Rattle.as65.specs.Code.Requests.{given_of}
@@ -16,7 +15,6 @@ pub use Rattle.as65.specs.Information.{placed_at}
 pub use Rattle.as65.specs.Labels.{label_line, labels_of, source_labels}
 pub use Rattle.as65.specs.Moves.{IsMoved, bytes_text, digit, is_alike, label_named, moves_in}
 unfoldable pub use Rattle.as65.specs.Moves.{address_in_name, distance_text, label_in_line, labels_in, move_line, move_text, moves_after, what_lies}
-pub use Rattle.as65.specs.NamedStart.{first_of, named_start, speaks_for, start_for}
 pub use Rattle.as65.specs.Origins.{Moves, OriginsView}
 pub use Rattle.as65.specs.Request.{is_compare_word, is_comparing, work_of}
 unfoldable pub use Rattle.as65.specs.Request.{to_compare, to_write, work_in}

@@ -3,8 +3,7 @@
 //!
 //! A name that is no label `LXXXX` lay as far from its address as the label before it does now, or the one after it.
 
-use crate::moves::{IN_PLACE, Label};
-use crate::named_start::address_in_name;
+use crate::moves::{IN_PLACE, Label, address_in_name};
 use crate::origins::Origin;
 use files65::{put_decimal, repair};
 use std::alloc::{AllocError, Global};
@@ -21,11 +20,6 @@ pub struct Placed<'t> {
     pub at: u64,
     /// The address after its last byte.
     pub end: u64,
-}
-
-/// The address that something had, by how far a label lies from the address in its name.
-pub fn earlier(label: Label, at: u64) -> Option<u64> {
-    at.saturating_add(label.named).checked_sub(label.at)
 }
 
 /// The last label at or before an address; or the first one after it, if that is wanted and there is one.
@@ -59,8 +53,7 @@ impl<'s, 'b, 't, 'l, 'n> Before<'s, 'b, 't, 'l, 'n> {
         if let Some(named) = address_in_name(name) {
             return Some(named);
         }
-        let label = beside(&self.labels, definition.value, by_later);
-        earlier(label, definition.value)
+        beside(&self.labels, definition.value, by_later).earlier(definition.value)
     }
 
     /// A text of the line alone: its CPU, the names of its operands as constants, but for its label, and the line.

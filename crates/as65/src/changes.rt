@@ -13,7 +13,7 @@
 //! the bytes are compared by the label before.
 
 use crate::assembled::Assembled;
-use crate::before::{Before, Placed, earlier};
+use crate::before::{Before, Placed};
 use crate::differences::{put_change, put_lengths, put_origin, trimmed};
 use crate::moves::{IN_PLACE, Label, is_alike};
 use crate::origins::{Origin, line_at};
@@ -85,7 +85,7 @@ impl<'i, 'b, 's, 'a, 't, 'l, 'n> Scene<'i, 'b, 's, 'a, 't, 'l, 'n> {
 
     /// The address that something had before, by a label, as an offset in the image.
     fn earlier_offset(&self, label: Label, at: u64) -> Option<usize> {
-        self.offset(earlier(label, at)?)
+        self.offset(label.earlier(at)?)
     }
 
     /// The bytes of the listing from an address to before another.
@@ -114,7 +114,7 @@ impl<'i, 'b, 's, 'a, 't, 'l, 'n> Scene<'i, 'b, 's, 'a, 't, 'l, 'n> {
     /// `None` if the image has what it gives now, or if it gave nothing.
     fn gave(&self, placed: &Placed<'t>, label: Label) -> Result<Option<Vec<u8>>, AllocError> {
         let was = self.image_of(placed, label);
-        let Some(at) = earlier(label, placed.at) else {
+        let Some(at) = label.earlier(placed.at) else {
             return Ok(None);
         };
         if was == self.bytes_of(placed) {

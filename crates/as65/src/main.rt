@@ -115,7 +115,7 @@ fn compare_under(rt: &HostRuntime, comparing: &Comparing, info: &Info) -> Result
     let source = repair(&layout, image.start(), &text);
     let assembled = assembled_in(rt, name, comparing.place, &source)?;
     if info.settings().start.is_none() && image.bytes() != assembled.bytes() {
-        let named = named_start(rt.alloc(), &source, image.bytes().len())?;
+        let named = named_start(rt.alloc(), &image, &assembled)?;
         say_starts(rt, comparing.image.as_str(), image.start(), named)?;
     }
     compare(rt.alloc(), &image, &assembled, &mut Output::standard(rt))

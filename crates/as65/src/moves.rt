@@ -1,12 +1,11 @@
 //! Where labels leave the address in their name: da65 calls an address `LXXXX` that has no name.
 
-ghost use Rattle.std.specs.Prelude.{◌≡◌, ◌++◌, [], IfErr, IfOk, OnOk, flat_map};
+ghost use Rattle.std.specs.Prelude.{◌≡◌, ◌<◌, ◌++◌, [], IfErr, IfOk, IfSome, OnOk, flat_map};
 ghost use Rattle.stmt65.specs.Words.{parts, reading_of, source_readings};
-ghost use Rattle.as65.specs.Words.{IsMoved, address_in_name, bytes_text, distance_text, is_alike, label_in_line, label_named, labels_in, move_line, move_text, moves_in, what_lies};
+ghost use Rattle.as65.specs.Words.{IsMoved, address_in_name, bytes_text, digit, distance_text, is_alike, label_in_line, label_named, labels_in, move_line, move_text, moves_in, what_lies};
 
 use crate::assembled::Assembled;
 use crate::failure::{Failure, Refused};
-use crate::named_start::address_in_name;
 use files65::{put_address, put_decimal};
 use std::alloc::{AllocError, Global};
 use stmt65::{Source, SourceLine, read_line};
@@ -26,6 +25,36 @@ pub const IN_PLACE: Label = Label {
     named: 0,
     at: 0,
 };
+
+impl Label {
+    /// The address that something had, by how far this label lies from the address in its name.
+    pub fn earlier(self, at: u64) -> Option<u64> {
+        at.saturating_add(self.named).checked_sub(self.at)
+    }
+}
+
+/// The value of a hex digit as da65 writes it.
+fn digit(byte: u8) -> Option<u64>
+    ensures value { result ≡ digit byte }
+    ensures low { IfSome result (λ d. d < 16) }
+{
+    match byte {
+        b'0'..=b'9' => Some(u64::from(byte - b'0')),
+        b'A'..=b'F' => Some(u64::from(byte - b'A' + 10)),
+        _ => None,
+    }
+}
+
+/// The address in a name of the form LXXXX.
+#[tactic(auto, unfolding(crate::specs::Moves::address_in_name))]
+pub fn address_in_name(name: &[u8]) -> Option<u64>
+    ensures { result ≡ address_in_name name.now }
+{
+    let [b'L', a, b, c, d] = name else {
+        return None;
+    };
+    Some(digit(*a)? * 4096 + digit(*b)? * 256 + digit(*c)? * 16 + digit(*d)?)
+}
 
 fn label_named(number: usize, at: u64, name: &[u8]) -> Option<Label>
     ensures { result ≡ label_named number at (address_in_name name.now) }
