@@ -109,12 +109,6 @@ pub record AreDifferences (c : Compared) (text : List ℕ) : Type 0 where
   pub runs : AreRuns (differs c.image c.bytes) 0 found
   pub lines : text ≡ difference_lines c found
 
--- these lines were appended
-pub record AppendsDifferences (c : Compared) (old new : List ℕ) : Type 0 where
-  pub text : List ℕ
-  pub lines : AreDifferences c text
-  pub appended : new ≡ old ++ text
-
 -- First a line for each of the labels at which the distance from the address in the name changes. If there is none, the
 -- rest are the differences; else it is advice.
 pub record IsDifferences (moves : List Label) (c : Compared) (text : List ℕ) : Type 0 where

@@ -8,7 +8,6 @@ pub mod Image
 pub mod Information
 pub mod Labels
 pub mod Moves
-pub mod Origins
 pub mod Request
 pub mod Status
 pub mod Stretches

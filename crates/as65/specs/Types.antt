@@ -2,6 +2,7 @@
 pub use Rattle.as65.specs.declared.failure.Refused.{Refused}
 pub use Rattle.as65.specs.declared.failure.Refused.TheVariants.{EmptyImage, LargeImage, Line, Moved, ShortImage}
 pub use Rattle.as65.specs.declared.moves.Label.{Label}
+pub use Rattle.as65.specs.declared.origins.Reached.{Reached}
 pub use Rattle.as65.specs.declared.request.Placement.{Placement}
 pub use Rattle.as65.specs.declared.request.Work.{Work}
 pub use Rattle.as65.specs.declared.request.Work.TheVariants.{Compare, Write}

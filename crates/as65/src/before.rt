@@ -9,54 +9,52 @@ use files65::{put_decimal, repair};
 use std::alloc::{AllocError, Global};
 use stmt65::{AsmFaultKind, Source, SourceLine, Symbols, assemble_source, names_in, read_line};
 
-/// A line that gives bytes.
+/// A line that gives bytes, the address of the first, and the address after the last.
 #[derive(Clone, Copy)]
 pub struct Placed<'t> {
-    /// Its number and its text.
     pub origin: Origin<'t>,
-    /// The last line above it that has a `.setcpu`; empty without one.
-    pub cpu: &'t [u8],
-    /// The address of its first byte.
     pub at: u64,
-    /// The address after its last byte.
     pub end: u64,
+}
+
+impl<'t> Placed<'t> {
+    /// How many bytes the line gives.
+    pub fn len(&self) -> u64 {
+        self.end.saturating_sub(self.at)
+    }
 }
 
 /// The last label at or before an address; or the first one after it, if that is wanted and there is one.
 fn beside(labels: &[Label], address: u64, by_later: bool) -> Label {
     let count = labels.partition_point(|label| label.at <= address);
-    let before = labels.get(..count).unwrap_or(&[]).last();
-    let found = if by_later {
-        labels.get(count).or(before)
-    } else {
-        before
-    };
-    found.copied().unwrap_or(IN_PLACE)
+    let (before, later) = labels.split_at(count);
+    let first = if by_later { later.first() } else { None };
+    first.or(before.last()).copied().unwrap_or(IN_PLACE)
 }
 
 /// A text, and what its names were before its labels left the address in their name.
 #[derive(Drop)]
-pub struct Before<'s, 'b, 't, 'l, 'n> {
+pub struct Before<'s, 'a, 't, 'l, 'n> {
     pub alloc: Global,
     pub source: &'s Source<'t, 'l, 'n>,
-    pub names: Symbols<'t, &'b Global>,
-    pub labels: Vec<Label>,
+    pub names: Symbols<'t, &'a Global>,
+    pub labels: &'s [Label],
 }
 
-impl<'s, 'b, 't, 'l, 'n> Before<'s, 'b, 't, 'l, 'n> {
+impl<'s, 'a, 't, 'l, 'n> Before<'s, 'a, 't, 'l, 'n> {
     /// The value that a name had; by the label after it, if that is wanted.
     fn value(&self, name: &[u8], by_later: bool) -> Option<u64> {
         let definition = self.names.all().find(name)?;
         if definition.constant {
             return Some(definition.value);
         }
-        if let Some(named) = address_in_name(name) {
-            return Some(named);
-        }
-        beside(&self.labels, definition.value, by_later).earlier(definition.value)
+        address_in_name(name).or(beside(self.labels, definition.value, by_later).earlier(
+            definition.value,
+        ))
     }
 
-    /// A text of the line alone: its CPU, the names of its operands as constants, but for its label, and the line.
+    /// A text of the line alone: the CPU that has the forms of all, the names of its operands as constants, but for its
+    /// label, and the line.
     fn text(
         &self,
         placed: &Placed<'t>,
@@ -64,8 +62,7 @@ impl<'s, 'b, 't, 'l, 'n> Before<'s, 'b, 't, 'l, 'n> {
         by_later: bool,
     ) -> Result<Vec<u8>, AllocError> {
         let mut out = Vec::new(self.alloc);
-        out.extend_from_slice(placed.cpu)?;
-        out.extend_from_slice(b"\n")?;
+        out.extend_from_slice(b".setcpu \"65C02\"\n")?;
         if let SourceLine::Statement { label, operation } = line {
             let names = names_in(self.alloc, operation)?;
             for (place, name) in names.iter().enumerate() {
@@ -98,9 +95,7 @@ impl<'s, 'b, 't, 'l, 'n> Before<'s, 'b, 't, 'l, 'n> {
         let text = self.text(placed, &line, by_later)?;
         let alone = repair(self.source.layout, start, &text);
         match assemble_source(self.alloc, &alone) {
-            Ok(bytes) if bytes.len() as u64 == placed.end.saturating_sub(placed.at) => {
-                Ok(Some(bytes))
-            }
+            Ok(bytes) if bytes.len() as u64 == placed.len() => Ok(Some(bytes)),
             Err(fault) if fault.kind == AsmFaultKind::Memory => Err(AllocError),
             _ => Ok(None),
         }

@@ -17,10 +17,10 @@ use crate::before::{Before, Placed};
 use crate::differences::{put_change, put_lengths, put_origin, trimmed};
 use crate::moves::{IN_PLACE, Label, is_alike};
 use crate::origins::{Origin, line_at};
-use crate::stretches::{Stretch, stretches};
+use crate::stretches::Stretch;
 use map65::Image;
 use std::alloc::{AllocError, Global};
-use stmt65::{Assembly, LineEnds, Operation, Source, SourceLine, assemble_lines, read_line};
+use stmt65::{Assembly, LineEnds, Source, assemble_lines};
 use text65::first_line;
 
 /// Bytes of the image in whose place a listing has others, as offsets from the first byte of each, and a line.
@@ -33,13 +33,13 @@ struct Change<'t> {
 
 /// What is compared, what the names were before, and what differs.
 #[derive(Drop)]
-struct Scene<'i, 'b, 's, 'a, 't, 'l, 'n> {
+struct Scene<'s, 'a, 't, 'l, 'n> {
     /// The address of both first bytes.
     start: u64,
     /// The bytes of the image.
-    image: &'i [u8],
+    image: &'s [u8],
     /// Those of the listing.
-    bytes: &'b [u8],
+    bytes: &'s [u8],
     before: Before<'s, 'a, 't, 'l, 'n>,
     changes: Vec<Change<'t>>,
 }
@@ -49,43 +49,12 @@ fn part(bytes: &[u8], stretch: Stretch) -> &[u8] {
     bytes.get(stretch.at..stretch.end).unwrap_or(&[])
 }
 
-/// How many first bytes of two rows are the same.
-fn common(one: &[u8], other: &[u8]) -> usize {
-    let pairs = one.iter().zip(other.iter());
-    pairs.take_while(|(byte, beside)| byte == beside).count()
-}
-
-/// How many last bytes of two rows are the same.
-fn common_end(one: &[u8], other: &[u8]) -> usize {
-    let pairs = one.iter().rev().zip(other.iter().rev());
-    pairs.take_while(|(byte, beside)| byte == beside).count()
-}
-
-/// A stretch this many bytes later.
-fn later(stretch: Stretch, count: usize) -> Stretch {
-    let at = stretch.at.saturating_add(count);
-    let end = stretch.end.saturating_add(count);
-    Stretch { at, end }
-}
-
-/// A stretch without so many bytes at its beginning and so many at its end.
-fn trimmed_by(stretch: Stretch, first: usize, last: usize) -> Stretch {
-    let at = stretch.at.saturating_add(first);
-    let end = stretch.end.saturating_sub(last);
-    Stretch { at, end }
-}
-
-impl<'i, 'b, 's, 'a, 't, 'l, 'n> Scene<'i, 'b, 's, 'a, 't, 'l, 'n> {
+impl<'s, 'a, 't, 'l, 'n> Scene<'s, 'a, 't, 'l, 'n> {
     /// An address as an offset in the image, up to its end.
     fn offset(&self, address: u64) -> Option<usize> {
         let offset = address.checked_sub(self.start)? as usize;
         let _ = self.image.get(offset..)?;
         Some(offset)
-    }
-
-    /// The address that something had before, by a label, as an offset in the image.
-    fn earlier_offset(&self, label: Label, at: u64) -> Option<usize> {
-        self.offset(label.earlier(at)?)
     }
 
     /// The bytes of the listing from an address to before another.
@@ -96,24 +65,25 @@ impl<'i, 'b, 's, 'a, 't, 'l, 'n> Scene<'i, 'b, 's, 'a, 't, 'l, 'n> {
     }
 
     /// The bytes of a line.
-    fn bytes_of(&self, placed: &Placed<'t>) -> &'b [u8] {
+    fn bytes_of(&self, placed: &Placed<'t>) -> &'s [u8] {
         part(self.bytes, self.stretch(placed.at, placed.end))
     }
 
-    /// The bytes of the image in whose place the line lay by a label, as many as the image has.
-    fn image_of(&self, placed: &Placed<'t>, label: Label) -> &'i [u8] {
-        let Some(at) = self.earlier_offset(label, placed.at) else {
-            return &[];
-        };
-        let len = placed.end.saturating_sub(placed.at) as usize;
-        let end = at.saturating_add(len).min(self.image.len());
-        part(self.image, Stretch { at, end })
+    /// Where the line lay in the image by a label, as far as the image goes.
+    fn was(&self, placed: &Placed<'t>, label: Label) -> Stretch {
+        let most = self.image.len();
+        let at = label
+            .earlier(placed.at)
+            .and_then(|at| self.offset(at))
+            .unwrap_or(most);
+        let end = at.saturating_add(placed.len() as usize).min(most);
+        Stretch { at, end }
     }
 
     /// What the line gave before, by a label: of two ways to see its names the one that the image has, else the first.
     /// `None` if the image has what it gives now, or if it gave nothing.
     fn gave(&self, placed: &Placed<'t>, label: Label) -> Result<Option<Vec<u8>>, AllocError> {
-        let was = self.image_of(placed, label);
+        let was = part(self.image, self.was(placed, label));
         let Some(at) = label.earlier(placed.at) else {
             return Ok(None);
         };
@@ -134,30 +104,32 @@ impl<'i, 'b, 's, 'a, 't, 'l, 'n> Scene<'i, 'b, 's, 'a, 't, 'l, 'n> {
         label: Label,
         within: Stretch,
     ) -> Result<bool, AllocError> {
-        let at = self.earlier_offset(label, placed.at);
-        let (Some(at), Some(end)) = (at, self.earlier_offset(label, placed.end)) else {
-            return Ok(false);
-        };
-        if at < within.at || within.end < end {
+        let was = self.was(placed, label);
+        if was.at < within.at || within.end < was.end {
             return Ok(false);
         }
-        let was = self.image_of(placed, label);
-        Ok(match &self.gave(placed, label)? {
-            Some(bytes) => bytes.as_slice() == was,
-            None => self.bytes_of(placed) == was,
-        })
+        let gave = self.gave(placed, label)?;
+        Ok(gave.as_deref().unwrap_or(self.bytes_of(placed)) == part(self.image, was))
     }
 
-    /// Adds a change, or makes the last one longer that ends where it begins.
-    fn add(&mut self, change: Change<'t>) -> Result<(), AllocError> {
+    /// Adds a byte that differs, or makes the last change longer that ends there.
+    fn add(&mut self, was: usize, is: usize, origin: Origin<'t>) -> Result<(), AllocError> {
+        let was = Stretch {
+            at: was,
+            end: was.saturating_add(1),
+        };
+        let is = Stretch {
+            at: is,
+            end: is.saturating_add(1),
+        };
         if let Some(last) = self.changes.last_mut() {
-            if last.was.end == change.was.at && last.is.end == change.is.at {
-                last.was.end = change.was.end;
-                last.is.end = change.is.end;
+            if last.was.end == was.at && last.is.end == is.at {
+                last.was.end = was.end;
+                last.is.end = is.end;
                 return Ok(());
             }
         }
-        self.changes.push(change)?;
+        self.changes.push(Change { was, is, origin })?;
         Ok(())
     }
 
@@ -168,19 +140,15 @@ impl<'i, 'b, 's, 'a, 't, 'l, 'n> Scene<'i, 'b, 's, 'a, 't, 'l, 'n> {
         let label = if is_there { label } else { IN_PLACE };
         for placed in lines {
             let gave = self.gave(placed, label)?;
-            let bytes = match &gave {
-                Some(bytes) => bytes.as_slice(),
-                None => self.bytes_of(placed),
-            };
-            let first = self.earlier_offset(label, placed.at).unwrap_or(0);
-            let place = self.stretch(placed.at, placed.end).at;
-            let was = self.image_of(placed, label);
-            for stretch in &stretches(self.before.alloc, was, bytes)? {
-                self.add(Change {
-                    was: later(*stretch, first),
-                    is: later(*stretch, place),
-                    origin: placed.origin,
-                })?;
+            let bytes = gave.as_deref().unwrap_or(self.bytes_of(placed));
+            let was = self.was(placed, label);
+            let is = self.stretch(placed.at, placed.end);
+            let pairs = part(self.image, was).iter().zip(bytes.iter());
+            for (offset, (old, new)) in pairs.enumerate() {
+                if old != new {
+                    let was = was.at.saturating_add(offset);
+                    self.add(was, is.at.saturating_add(offset), placed.origin)?;
+                }
             }
         }
         Ok(())
@@ -205,7 +173,10 @@ impl<'i, 'b, 's, 'a, 't, 'l, 'n> Scene<'i, 'b, 's, 'a, 't, 'l, 'n> {
         }
         let rest = lines.get(first..).unwrap_or(&[]);
         let begin = rest.first().map_or(back.at, |placed| placed.at);
-        was.at = self.earlier_offset(front, begin).unwrap_or(was.at);
+        was.at = front
+            .earlier(begin)
+            .and_then(|at| self.offset(at))
+            .unwrap_or(was.at);
         let whole = Stretch {
             end: self.image.len(),
             ..was
@@ -217,7 +188,10 @@ impl<'i, 'b, 's, 'a, 't, 'l, 'n> Scene<'i, 'b, 's, 'a, 't, 'l, 'n> {
             }
             end = placed.at;
         }
-        was.end = self.earlier_offset(back, end).unwrap_or(was.end);
+        was.end = back
+            .earlier(end)
+            .and_then(|end| self.offset(end))
+            .unwrap_or(was.end);
         let origin = match rest.first() {
             Some(placed) => placed.origin,
             None => Origin {
@@ -230,17 +204,18 @@ impl<'i, 'b, 's, 'a, 't, 'l, 'n> Scene<'i, 'b, 's, 'a, 't, 'l, 'n> {
     }
 
     /// Adds a change without the bytes that are alike at its beginning and its end.
-    fn add_trimmed(&mut self, change: Change<'t>) -> Result<(), AllocError> {
-        let was = part(self.image, change.was);
-        let is = part(self.bytes, change.is);
-        let first = common(was, is);
-        let rest = was.len().min(is.len()).saturating_sub(first);
-        let last = common_end(was, is).min(rest);
-        self.changes.push(Change {
-            was: trimmed_by(change.was, first, last),
-            is: trimmed_by(change.is, first, last),
-            ..change
-        })?;
+    fn add_trimmed(&mut self, mut change: Change<'t>) -> Result<(), AllocError> {
+        let (was, is) = (part(self.image, change.was), part(self.bytes, change.is));
+        let pairs = was.iter().zip(is.iter());
+        let first = pairs.take_while(|(byte, other)| byte == other).count();
+        change.was.at = change.was.at.saturating_add(first);
+        change.is.at = change.is.at.saturating_add(first);
+        let (was, is) = (part(self.image, change.was), part(self.bytes, change.is));
+        let pairs = was.iter().rev().zip(is.iter().rev());
+        let last = pairs.take_while(|(byte, other)| byte == other).count();
+        change.was.end = change.was.end.saturating_sub(last);
+        change.is.end = change.is.end.saturating_sub(last);
+        self.changes.push(change)?;
         Ok(())
     }
 
@@ -272,11 +247,10 @@ impl<'i, 'b, 's, 'a, 't, 'l, 'n> Scene<'i, 'b, 's, 'a, 't, 'l, 'n> {
             ..IN_PLACE
         };
         let mut rest = lines;
-        for place in 0..self.before.labels.len() {
-            let back = self.before.labels.get(place).copied().unwrap_or(front);
+        for back in self.before.labels {
             let count = rest.iter().take_while(|placed| placed.at < back.at).count();
-            self.add_between(rest.get(..count).unwrap_or(&[]), front, back)?;
-            front = back;
+            self.add_between(rest.get(..count).unwrap_or(&[]), front, *back)?;
+            front = *back;
             rest = rest.get(count..).unwrap_or(&[]);
         }
         self.add_lines(rest, front)
@@ -291,25 +265,8 @@ impl<'i, 'b, 's, 'a, 't, 'l, 'n> Scene<'i, 'b, 's, 'a, 't, 'l, 'n> {
         }
         let address = (self.start as usize).saturating_add(change.was.at);
         put_change(out, address, was, is)?;
-        let Origin { number, line } = change.origin;
-        let line = trimmed(line);
-        put_origin(out, &Origin { number, line })
+        put_origin(out, change.origin.number, trimmed(change.origin.line))
     }
-}
-
-/// Whether a line sets the CPU. Only lines with a dot are read for it.
-fn sets_cpu(alloc: Global, source: &Source<'_, '_, '_>, line: &[u8]) -> Result<bool, AllocError> {
-    if !line.contains(&b'.') {
-        return Ok(false);
-    }
-    let says = read_line(alloc, source.language, line)?;
-    Ok(matches!(
-        says,
-        Some(SourceLine::Statement {
-            operation: Operation::SetCpu(_),
-            ..
-        })
-    ))
 }
 
 /// The lines of a text that give bytes, by the address after each line.
@@ -319,7 +276,6 @@ fn placed_lines<'t>(
     ends: &LineEnds<&Global>,
 ) -> Result<Vec<Placed<'t>>, AllocError> {
     let mut found = Vec::new(alloc);
-    let mut cpu: &'t [u8] = &[];
     let mut at = u64::from(source.start);
     let mut rest = source.text;
     let mut number = 0usize;
@@ -330,14 +286,7 @@ fn placed_lines<'t>(
         number = number.saturating_add(1);
         if at < end {
             let origin = Origin { number, line };
-            found.push(Placed {
-                origin,
-                cpu,
-                at,
-                end,
-            })?;
-        } else if sets_cpu(alloc, source, line)? {
-            cpu = line;
+            found.push(Placed { origin, at, end })?;
         }
         at = end;
         rest = after;
@@ -348,11 +297,11 @@ fn placed_lines<'t>(
 /// The lines that say what differs between an image and a listing with these labels, apart from what has only moved;
 /// and one for lengths that differ. Each has the address in the image, the bytes there, those of the listing, and the
 /// line that gives the first of them, or that before which bytes are missing.
-pub fn changes(
+pub fn changes<'s>(
     alloc: Global,
-    image: &Image,
-    assembled: &Assembled<'_, '_, '_, '_>,
-    labels: Vec<Label>,
+    image: &'s Image,
+    assembled: &'s Assembled<'s, '_, '_, '_>,
+    labels: &'s [Label],
 ) -> Result<Vec<u8>, AllocError> {
     let source = assembled.source();
     let mut out = Vec::new(alloc);

@@ -1,13 +1,13 @@
 //! The lines that say where a listing and an image differ.
 
-ghost use Rattle.std.specs.Prelude.{◌≡◌, ◌+◌, ◌++◌, IfOk, OnOk, flat_map, map, take};
-ghost use Rattle.as65.specs.Words.{AppendsDifferences, IsDifferences, IsInBoth, IsReady, Moves, beside, change_text, compared, dots_above, is_control, lengths_line, line_left, line_of, origin_text, shown, shown_byte, shown_bytes, spaced, trimmed};
+ghost use Rattle.std.specs.Prelude.{◌≡◌, ◌++◌, IfOk, OnOk, flat_map, map, take};
+ghost use Rattle.as65.specs.Words.{AreDifferences, IsDifferences, change_text, compared, dots_above, is_control, lengths_line, origin_text, shown, shown_byte, shown_bytes, spaced, trimmed};
 
 use crate::assembled::Assembled;
 use crate::changes::changes;
 use crate::moves::{labels_in, moves_in, put_moves};
-use crate::origins::{Origin, Origins};
-use crate::stretches::{Stretch, stretches};
+use crate::origins::Reached;
+use crate::stretches::{Stretch, next_stretch};
 use files65::{put_address, put_decimal};
 use map65::Image;
 use std::alloc::{AllocError, Global};
@@ -110,13 +110,12 @@ pub(crate) fn put_change(
 
 /// Appends the number of a line, and its beginning.
 #[tactic(auto, unfolding(crate::specs::Differences::origin_text))]
-pub(crate) fn put_origin(out: &mut Vec<u8>, origin: &Origin<'_>) -> Result<(), AllocError>
-    ensures { OnOk result (out.new.items
-        ≡ out.old.items ++ origin_text origin.now.number origin.now.line.now) }
+pub(crate) fn put_origin(out: &mut Vec<u8>, number: usize, line: &[u8]) -> Result<(), AllocError>
+    ensures { OnOk result (out.new.items ≡ out.old.items ++ origin_text number line.now) }
 {
-    put_decimal(out, b", line ", origin.number)?;
+    put_decimal(out, b", line ", number)?;
     out.extend_from_slice(b": ")?;
-    put_shown(out, origin.line)?;
+    put_shown(out, line)?;
     out.extend_from_slice(b"\n")
 }
 
@@ -133,65 +132,31 @@ pub(crate) fn put_lengths(out: &mut Vec<u8>, had: usize, has: usize) -> Result<(
     out.extend_from_slice(b"\n")
 }
 
-/// Appends the line of a stretch, at whose first byte the lines go on.
-fn put_found(
-    out: &mut Vec<u8>,
-    image: &Image,
-    bytes: &[u8],
-    stretch: &Stretch,
-    origins: &mut Origins<'_>,
-) -> Result<(), AllocError>
-    requires inside { IsInBoth image.now.bytes bytes.now stretch.now }
-    ensures line { OnOk result (out.new.items ≡ out.old.items
-        ++ line_left (beside image.now bytes.now origins.old) origins.new stretch.now) }
-    ensures moves { Moves (image.now.start + stretch.now.at) origins.old origins.new }
-{
-    let old = image.bytes();
-    let address = usize::from(image.start()) + stretch.at;
-    let origin = origins.of_byte(address as u64);
-    let old = &old[stretch.at..stretch.end];
-    put_change(out, address, old, &bytes[stretch.at..stretch.end])?;
-    put_origin(out, &origin)
-}
-
-/// Appends the line of each stretch.
-fn put_all(
-    out: &mut Vec<u8>,
-    image: &Image,
-    bytes: &[u8],
-    found: &[Stretch],
-    origins: &mut Origins<'_>,
-) -> Result<(), AllocError>
-    requires first { origins.old.passed ≡ 0 }
-    requires ready { IsReady (beside image.now bytes.now origins.old) 0 found.now }
-    ensures { OnOk result (out.new.items ≡ out.old.items
-        ++ flat_map (line_of (beside image.now bytes.now origins.old)) found.now) }
-{
-    let mut rest = found;
-    'stretches: while let Some((stretch, later)) = rest.split_first() {
-        put_found(out, image, bytes, stretch, origins)?;
-        rest = later;
-    }
-    Ok(())
-}
-
-/// Appends a line for each stretch of bytes that differ, and one for lengths that
-/// differ, by the address after each line.
-fn put_differences(
+/// A line for each stretch of bytes that differ, and one for lengths that differ, by the address after each line of the
+/// listing.
+#[tactic(auto, using(crate::proofs::PassingLemmas::passing))]
+fn byte_differences(
     alloc: Global,
-    out: &mut Vec<u8>,
     image: &Image,
     assembled: &Assembled<'_, '_, '_, '_>,
     ends: &[u64],
-) -> Result<(), AllocError>
+) -> Result<Vec<u8>, AllocError>
     requires { ends.now ≡ assembled.now.ends }
-    ensures { OnOk result (AppendsDifferences
-        (compared image.now assembled.now) out.old.items out.new.items) }
+    ensures { IfOk result (λ text. AreDifferences (compared image.now assembled.now) text.items) }
 {
-    let found = stretches(alloc, image.bytes(), assembled.bytes())?;
-    let mut origins = Origins::new(assembled.source().text, ends);
-    put_all(out, image, assembled.bytes(), &found, &mut origins)?;
-    put_lengths(out, image.bytes().len(), assembled.bytes().len())
+    let (old, new) = (image.bytes(), assembled.bytes());
+    let mut out = Vec::new(alloc);
+    let mut reached = Reached::first(assembled.source().text);
+    let mut from = 0;
+    'stretches: while let Some(Stretch { at, end }) = next_stretch(old, new, from) {
+        let address = usize::from(image.start()) + at;
+        reached = reached.of_byte(ends, address as u64);
+        put_change(&mut out, address, &old[at..end], &new[at..end])?;
+        put_origin(&mut out, reached.above + 1, reached.line)?;
+        from = end;
+    }
+    put_lengths(&mut out, old.len(), new.len())?;
+    Ok(out)
 }
 
 /// The lines that say where an image and a listing differ: one for each label at which the distance from the address in
@@ -214,13 +179,12 @@ pub fn differences(
     let ends = assembled.ends(alloc)?;
     let labels = labels_in(alloc, assembled.source(), &ends)?;
     let moves = moves_in(alloc, &labels)?;
+    if moves.is_empty() {
+        return byte_differences(alloc, image, assembled, &ends);
+    }
     let mut out = Vec::new(alloc);
     put_moves(&mut out, &moves)?;
-    if moves.is_empty() {
-        put_differences(alloc, &mut out, image, assembled, &ends)?;
-        return Ok(out);
-    }
-    let changes = changes(alloc, image, assembled, labels)?;
+    let changes = changes(alloc, image, assembled, &labels)?;
     out.extend_from_slice(&changes)?;
     Ok(out)
 }

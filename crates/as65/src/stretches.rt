@@ -3,8 +3,6 @@
 ghost use Rattle.std.specs.Prelude.{◌≡◌, ◌<◌, ◌≤◌, ℕ, IfNone, IfOk, IfSome, false, length, not, true};
 ghost use Rattle.as65.specs.Words.{AreRuns, differs};
 
-use std::alloc::{AllocError, Global};
-
 /// Bytes that differ, from an offset up to before another.
 #[derive(Clone, Copy)]
 pub struct Stretch {
@@ -31,8 +29,8 @@ fn first_where(one: &[u8], other: &[u8], from: usize, differ: bool) -> usize
     common
 }
 
-/// The first stretch from an offset on.
-fn next_stretch(one: &[u8], other: &[u8], from: usize) -> Option<Stretch>
+/// The first stretch of bytes that differ from an offset on, as long as it can be.
+pub fn next_stretch(one: &[u8], other: &[u8], from: usize) -> Option<Stretch>
     requires one { from ≤ length one.now }
     requires other { from ≤ length other.now }
     ensures low { IfSome result (λ s. from ≤ s.at) }
@@ -53,19 +51,4 @@ fn next_stretch(one: &[u8], other: &[u8], from: usize) -> Option<Stretch>
     } else {
         None
     }
-}
-
-/// The stretches of bytes that differ, each as long as it can be, in order.
-#[tactic(auto, unfolding(crate::specs::Stretches::AreRuns))]
-pub fn stretches(alloc: Global, one: &[u8], other: &[u8]) -> Result<Vec<Stretch>, AllocError>
-    /// Returns all stretches of bytes that differ, in order, each as long as possible; or out of memory.
-    ensures { IfOk result (λ found. AreRuns (differs one.now other.now) 0 found.items) }
-{
-    let mut found = Vec::new(alloc);
-    let mut from = 0;
-    'stretches: while let Some(stretch) = next_stretch(one, other, from) {
-        found.push(stretch)?;
-        from = stretch.end;
-    }
-    Ok(found)
 }
