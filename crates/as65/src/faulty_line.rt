@@ -60,7 +60,7 @@ pub fn failure_of(
     };
     match (
         String::from_str(alloc, name),
-        about(alloc, &hint, fault, source),
+        about(alloc, hint.as_bytes(), fault, source),
     ) {
         (Ok(name), Ok(said)) => Failure::Own(Refused::Line(name, fault, said)),
         _ => Failure::Memory,

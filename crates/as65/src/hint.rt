@@ -1,7 +1,6 @@
 //! What is said of the fault of a line, beside its text: what the assembler found that it is about, or a guess from the
 //! text of the line. No fault depends on it.
 
-use files65::{put_address, put_decimal};
 use std::alloc::{AllocError, Global};
 use stmt65::{About, AsmFaultKind, Datum, Explained, Language, Places, Value};
 use text65::{has_name_form, is_blank, is_reserved_word, is_word_byte};
@@ -40,15 +39,8 @@ fn has_unknown_operation(line: &[u8]) -> bool {
 
 /// Whether a word begins as a hexadecimal number does in other languages.
 fn has_0x(line: &[u8]) -> bool {
-    let mut inside = false;
-    for (at, byte) in line.iter().enumerate() {
-        let next = line.get(at.saturating_add(1));
-        if !inside && *byte == b'0' && matches!(next, Some(b'x' | b'X')) {
-            return true;
-        }
-        inside = is_word_byte(*byte);
-    }
-    false
+    let mut words = line.split(|byte| !is_word_byte(*byte));
+    words.any(|word| matches!(word, [b'0', b'x' | b'X', ..]))
 }
 
 /// What stands right after the quote at the end of a string, if it is no blank, no
@@ -92,78 +84,54 @@ fn lacks_colon(line: &[u8]) -> bool {
     is_name(first_word(line).0) && !line.contains(&b':')
 }
 
-/// The hint for what a line without its comment has that no listing has: the first row that holds.
-fn hint_in(line: &[u8]) -> &'static [u8] {
+/// The hint for what a line without its comment has that no listing has: that of the first row that holds.
+fn hint_in(line: &[u8]) -> &'static str {
     let has = |mark: u8| line.contains(&mark);
-    if line.starts_with(b"\xef\xbb\xbf") {
-        b"a byte order mark"
-    } else if has(b'\r') {
-        b"a carriage return ends the line: lines end with a line feed"
-    } else if has(b'\'') {
-        b"a character is written 'A'"
-    } else if has(b'%') {
-        b"a binary number is written %1010"
-    } else if has(b'*') {
-        b"* and other expressions (see ca65)"
-    } else if has_0x(line) {
-        b"hexadecimal is $01, not 0x01"
-    } else if has(b'@') {
-        b"cheap locals (see ca65)"
-    } else if has(b'=') {
-        b"a constant is NAME := NUMBER"
-    } else if has(b'.') {
-        b"other directives and operands (see ca65)"
-    } else if lacks_colon(line) {
-        b"a label needs a colon"
-    } else if has_unknown_operation(line) {
-        b"no such operation"
-    } else if has_difference(line) {
-        b"a difference stands alone, after # or in .word and .byte"
-    } else {
-        b"not a line of a listing"
-    }
+    let rows = [
+        (line.starts_with(b"\xef\xbb\xbf"), "a byte order mark"),
+        (
+            has(b'\r'),
+            "a carriage return ends the line: lines end with a line feed",
+        ),
+        (has(b'\''), "a character is written 'A'"),
+        (has(b'%'), "a binary number is written %1010"),
+        (has(b'*'), "* and other expressions (see ca65)"),
+        (has_0x(line), "hexadecimal is $01, not 0x01"),
+        (has(b'@'), "cheap locals (see ca65)"),
+        (has(b'='), "a constant is NAME := NUMBER"),
+        (has(b'.'), "other directives and operands (see ca65)"),
+        (lacks_colon(line), "a label needs a colon"),
+        (has_unknown_operation(line), "no such operation"),
+        (
+            has_difference(line),
+            "a difference stands alone, after # or in .word and .byte",
+        ),
+    ];
+    let found = rows.iter().find(|(holds, _)| *holds);
+    found.map_or("not a line of a listing", |(_, hint)| *hint)
 }
 
 /// The hint for a line that can't be read. The code of one with a quote inside a string may end in that
 /// string, so the whole line is looked at.
-fn hint_for(line: &[u8]) -> &'static [u8] {
+fn hint_for(line: &[u8]) -> &'static str {
     match after_string(line) {
-        Some(b'|' | b'+' | b'^' | b'&') => b"what is no string is a number, as 'D'+$80",
-        Some(_) => b"a quote inside a string is written $22",
+        Some(b'|' | b'+' | b'^' | b'&') => "what is no string is a number, as 'D'+$80",
+        Some(_) => "a quote inside a string is written $22",
         None => hint_in(code_of(line)),
     }
 }
 
-/// Appends how many bytes a branch would go.
-fn put_distance(out: &mut Vec<u8>, sign: &[u8], count: u64) -> Result<(), AllocError> {
-    out.extend_from_slice(b"branch too far: ")?;
-    put_decimal(out, sign, count as usize)?;
-    out.extend_from_slice(b" bytes")
-}
-
-/// Appends what the assembler found that a fault is about.
-fn put_about(out: &mut Vec<u8>, about: About<'_>) -> Result<(), AllocError> {
-    match about {
-        About::Line => Ok(()),
-        About::Name(name) => out.extend_from_slice(name),
-        About::Forward(count) => put_distance(out, b"", count),
-        About::Back(count) => put_distance(out, b"-", count),
-        About::Below(count) => put_decimal(out, b"the difference is -", usize::from(count)),
-        About::Reserve => out.extend_from_slice(b"at most 65535 bytes, each from 0 to 255"),
-        About::Past(count, start) => {
-            put_decimal(out, b"", count as usize)?;
-            put_address(out, b" bytes past $", usize::from(start))
-        }
-    }
-}
-
 /// What the fault of a line is about; empty if the line itself says it.
-pub fn hint(alloc: Global, explained: Explained<'_>, line: &[u8]) -> Result<Vec<u8>, AllocError> {
-    let mut out = Vec::new(alloc);
-    match explained.fault.kind {
-        AsmFaultKind::Syntax => out.extend_from_slice(hint_for(line))?,
-        AsmFaultKind::UnknownCpu => out.extend_from_slice(b"6502, 65SC02 or 65C02")?,
-        _ => put_about(&mut out, explained.about)?,
+pub fn hint(alloc: Global, explained: Explained<'_>, line: &[u8]) -> Result<String, AllocError> {
+    match (explained.fault.kind, explained.about) {
+        (AsmFaultKind::Syntax, _) => String::from_str(alloc, hint_for(line)),
+        (AsmFaultKind::UnknownCpu, _) => String::from_str(alloc, "6502, 65SC02 or 65C02"),
+        (_, About::Line) => Ok(String::new(alloc)),
+        (_, About::Name(name)) => String::from_utf8_lossy(alloc, name),
+        (_, About::Forward(count)) => format!(in alloc; "branch too far: {count} bytes"),
+        (_, About::Back(count)) => format!(in alloc; "branch too far: -{count} bytes"),
+        (_, About::Below(count)) => format!(in alloc; "the difference is -{count}"),
+        (_, About::Reserve) => String::from_str(alloc, "at most 65535 bytes, each from 0 to 255"),
+        (_, About::Past(count, start)) => format!(in alloc; "{count} bytes past ${start:04X}"),
     }
-    Ok(out)
 }

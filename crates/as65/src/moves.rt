@@ -56,15 +56,6 @@ pub fn address_in_name(name: &[u8]) -> Option<u64>
     Some(digit(*a)? * 4096 + digit(*b)? * 256 + digit(*c)? * 16 + digit(*d)?)
 }
 
-fn label_named(number: usize, at: u64, name: &[u8]) -> Option<Label>
-    ensures { result ≡ label_named number at (address_in_name name.now) }
-{
-    match address_in_name(name) {
-        Some(named) => Some(Label { number, named, at }),
-        None => None,
-    }
-}
-
 /// The label of a line at `at`, if it has a name of that form.
 #[tactic(auto, unfolding(crate::specs::Moves::label_in_line))]
 fn label_in_line(
@@ -77,15 +68,18 @@ fn label_in_line(
     ensures { IfOk result (λ found. found ≡ label_in_line number at
         (reading_of source.now.language (parts source.now.language line.now))) }
 {
-    match read_line(alloc, source.language, line)? {
-        Some(
-            SourceLine::Statement {
-                label: Some(name),
-                ..
-            },
-        ) => Ok(label_named(number, at, name)),
-        _ => Ok(None),
-    }
+    let said = read_line(alloc, source.language, line)?;
+    let Some(
+        SourceLine::Statement {
+            label: Some(name),
+            ..
+        },
+    ) = said
+    else {
+        return Ok(None);
+    };
+    let named = address_in_name(name);
+    Ok(named.map(|named| Label { number, named, at }))
 }
 
 /// The labels of a text, by the address after each of its lines.
@@ -133,13 +127,11 @@ pub fn moves_in(alloc: Global, labels: &[Label]) -> Result<Vec<Label>, AllocErro
 {
     let mut found = Vec::new(alloc);
     let mut last = IN_PLACE;
-    let mut rest = labels;
-    'labels: while let Some((label, later)) = rest.split_first() {
+    'labels: for label in labels {
         if !is_alike(last, *label) {
             found.push(*label)?;
             last = *label;
         }
-        rest = later;
     }
     Ok(found)
 }
@@ -205,10 +197,8 @@ fn put_move_line(out: &mut Vec<u8>, label: Label) -> Result<(), AllocError>
 pub fn put_moves(out: &mut Vec<u8>, moves: &[Label]) -> Result<(), AllocError>
     ensures { OnOk result (out.new.items ≡ out.old.items ++ flat_map move_line moves.now) }
 {
-    let mut rest = moves;
-    'moves: while let Some((label, later)) = rest.split_first() {
+    'moves: for label in moves {
         put_move_line(out, *label)?;
-        rest = later;
     }
     Ok(())
 }
