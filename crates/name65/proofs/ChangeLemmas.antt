@@ -1,28 +1,18 @@
 -- What lines become, written one after the other.
-use Rattle.std.proofs.Common.{◌≡◌, ◌∙◌, ◌++◌, ◌+◌, ◌<◌, ℕ, arith, true, false, List, [], ◌∷◌, ap, append_assoc, codes, drop, nat_lt, refl, subst, sym}
-use Rattle.std.specs.List.{IsSplitAt, list_all}
-use Rattle.std.proofs.lemmas.List.{append-nil, take-append-drop}
+use Rattle.std.proofs.Common.{◌≡◌, ◌∙◌, ◌++◌, ◌+◌, ◌<◌, ℕ, arith, true, false, List, [], ◌∷◌, append_assoc, drop, nat_lt, refl, subst, sym}
+use Rattle.std.specs.List.{list_all}
+use Rattle.std.proofs.lemmas.List.{append-nil}
 use Rattle.std.proofs.lemmas.Bool.Decides.{nat_tests}
 use Rattle.std.proofs.lemmas.List.Folds.{list_all-append}
 use Rattle.text65.specs.Lines.{text_lines}
-use Rattle.text65.specs.Names.{has_name_form, is_blank}
-use Rattle.stmt65.specs.Words.{same}
+use Rattle.text65.specs.Names.{is_blank}
 use Rattle.stmt65.specs.declared.source_line.Half.{Half}
-use Rattle.name65.specs.Changes.{AreListed, Becomes, IsList, IsRest, IsRevalued, IsRewritten, IsValue, LineBecomes, LinesBecome, Scope, address, as_before, comment, count_of, directive_of, halves, immediate, is_between, is_touched, is_touched_constant, may_keep, more, names_one, next_line, no_comment, none, reference_text, says, table}
+use Rattle.name65.specs.Changes.{AreListed, Becomes, IsList, IsRest, IsRevalued, LineBecomes, LinesBecome, Scope, as_before, comment, count_of, is_between, is_touched, is_touched_constant, may_keep, more, names_one, next_line, no_comment, none, says}
 use Rattle.name65.specs.Written.{AppendsLine, AppendsOne, AreBlanks, scope_seen}
 use Rattle.name65.specs.declared.operands.Style.{Style}
 use Rattle.name65.specs.declared.operands.Style.TheVariants as style
 use Rattle.name65.specs.declared.plan.NewText.{NewText}
 use Rattle.name65.specs.declared.plan.PlacedLine.{PlacedLine}
-
--- the parts of what is cut at a place
-pub split_whole : {X : Type 0} (xs : List X) (mid : ℕ) (front back : List X) → IsSplitAt xs mid front back → xs ≡ front ++ back
-split_whole xs mid front back at = rw (at.1, at.2) (sym (take-append-drop mid xs))
-
--- the parts of what is cut at two
-pub cut_whole : (bytes before rest within after : List ℕ) (from to : ℕ) → IsSplitAt bytes from before rest → IsSplitAt rest to within after → bytes ≡ before ++ (within ++ after)
-cut_whole bytes before rest within after from to first second =
-    split_whole bytes from before rest first ∙ ap (λ r. before ++ r) (split_whole rest to within after second)
 
 -- one blank more
 pub more_blank : (old out new : List ℕ) → AppendsOne AreBlanks old out → new ≡ out ++ 32 ∷ [] → AppendsOne AreBlanks old new

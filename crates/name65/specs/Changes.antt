@@ -4,7 +4,7 @@
 -- stands half of an address by a name, in that of a word an address by a name or what one name is above another,
 -- and in that of the address of an instruction an address by a name. A `.byte` of which each byte becomes the
 -- same half is `.lobytes` or `.hibytes`.
-use Rattle.std.specs.Prelude.{◌≡◌, ◌++◌, ℕ, ◌+◌, ◌-◌, Bool, true, false, List, [], ◌∷◌, codes, decimal, length, not, ◌==◌, ◌&&◌, nat_le, nat_lt, ◌||◌, if◌then◌else◌, Option, Some, None}
+use Rattle.std.specs.Prelude.{◌≡◌, ◌++◌, ℕ, ◌+◌, ◌-◌, Bool, true, false, List, [], ◌∷◌, codes, decimal, length, not, ◌==◌, ◌&&◌, nat_le, nat_lt, ◌||◌, if◌then◌else◌, Option, Some}
 use Rattle.std.specs.List.{list_all, list_any, range_with_len}
 use Rattle.text65.specs.Names.{has_name_form, is_blank}
 use Rattle.stmt65.specs.Words.{Assignment, NumberValue, PlaceAssignment, SourceLine, Value, begins_with, held, parts, reading_of, same, value_alone}

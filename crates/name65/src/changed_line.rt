@@ -1,7 +1,6 @@
 //! What stands in the place of a line that gives a byte that groups name.
 
-ghost use Rattle.std.specs.Prelude.{◌≡◌, ◌∷◌, [], IfOk, IsTrue, OnOk};
-ghost use Rattle.stmt65.specs.Words.{same};
+ghost use Rattle.std.specs.Prelude.{IfOk, OnOk};
 ghost use Rattle.name65.specs.Written.{Opens, Rewrites};
 
 use crate::address_operand::put_address;
@@ -62,22 +61,6 @@ fn list_of<'t>(placed: &PlacedLine<'_, 't>) -> Option<Listed<'t>> {
     })
 }
 
-fn is_sign(text: &[u8]) -> bool
-    ensures { IsTrue result → text.now ≡ 35 ∷ [] }
-{
-    match text {
-        [b'#'] => true,
-        _ => false,
-    }
-}
-
-/// Whether a text is a word, in any letter case.
-fn is_word(text: &[u8], word: &[u8]) -> bool
-    ensures { result ≡ same text.now word.now }
-{
-    text.eq_ignore_ascii_case(word)
-}
-
 /// Appends what stands in a line up to its list of a style, which a `#` or a directive at a place opens. A `.byte`
 /// whose bytes all become halves of a kind is `.lobytes` or `.hibytes`. The list is that of what is left.
 fn open_list<'w, 't>(
@@ -104,7 +87,7 @@ fn open_list<'w, 't>(
         column: opening.to,
         text: found.after,
     };
-    if is_sign(found.within) {
+    if found.within == b"#".as_slice() {
         keep_free(plan.wishes, at, 1)?;
         need(!plan.marks.get_at(at as usize))?;
         out.extend_from_slice(b"#")?;
@@ -115,14 +98,12 @@ fn open_list<'w, 't>(
         });
     }
     if style.may_keep() {
-        need(is_word(found.within, style.directive()))?;
+        need(found.within.eq_ignore_ascii_case(style.directive()))?;
         out.extend_from_slice(found.within)?;
         return Ok(run);
     }
-    let Some((blanks, text)) = found.after.split_at_checked(blank_len(found.after)) else {
-        return Err(Refusal::Changed);
-    };
-    need(is_word(found.within, b".byte"))?;
+    let (blanks, text) = found.after.split_at(blank_len(found.after));
+    need(found.within.eq_ignore_ascii_case(b".byte"))?;
     need(are_blank(blanks))?;
     let column = opening.to.saturating_add(blanks.len());
     out.extend_from_slice(style.directive())?;

@@ -67,29 +67,6 @@ fn is_placed(plan: &Plan<'_, '_>, line: &[u8], name: &[u8], value: u64) -> Resul
     }
 }
 
-/// Appends what stands in the place of the constant line of a name.
-fn put_constant(
-    out: &mut NewText,
-    placed: &PlacedLine<'_, '_>,
-    name: &[u8],
-    n: Numeral<'_>,
-) -> Result<(), Refusal>
-    requires { says (scope_seen placed.now.plan.now) placed.now.line.now
-        ≡ Some (Assignment name.now (numeral_of n)) }
-    ensures { OnOk result (AppendsLine placed.now out.old out.new) }
-{
-    let (plan, value) = (placed.plan, n.value());
-    match fate_of(plan, name, value) {
-        Fate::Kept => Ok(put_kept(&mut out.lines, placed.line)?),
-        Fate::LeftOut => Ok(()),
-        Fate::Moved(distance) => {
-            let line = moved(plan, placed.line, distance)?;
-            need(is_placed(plan, &line, name, value)?)?;
-            Ok(put_kept(&mut out.tail, &line)?)
-        }
-    }
-}
-
 /// The name and the value that a constant line gives it.
 fn constant_in<'l>(
     plan: &Plan<'_, '_>,
@@ -110,8 +87,18 @@ pub fn put_idle(out: &mut NewText, placed: &PlacedLine<'_, '_>) -> Result<(), Re
     requires { nat_lt placed.now.at placed.now.end ≡ false }
     ensures { OnOk result (AppendsLine placed.now out.old out.new) }
 {
-    match constant_in(placed.plan, placed.line)? {
-        Some((name, n)) => put_constant(out, placed, name, n),
-        None => Ok(put_kept(&mut out.lines, placed.line)?),
+    let (plan, line) = (placed.plan, placed.line);
+    let Some((name, n)) = constant_in(plan, line)? else {
+        return Ok(put_kept(&mut out.lines, line)?);
+    };
+    let value = n.value();
+    match fate_of(plan, name, value) {
+        Fate::Kept => Ok(put_kept(&mut out.lines, line)?),
+        Fate::LeftOut => Ok(()),
+        Fate::Moved(distance) => {
+            let line = moved(plan, line, distance)?;
+            need(is_placed(plan, &line, name, value)?)?;
+            Ok(put_kept(&mut out.tail, &line)?)
+        }
     }
 }

@@ -20,7 +20,7 @@ pub enum Fate {
 pub fn fate_of(plan: &Plan<'_, '_>, name: &[u8], value: u64) -> Fate
     ensures { IsFate (scope_seen plan.now) value result }
 {
-    if plan.used && plan.wishes.is_left_out(name) {
+    if plan.used && plan.wishes.names.is_left_out(name) {
         return Fate::LeftOut;
     }
     if plan.marks.get_at(value as usize) && plan.last <= value {

@@ -68,25 +68,18 @@ impl<'t> ListingNames<'t> {
         Ok(())
     }
 
-    /// Whether an address has a name.
-    pub fn has(&self, address: u16) -> bool {
-        self.by_value.get(u64::from(address)).is_some()
-    }
-
-    /// Whether the name of an address is that of a constant line.
-    pub fn is_constant_at(&self, address: u16) -> bool {
-        matches!(self.by_value.get(u64::from(address)), Some(found) if found.constant)
+    /// The definition of the name of an address.
+    pub fn at(&self, address: u16) -> Option<Definition<'t>> {
+        self.by_value.get(u64::from(address))
     }
 
     /// The name of an address, which is used from now on.
     pub fn name_at(&mut self, address: u16) -> Result<Option<&'t [u8]>, AllocError> {
-        match self.by_value.get(u64::from(address)) {
-            Some(definition) => {
-                self.use_name(definition.name)?;
-                Ok(Some(definition.name))
-            }
-            None => Ok(None),
-        }
+        let Some(Definition { name, .. }) = self.at(address) else {
+            return Ok(None);
+        };
+        self.use_name(name)?;
+        Ok(Some(name))
     }
 
     /// Whether the constant line of this name is to be left out.

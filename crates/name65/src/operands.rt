@@ -8,7 +8,7 @@ ghost use Rattle.name65.specs.Written.{IsNamedNumber, Replaces};
 use crate::complaint::{Complaint, Refusal, after, need};
 use crate::marks::has_mark;
 use crate::plan::Plan;
-use crate::reference::{Reference, put_in_list};
+use crate::reference::put_in_list;
 use crate::rewriting::Run;
 use crate::wishes::{Wish, Wished, Wishes};
 use stmt65::{Datum, Half, Language, Places, Span, Value, read_value};
@@ -69,17 +69,6 @@ pub fn count_of(style: Style, text: &[u8]) -> u64
     }
 }
 
-/// What stands in the place of an operand.
-#[derive(Clone, Copy)]
-pub enum Operand<'t> {
-    /// The operand itself.
-    Kept,
-    /// An address by a name: this half of it in a list of bytes, the address itself in one of halves or words.
-    Address(Half, Reference<'t>),
-    /// `TO - FROM`.
-    Difference(&'t [u8], &'t [u8]),
-}
-
 /// The wish can't be followed where it is.
 pub fn misplaced<T>(wished: Wished<'_>, address: u64) -> Result<T, Refusal> {
     let address = address.min(0xFFFF) as u16;
@@ -100,30 +89,30 @@ pub fn keep_free(wishes: &Wishes<'_>, from: u64, count: u64) -> Result<(), Refus
     Ok(())
 }
 
-/// What stands in the place of a number of a list, whose first byte is at an address.
-fn of_number<'t>(run: &Run<'_, 't>, address: u64) -> Result<Operand<'t>, Refusal> {
+/// What is wished of a number of a list, whose first byte is at an address.
+fn of_number<'t>(run: &Run<'_, 't>, address: u64) -> Result<Option<Wish<'t>>, Refusal> {
     let (wishes, size) = (run.plan.wishes, run.style.size());
     let Some(wished) = wishes.at(address) else {
         keep_free(wishes, address, size)?;
-        return Ok(Operand::Kept);
+        return Ok(None);
     };
     let next = address.saturating_add(1);
     match wished.wish {
         Wish::Half(half, to)
             if size == 1 || half == Half::Low && wishes.is_half(next, Half::High, to) => {
-            Ok(Operand::Address(half, to))
+            Ok(Some(wished.wish))
         }
-        Wish::Difference(to, from) if size == 2 => Ok(Operand::Difference(to, from)),
+        Wish::Difference(_, _) if size == 2 => Ok(Some(wished.wish)),
         _ => misplaced(wished, address),
     }
 }
 
-/// Where the next operand of a list stands, whose first byte is at an address, and what stands in its place.
+/// Where the next operand of a list stands, whose first byte is at an address, and what is wished of it.
 pub fn next_operand<'t>(
     run: &Run<'_, 't>,
     places: &mut Places<'_>,
     address: u64,
-) -> Result<Option<(Span, Operand<'t>)>, Refusal> {
+) -> Result<Option<(Span, Option<Wish<'t>>)>, Refusal> {
     let Some(found) = places.operand() else {
         return Ok(None);
     };
@@ -135,7 +124,7 @@ pub fn next_operand<'t>(
         _ => run.style.size(),
     };
     keep_free(run.plan.wishes, address, count)?;
-    Ok(Some((found.span, Operand::Kept)))
+    Ok(Some((found.span, None)))
 }
 
 /// Whether the byte is a blank, or one of `,<>()`.
@@ -172,29 +161,29 @@ fn is_named_number(item: &Run<'_, '_>) -> bool
     }
 }
 
-/// Appends what stands in the place of an operand of a list. Fails if that may not stand there: an
-/// operand of which a group names a byte may not stay, and only a number that a group names may change,
-/// to a difference only if it is a word.
+/// Appends what stands in the place of an operand of a list, of which this is wished: an address stands there by its
+/// name, and the half of it in a list of bytes. Fails if that may not stand there: an operand of which a group names a
+/// byte may not stay, and only a number that a group names may change, to a difference only if it is a word.
 pub fn put_operand(
     out: &mut Vec<u8>,
     item: &Run<'_, '_>,
-    operand: Operand<'_>,
+    wish: Option<Wish<'_>>,
 ) -> Result<(), Refusal>
     ensures { OnOk result (Replaces item.now out.old.items out.new.items) }
 {
-    match (operand, item.style) {
-        (Operand::Kept, style) => {
+    match (wish, item.style) {
+        (None, style) => {
             let next = after(item.at, count_of(style, item.text))?;
             need(style.may_keep())?;
             need(!has_mark(item.plan.marks, item.at, next))?;
             Ok(out.extend_from_slice(item.text)?)
         }
-        (Operand::Address(half, reference), style) => {
+        (Some(Wish::Half(half, reference)), style) => {
             need(is_named_number(item))?;
             need(has_name_form(reference.name))?;
             Ok(put_in_list(out, style, half, reference)?)
         }
-        (Operand::Difference(to, from), Style::Words) => {
+        (Some(Wish::Difference(to, from)), Style::Words) => {
             need(is_named_number(item))?;
             need(has_name_form(to))?;
             need(has_name_form(from))?;

@@ -3,7 +3,7 @@
 //! Nothing is trusted of where the operands are, and what is to stand in their
 //! places: what may not change so is refused.
 
-ghost use Rattle.std.specs.Prelude.{◌≡◌, ◌++◌, ◌∷◌, IfOk, IfSome, OnOk, drop, true};
+ghost use Rattle.std.specs.Prelude.{◌≡◌, ◌≤◌, ◌++◌, ◌∷◌, IfOk, IfSome, OnOk, drop, length, true};
 ghost use Rattle.std.specs.List.{list_all};
 ghost use Rattle.text65.specs.Names.{is_blank};
 ghost use Rattle.name65.specs.Changes.{IsRest};
@@ -24,26 +24,24 @@ pub struct Cut<'l> {
     pub after: &'l [u8],
 }
 
-/// Cuts bytes at two places, if they have them.
-#[tactic(auto, using(crate::proofs::ChangeLemmas::cut_whole))]
+/// Cuts bytes at two places, if they have them in this order.
 pub fn cut_at(bytes: &[u8], from: usize, to: usize) -> Result<Cut<'_>, Refusal>
     ensures { IfOk result (λ c. bytes.now ≡ c.before.now ++ (c.within.now ++ c.after.now)) }
 {
-    let Some((before, rest)) = bytes.split_at_checked(from) else {
-        return Err(Refusal::Changed);
-    };
-    match rest.split_at_checked(to.saturating_sub(from)) {
-        Some((within, after)) => Ok(Cut {
-            before,
-            within,
-            after,
-        }),
-        None => Err(Refusal::Changed),
-    }
+    need(from <= to && to <= bytes.len())?;
+    let (rest, after) = bytes.split_at(to);
+    let (before, within) = rest.split_at(from);
+    Ok(Cut {
+        before,
+        within,
+        after,
+    })
 }
 
 /// How many blanks are at the beginning of bytes.
-pub fn blank_len(bytes: &[u8]) -> usize {
+pub fn blank_len(bytes: &[u8]) -> usize
+    ensures { result ≤ length bytes.now }
+{
     bytes.iter().take_while(|byte| is_blank(**byte)).count()
 }
 
@@ -91,19 +89,15 @@ pub fn put_rest(
 ) -> Result<(), AllocError>
     ensures { OnOk result (AppendsOne (IsRest rest.now) out.old.items out.new.items) }
 {
-    match comment_after(rest, kept) {
-        Some(found) => {
-            let blanks = kept.saturating_add(found.within.len());
-            out.extend_from_slice(found.before)?;
-            put_gap(out, column.saturating_add(blanks))?;
-            out.extend_from_slice(found.after)?;
-            Ok(())
-        }
-        None => {
-            out.extend_from_slice(rest)?;
-            Ok(())
-        }
-    }
+    let Some(found) = comment_after(rest, kept) else {
+        out.extend_from_slice(rest)?;
+        return Ok(());
+    };
+    let blanks = kept.saturating_add(found.within.len());
+    out.extend_from_slice(found.before)?;
+    put_gap(out, column.saturating_add(blanks))?;
+    out.extend_from_slice(found.after)?;
+    Ok(())
 }
 
 /// A list of operands in a line, which gives the bytes from `at` to before `end`: its style, and what
@@ -126,7 +120,7 @@ pub fn put_list(out: &mut Vec<u8>, run: &Run<'_, '_>, mut places: Places<'_>) ->
     let mut column = run.column;
     let mut rest = run.text;
     'items: for _ in 0..=run.text.len() {
-        let Some((span, operand)) = next_operand(run, &mut places, at)? else {
+        let Some((span, wish)) = next_operand(run, &mut places, at)? else {
             need(at == run.end)?;
             let kept = places.end().saturating_sub(column);
             return Ok(put_rest(out, rest, column, kept)?);
@@ -140,7 +134,7 @@ pub fn put_list(out: &mut Vec<u8>, run: &Run<'_, '_>, mut places: Places<'_>) ->
             text: found.within,
             ..*run
         };
-        put_operand(out, &item, operand)?;
+        put_operand(out, &item, wish)?;
         at = after(at, count_of(run.style, found.within))?;
         column = span.to;
         rest = found.after;

@@ -33,7 +33,7 @@ pub struct Wished<'t> {
 #[derive(Drop)]
 pub struct Wishes<'t> {
     by_address: ByAddress<Wished<'t>>,
-    names: ListingNames<'t>,
+    pub names: ListingNames<'t>,
 }
 
 /// A group, the information file in which it stands, and the bytes of the image that it is
@@ -74,11 +74,6 @@ impl<'b> TagGroup<'b> {
         let low = self.byte(address)?;
         let high = self.byte(self.later(address, 1)?)?;
         Ok(u16::from_le_bytes([low, high]))
-    }
-
-    /// The address after the last byte.
-    fn end(self) -> u64 {
-        u64::from(self.start).saturating_add(self.bytes.len() as u64)
     }
 
     /// The address that the instruction at an address has as its operand, by the opcodes of all CPUs.
@@ -172,7 +167,9 @@ impl<'t> Wishes<'t> {
             }
             TagKind::Difference => self.take_difference(group),
             TagKind::After => match group.tag.first {
-                Some(first) if u64::from(first) < group.end() => {
+                Some(first)
+                    if usize::from(first)
+                        < usize::from(group.start).saturating_add(group.bytes.len()) => {
                     Err(group.refusal(Complaint::Inside(first)))
                 }
                 _ => Ok(()),
@@ -191,7 +188,7 @@ impl<'t> Wishes<'t> {
                 let Ok(Some(Pair { address, .. })) = group.pair(k) else {
                     return false;
                 };
-                !self.names.has(address)
+                self.names.at(address).is_none()
                     && group.info.covering(address).is_none()
                     && self.next_named(group, address).is_some()
             })
@@ -249,8 +246,8 @@ impl<'t> Wishes<'t> {
     /// with a byte of the image before it.
     fn next_named(&self, group: TagGroup<'_>, address: u16) -> Option<u16> {
         let next = address.checked_add(1)?;
-        let moves = group.byte(address).is_err() || !self.names.is_constant_at(next);
-        (moves && self.names.has(next)).then_some(next)
+        let name = self.names.at(next)?;
+        (!name.constant || group.byte(address).is_err()).then_some(next)
     }
 
     /// An address by a name: its own; or else that of which it is one of SIZE addresses; or else that of the next
@@ -301,10 +298,5 @@ impl<'t> Wishes<'t> {
             return false;
         };
         matches!(wished.wish, Wish::Half(found, address) if found == half && address == reference)
-    }
-
-    /// Whether the constant line of this name is to be left out.
-    pub fn is_left_out(&self, name: &[u8]) -> bool {
-        self.names.is_left_out(name)
     }
 }

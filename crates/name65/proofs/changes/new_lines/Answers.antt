@@ -1,4 +1,4 @@
-use Rattle.std.proofs.Common.{◌≡◌, [], ◌∷◌, append_assoc, refl}
+use Rattle.std.proofs.Common.{◌≡◌, [], ◌∷◌, append_assoc}
 use Rattle.std.proofs.lemmas.List.{append-nil}
 use Rattle.stmt65.specs.Words.{ends_left}
 use Rattle.name65.specs.Changes.{no_line}

@@ -1,4 +1,4 @@
-use Rattle.std.proofs.Common.{◌∙◌, ◌++◌, ◌∷◌, [], ap, arith, refl}
+use Rattle.std.proofs.Common.{◌++◌, ◌∷◌, [], arith, refl}
 use Rattle.name65.specs.Changes.{rewritten, untouched}
 use Rattle.name65.proofs.ChangeLemmas.{in_place, unnamed}
 use Rattle.name65.proofs.changes.put_line.Goals as goal

@@ -1,4 +1,4 @@
-use Rattle.std.proofs.Common.{append_assoc, arith, refl}
+use Rattle.std.proofs.Common.{arith, refl}
 use Rattle.name65.proofs.ChangeLemmas.{all_done, nothing_done, one_done}
 use Rattle.name65.proofs.rewriting.put_list.Goals as goal
 
