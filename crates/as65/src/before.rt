@@ -7,7 +7,9 @@ use crate::moves::{IN_PLACE, Label, address_in_name};
 use crate::origins::Origin;
 use files65::{put_decimal, repair};
 use std::alloc::{AllocError, Global};
-use stmt65::{AsmFaultKind, Source, SourceLine, Symbols, assemble_source, names_in, read_line};
+use stmt65::{
+    AsmFaultKind, Definition, Source, SourceLine, Symbols, assemble_source, names_in, read_line,
+};
 
 /// A line that gives bytes, the address of the first, and the address after the last.
 #[derive(Clone, Copy)]
@@ -44,25 +46,31 @@ pub struct Before<'s, 'a, 't, 'l, 'n> {
 impl<'s, 'a, 't, 'l, 'n> Before<'s, 'a, 't, 'l, 'n> {
     /// The value that a name had; by the label after it, if that is wanted.
     fn value(&self, name: &[u8], by_later: bool) -> Option<u64> {
-        let definition = self.names.all().find(name)?;
-        if definition.constant {
-            return Some(definition.value);
+        let Definition {
+            value,
+            constant,
+            ..
+        } = self.names.all().find(name)?;
+        if constant {
+            return Some(value);
         }
-        address_in_name(name).or(beside(self.labels, definition.value, by_later).earlier(
-            definition.value,
-        ))
+        match address_in_name(name) {
+            Some(named) => Some(named),
+            None => beside(self.labels, value, by_later).earlier(value),
+        }
     }
 
-    /// A text of the line alone: the CPU that has the forms of all, the names of its operands as constants, but for its
+    /// A text of the line alone, after what sets its CPU: the names of its operands as constants, but for its
     /// label, and the line.
     fn text(
         &self,
+        cpu: &[u8],
         placed: &Placed<'t>,
         line: &SourceLine<'t>,
         by_later: bool,
     ) -> Result<Vec<u8>, AllocError> {
         let mut out = Vec::new(self.alloc);
-        out.extend_from_slice(b".setcpu \"65C02\"\n")?;
+        out.extend_from_slice(cpu)?;
         if let SourceLine::Statement { label, operation } = line {
             let names = names_in(self.alloc, operation)?;
             for (place, name) in names.iter().enumerate() {
@@ -92,12 +100,16 @@ impl<'s, 'a, 't, 'l, 'n> Before<'s, 'a, 't, 'l, 'n> {
         let Ok(start) = u16::try_from(at) else {
             return Ok(None);
         };
-        let text = self.text(placed, &line, by_later)?;
-        let alone = repair(self.source.layout, start, &text);
-        match assemble_source(self.alloc, &alone) {
-            Ok(bytes) if bytes.len() as u64 == placed.len() => Ok(Some(bytes)),
-            Err(fault) if fault.kind == AsmFaultKind::Memory => Err(AllocError),
-            _ => Ok(None),
+        // The 65C02 has all forms of the others, but few lines need it.
+        for cpu in [b"".as_slice(), b".setcpu \"65C02\"\n".as_slice()] {
+            let text = self.text(cpu, placed, &line, by_later)?;
+            let alone = repair(self.source.layout, start, &text);
+            match assemble_source(self.alloc, &alone) {
+                Ok(bytes) if bytes.len() as u64 == placed.len() => return Ok(Some(bytes)),
+                Err(fault) if fault.kind == AsmFaultKind::Memory => return Err(AllocError),
+                _ => {}
+            }
         }
+        Ok(None)
     }
 }

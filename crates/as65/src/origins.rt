@@ -59,7 +59,7 @@ pub(crate) fn line_at(text: &[u8], number: usize) -> &[u8]
 }
 
 /// How many addresses come before the first that is greater than this one.
-#[tactic(auto, unfolding(crate::specs::Code::Passing::ended))]
+#[tactic(auto, unfolding(crate::specs::Code::ended))]
 fn count_up_to(addresses: &[u64], address: u64) -> usize
     ensures { result ≡ ended address addresses.now }
 {
