@@ -1,7 +1,8 @@
 //! A listing and its bytes.
 
-ghost use Rattle.std.specs.Prelude.{◌≡◌, Ok, IfErr, IfOk, OnErr, OnOk};
+ghost use Rattle.std.specs.Prelude.{◌≡◌, ◌<◌, Ok, IfErr, IfOk, OnErr, OnOk, length};
 ghost use Rattle.std.specs.Io.KnownBytes.{Appends};
+ghost use Rattle.files65.specs.Faults.{IsEmpty};
 ghost use Rattle.map65.specs.Words.{AppendsFront, Counts};
 ghost use Rattle.stmt65.specs.Words.{source_meaning};
 ghost use Rattle.as65.specs.Words.{AssembledView, Reports, seen};
@@ -85,4 +86,21 @@ impl<'s, 't, 'l, 'n> Assembled<'s, 't, 'l, 'n> {
     {
         write_text(out, self.bytes())
     }
+}
+
+/// Refuses a listing of this name that has no operation and so gives no byte.
+pub fn need_bytes(
+    alloc: Global,
+    assembled: &Assembled<'_, '_, '_, '_>,
+    name: &str,
+) -> Result<(), FileFault>
+    /// Fails exactly if the listing gives no byte: with its name, or out of memory.
+    ensures some { OnOk result (0 < length assembled.now.bytes) }
+    ensures none { OnErr result (length assembled.now.bytes ≡ 0) }
+    ensures failure { IfErr result (IsEmpty name.now) }
+{
+    if assembled.bytes().is_empty() {
+        return Err(FileFault::Empty(String::from_str(alloc, name)?));
+    }
+    Ok(())
 }

@@ -18,7 +18,6 @@ mod hint;
 mod image;
 mod information;
 mod labels;
-mod listing;
 mod message;
 mod moves;
 mod named_start;
@@ -27,7 +26,7 @@ mod request;
 mod status;
 mod stretches;
 
-use assembled::Assembled;
+use assembled::{Assembled, need_bytes};
 use comparison::compare;
 use failure::{Failure, Refused};
 use files65::{
@@ -37,7 +36,6 @@ use image::image;
 use info65::Info;
 use information::{information, placed_at};
 use labels::names_in;
-use listing::need_bytes;
 use message::{say, say_starts};
 use moves::need_in_place;
 use named_start::named_start;

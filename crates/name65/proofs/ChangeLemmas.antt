@@ -4,10 +4,9 @@ use Rattle.std.specs.List.{list_all}
 use Rattle.std.proofs.lemmas.List.{append-nil}
 use Rattle.std.proofs.lemmas.Bool.Decides.{nat_tests}
 use Rattle.std.proofs.lemmas.List.Folds.{list_all-append}
-use Rattle.text65.specs.Lines.{text_lines}
 use Rattle.text65.specs.Names.{is_blank}
 use Rattle.stmt65.specs.declared.source_line.Half.{Half}
-use Rattle.name65.specs.Changes.{AreListed, Becomes, IsList, IsRest, IsRevalued, LineBecomes, LinesBecome, Scope, as_before, comment, count_of, is_between, is_touched, is_touched_constant, may_keep, more, names_one, next_line, no_comment, none, says}
+use Rattle.name65.specs.Changes.{AreListed, Becomes, IsList, IsRest, IsRevalued, LineBecomes, Scope, as_before, comment, count_of, is_between, is_touched, is_touched_constant, may_keep, more, names_one, no_comment, none, says}
 use Rattle.name65.specs.Written.{AppendsLine, AppendsOne, AreBlanks, scope_seen}
 use Rattle.name65.specs.declared.operands.Style.{Style}
 use Rattle.name65.specs.declared.operands.Style.TheVariants as style
@@ -64,11 +63,6 @@ all_done scope s start at end all rest old out new d is a = record {
   };
   whole = rw (a.whole, d.out_is, append_assoc) refl;
 }
-
--- a line, and then those after it
-pub lines_from : (scope : Scope) (at end : ℕ) (rest line after : List ℕ) (later : List ℕ) (text moved texts tails : List ℕ) → text_lines rest ≡ line ∷ text_lines after
-    → LineBecomes scope at end line text moved → LinesBecome scope end (text_lines after) later texts tails → LinesBecome scope at (text_lines rest) (end ∷ later) (text ++ texts) (moved ++ tails)
-lines_from scope at end rest line after later text moved texts tails e is others = rw e (next_line is others)
 
 -- blanks before a comment that changed
 pub rest_comment : (rest kept blanks after old first second new : List ℕ) → rest ≡ kept ++ (blanks ++ after) → list_all is_blank blanks ≡ true → after ≡ 59 ∷ drop 1 after

@@ -9,21 +9,14 @@ use crate::operands::{is_value, keep_free};
 use crate::plan::PlacedLine;
 use crate::reference::{Reference, put_reference};
 use crate::rewriting::{cut_at, put_rest};
-use stmt65::{Language, Part, PlacedPart, Places, Span};
+use stmt65::{Language, Part, Places, Span};
 use text65::has_name_form;
 
-/// Whether an operation is that of an instruction, and no directive.
-fn is_instruction(operation: Option<PlacedPart<'_>>) -> bool {
-    let Some(place) = operation else {
-        return false;
-    };
-    matches!(place.part, Part::Word(word) if word.first() != Some(&b'.'))
-}
-
-/// Where the operand of an instruction stands, and where its last part ends.
+/// Where the operand of an instruction stands, and where its last part ends. A directive is none.
 fn operand_of(language: Language, line: &[u8]) -> Option<(Span, usize)> {
     let mut places = Places::new(language, line);
-    if !is_instruction(places.head().operation) {
+    let operation = places.head().operation?.part;
+    if !matches!(operation, Part::Word(word) if word.first() != Some(&b'.')) {
         return None;
     }
     let span = places.operand()?.span;

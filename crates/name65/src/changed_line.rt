@@ -8,7 +8,7 @@ use crate::complaint::{Refusal, after, need};
 use crate::operands::{Style, keep_free};
 use crate::plan::PlacedLine;
 use crate::rewriting::{Run, are_blank, blank_len, cut_at, put_gap, put_list};
-use crate::wishes::{Wish, Wishes};
+use crate::wishes::{Wish, Wished, Wishes};
 use stmt65::{Half, Part, PlacedPart, Places, Span};
 
 /// The list of operands of a line: where the `#` or the directive stands that opens it,
@@ -120,10 +120,14 @@ pub fn put_operation(out: &mut Vec<u8>, placed: &PlacedLine<'_, '_>) -> Result<(
     ensures { OnOk result (Rewrites placed.now out.old.items out.new.items) }
 {
     let PlacedLine { plan, at, end, .. } = *placed;
-    if let Some(wished) = plan.wishes.at(at) {
-        if let Wish::Address(reference) = wished.wish {
-            return put_address(out, placed, reference);
-        }
+    if let Some(
+        Wished {
+            wish: Wish::Address(reference),
+            ..
+        },
+    ) = plan.wishes.at(at)
+    {
+        return put_address(out, placed, reference);
     }
     let Some(list) = list_of(placed) else {
         keep_free(plan.wishes, at, end.saturating_sub(at))?;

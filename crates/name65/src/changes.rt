@@ -1,7 +1,6 @@
 //! The lines of a listing, each as it becomes.
 
-ghost use Rattle.std.specs.Prelude.{◌≡◌, ◌-◌, IfOk, OnOk, length, slice_get};
-ghost use Rattle.std.specs.Option.{unwrap_or};
+ghost use Rattle.std.specs.Prelude.{◌≡◌, IfOk, OnOk};
 ghost use Rattle.text65.specs.Lines.{text_lines};
 ghost use Rattle.map65.specs.Words.{is_marked};
 ghost use Rattle.stmt65.specs.Words.{source_addresses};
@@ -71,13 +70,6 @@ fn new_lines<'w, 't>(
     Ok(out)
 }
 
-/// The last of some addresses, or the start if there are none.
-fn last_of(start: u16, ends: &LineEnds<&Global>) -> u64
-    ensures { result ≡ unwrap_or (slice_get ends.now (length ends.now - 1)) start }
-{
-    ends.last().unwrap_or(u64::from(start))
-}
-
 /// A text by names, and the names that it defines, unless they are those of the text that it was.
 #[derive(Drop)]
 pub struct Changed<'t, 'b> {
@@ -104,7 +96,7 @@ pub fn changed_text<'t, 'b>(
         language: source.language,
         marks: &marks,
         used,
-        last: last_of(source.start, &assembly.ends),
+        last: assembly.ends.last().unwrap_or(u64::from(source.start)),
         wishes: &wishes,
     };
     let mut new = new_lines(&plan, source, &assembly.ends)?;

@@ -12,6 +12,6 @@ returns c =
       lines = c.in_ok-new.new.lines.items;
       tail = c.in_ok-new.new.tail.items;
       become = subst (λ (test : ℕ → Bool). LinesBecome (scope_of s test c.args.used (source_addresses s)) s.start (text_lines s.text.now) (source_addresses s) c.in_ok-new.new.lines.items c.in_ok-new.new.tail.items)
-          (fun_ext c.in_ok-marks.ensures) (rw (← c.requires, ← c.last_of.ensures) c.in_ok-new.ensures);
+          (fun_ext c.in_ok-marks.ensures) (rw (← c.requires) (rw (c.unwrap_or.ensures, c.last.ensures, c.from.ensures) at c.in_ok-new.ensures));
       whole = rw c.deref.ensures.value at c.in_ok-extend_from_slice.ensures.items;
     }
