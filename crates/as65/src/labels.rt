@@ -1,6 +1,6 @@
 //! The names of a listing for emulators, as ld65 writes them with `-Ln`.
 
-ghost use Rattle.std.specs.Prelude.{◌≡◌, ◌++◌, IfErr, IfOk, OnOk, map, take};
+ghost use Rattle.std.specs.Prelude.{◌≡◌, ◌++◌, IfErr, IfOk, OnOk, map};
 ghost use Rattle.stmt65.specs.Words.{definition_of};
 ghost use Rattle.as65.specs.Words.{Reports, label_line, labels_of, source_labels};
 

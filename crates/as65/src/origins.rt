@@ -19,7 +19,7 @@ pub struct Origin<'a> {
 pub struct Reached<'a> {
     /// How many lines are above it.
     pub above: usize,
-    /// It without the blanks around it. That is kept, since many stretches may lie in one long line.
+    /// The line without the blanks around it. It is kept, since many stretches may lie in one long line.
     pub line: &'a [u8],
     /// The text from it on.
     pub rest: &'a [u8],
@@ -83,7 +83,7 @@ impl<'a> Reached<'a> {
     #[tactic(auto, using(crate::proofs::PassingLemmas::passing))]
     pub fn of_byte(self, ends: &[u64], address: u64) -> Reached<'a>
         requires { self.above ≤ ended address ends.now }
-        /// The line is the first after which the address is greater than that of the byte. That this line gives the
+        /// Returns the first line after which the address is greater than that of the byte. That this line gives the
         /// byte is the law `FindsLine` of `stmt65`.
         ensures above { result.above ≡ ended address ends.now }
         ensures reached { (lines : List (List ℕ)) → IsReached lines self.entry → IsReached lines result }

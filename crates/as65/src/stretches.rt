@@ -1,7 +1,7 @@
 //! Where two rows of bytes differ.
 
-ghost use Rattle.std.specs.Prelude.{◌≡◌, ◌<◌, ◌≤◌, ℕ, IfNone, IfOk, IfSome, false, length, not, true};
-ghost use Rattle.as65.specs.Words.{AreRuns, differs};
+ghost use Rattle.std.specs.Prelude.{◌≡◌, ◌<◌, ◌≤◌, ℕ, IfNone, IfSome, false, length, not, true};
+ghost use Rattle.as65.specs.Words.{differs};
 
 /// Bytes that differ, from an offset up to before another.
 #[derive(Clone, Copy)]
@@ -33,6 +33,8 @@ fn first_where(one: &[u8], other: &[u8], from: usize, differ: bool) -> usize
 pub fn next_stretch(one: &[u8], other: &[u8], from: usize) -> Option<Stretch>
     requires one { from ≤ length one.now }
     requires other { from ≤ length other.now }
+    /// Returns the first stretch of bytes that differ from an offset on, as long as it can be; none if no byte
+    /// differs from there on.
     ensures low { IfSome result (λ s. from ≤ s.at) }
     ensures before { IfSome result (λ s.
         (i : ℕ) → from ≤ i → i < s.at → differs one.now other.now i ≡ false) }

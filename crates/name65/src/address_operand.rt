@@ -1,6 +1,6 @@
 //! Writes the address of an instruction anew.
 
-ghost use Rattle.std.specs.Prelude.{◌≡◌, OnOk};
+ghost use Rattle.std.specs.Prelude.{OnOk};
 ghost use Rattle.name65.specs.Written.{Rewrites};
 
 use crate::complaint::{Refusal, after, need};

@@ -9,7 +9,7 @@ use crate::operands::{Style, keep_free};
 use crate::plan::PlacedLine;
 use crate::rewriting::{Run, are_blank, blank_len, cut_at, put_gap, put_list};
 use crate::wishes::{Wish, Wished, Wishes};
-use stmt65::{Half, Part, PlacedPart, Places, Span};
+use stmt65::{Half, Part, Places, Span};
 
 /// The list of operands of a line: where the `#` or the directive stands that opens it,
 /// and the parts of the line after that.

@@ -2,7 +2,6 @@
 
 ghost use Rattle.std.specs.Prelude.{◌≡◌, IfOk, OnOk};
 ghost use Rattle.text65.specs.Lines.{text_lines};
-ghost use Rattle.map65.specs.Words.{is_marked};
 ghost use Rattle.stmt65.specs.Words.{source_addresses};
 ghost use Rattle.name65.specs.Changes.{LinesBecome};
 ghost use Rattle.name65.specs.NamedText.{IsNamed};

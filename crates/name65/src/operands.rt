@@ -7,7 +7,6 @@ ghost use Rattle.name65.specs.Written.{IsNamedNumber, Replaces};
 
 use crate::complaint::{Complaint, Refusal, after, need};
 use crate::marks::has_mark;
-use crate::plan::Plan;
 use crate::reference::put_in_list;
 use crate::rewriting::Run;
 use crate::wishes::{Wish, Wished, Wishes};
