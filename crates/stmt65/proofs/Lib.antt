@@ -18,9 +18,7 @@ mod TextRows
 mod ReadRows
 mod Lexed
 mod TableReads
-mod RemarkLemmas
 mod ReadBack
-mod OneLine
 mod MeaningRows
 mod SymbolLaws
 mod CodingLemmas

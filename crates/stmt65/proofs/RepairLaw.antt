@@ -1,14 +1,77 @@
 -- A listing means in a repair what it means by itself.
-use Rattle.std.specs.Prelude.{◌∷◌, ◌≡◌}
-use Rattle.stmt65.proofs.Lemmas.{All-head, All-tail, List, None, Option, Some, [], and_parts, ap, arith, eqb, eqb-true, false, map, refl, suc, sym, true, zero, ℕ, ◌∙◌}
+use Rattle.std.specs.Prelude.{◌++◌, ◌||◌, ◌∷◌, ◌≡◌}
+use Rattle.stmt65.proofs.Lemmas.{All-head, All-tail, Bool, List, None, Option, Some, [], and_parts, ap, arith, eqb, eqb-true, false, list_all-append, map, refl, suc, sym, true, zero, ℕ, ◌∙◌}
 use Rattle.isa65.specs.declared.cpu.Cpu.TheVariants.{M65C02, M65SC02}
-use Rattle.stmt65.specs.Words.{All, Asl, Cpu, Definition, Empty, Imp, Inc, Instr, IsFaultless, IsSpelling, KeepsListings, Language, Line, Listing, M6502, Mnemonic, Operation, Repair, Ror, SourceLine, State, Statement, after, coding, encoded, fault_of, has_no_form, initial, lines_below, meaning_in, meaning_of, names_of, part_at, parts, parts_after, reading_of, readings, table_of, takes_accumulator, text_lines, ways}
+use Rattle.stmt65.specs.Words.{All, Asl, Cpu, Datum, Definition, Direct, Empty, Form, Imp, Inc, Instr, IsDatum, IsFaultless, IsItem, IsList, IsMinus, IsSpelling, IsValue, Item, KeepsListings, Language, Line, Listing, M6502, Mark, Minus, Mnemonic, NameValue, None, NumberDatum, One, Operation, Part, Plain, Repair, Ror, Some, SourceLine, Spells, State, Statement, StringDatum, Value, Zero, after, coding, encoded, fault_of, form_items, has_no_form, initial, line_items, lines_below, list_all, meaning_in, meaning_of, names_of, not, operation_items, part_at, parts, parts_after, reading_of, readings, table_of, takes_accumulator, text_lines, ways}
+use Rattle.stmt65.specs.Spelling as item
 use Rattle.stmt65.specs.Types.{Dec, Lsr, Rol}
+use Rattle.stmt65.specs.declared.source_line.Minus.TheVariants.{One as MinusOne}
 use Rattle.stmt65.proofs.Cases.{by_test, by_option}
 use Rattle.stmt65.proofs.ReadIsSpelled.{at, reading_read}
 use Rattle.stmt65.proofs.SpelledIsRead.{read_in, line_in, line_again}
-use Rattle.stmt65.proofs.RemarkLemmas.{AreClosed, is_closed, spelled_closed}
 use Rattle.stmt65.proofs.TextLemmas.{means_bytes}
+
+-- ---- a line of a listing that says something has no `%` and no apostrophe by itself
+
+abbrev is_closed : Part → Bool
+is_closed (Mark b) = not (eqb b 37 || eqb b 39)
+is_closed _ = true
+
+abbrev AreClosed : List Part → Type 0
+AreClosed ps = list_all is_closed ps ≡ true
+
+both_closed : (ps qs : List Part) → AreClosed ps → AreClosed qs → AreClosed (ps ++ qs)
+both_closed ps qs h g = rw (list_all-append is_closed ps qs, h, g) refl
+
+minus_closed : (less : Minus) (ps : List Part) → IsMinus less ps → AreClosed ps
+minus_closed MinusOne ps h = rw h refl
+minus_closed Zero ps h = rw h refl
+
+value_closed : (v : Value) (ps : List Part) → IsValue v ps → AreClosed ps
+value_closed (NameValue w n less) ps h = grind (arith, both_closed, minus_closed)
+value_closed _ ps h = grind arith
+
+datum_closed : (d : Datum) (ps : List Part) → IsDatum d ps → AreClosed ps
+datum_closed (NumberDatum n) ps h = rw h.2 refl
+datum_closed (StringDatum t) ps h = rw h refl
+datum_closed _ ps h = absurd h
+
+list_closed : {A : Type 0} (Is : A → List Part → Type 0) → ((x : A) (ps : List Part) → Is x ps → AreClosed ps) → (xs : List A) (ps : List Part) → IsList Is xs ps → AreClosed ps
+list_closed Is each [] ps h = absurd h
+list_closed Is each (x ∷ []) ps h = each x ps h
+list_closed Is each (x ∷ y ∷ xs) ps h = rw h.2 (both_closed h.0 (Mark 44 ∷ h.1) (each x h.0 h.3) (list_closed Is each (y ∷ xs) h.1 h.4))
+
+abbrev is_closed_item : Item → Bool
+is_closed_item (item.mark b) = is_closed (Mark b)
+is_closed_item _ = true
+
+item_closed : (i : Item) (ps : List Part) → is_closed_item i ≡ true → IsItem i ps → AreClosed ps
+item_closed (item.mark b) ps k h = rw (h, k) refl
+item_closed (item.value v) ps k h = value_closed v ps h
+item_closed (item.data_list xs) ps k h = list_closed IsDatum datum_closed xs ps h
+item_closed (item.value_list vs) ps k h = list_closed IsValue value_closed vs ps h
+item_closed _ ps k h = grind arith
+
+spells_closed : (is : List Item) (ps : List Part) → list_all is_closed_item is ≡ true → Spells is ps → AreClosed ps
+unfolding Spells
+spells_closed [] ps k h = rw h refl
+spells_closed (i ∷ is) ps k h = grind (arith, and_parts, both_closed, item_closed, (spells_closed is))
+
+form_closed : (f : Form) → list_all is_closed_item (form_items f) ≡ true
+form_closed (One (Plain Direct) v) = refl
+form_closed _ = refl
+
+operation_closed : (o : Operation) → list_all is_closed_item (operation_items o) ≡ true
+operation_closed (Instr m f) = form_closed f
+operation_closed _ = refl
+
+line_closed : (r : SourceLine) → list_all is_closed_item (line_items r) ≡ true
+line_closed (Statement None o) = operation_closed o
+line_closed (Statement (Some w) o) = operation_closed o
+line_closed _ = refl
+
+spelled_closed : (r : SourceLine) (ps : List Part) → IsSpelling r ps → AreClosed ps
+spelled_closed r ps h = spells_closed (line_items r) ps (line_closed r) h
 
 -- ---- the parts of such a line
 

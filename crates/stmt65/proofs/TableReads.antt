@@ -1,40 +1,34 @@
 -- The texts of tables are lists, joined by commas, of what the tables say.
 use Rattle.std.specs.Prelude.{◌%◌, ◌&&◌, ◌*◌, ◌++◌, ◌+◌, ◌/◌, ◌<◌, ◌==◌, ◌∷◌, ◌≡◌, ◌≤◌}
 use Rattle.stmt65.proofs.Lemmas.{Bool, List, [], and_parts, ap, append-nil, append_assoc, arith, digits_value_push, drop, eq-eqb, eqb-true, false, flat_map-append, length, length-drop, length-reverse, length-take-le, list_all-append, ltb, ltb-true, map-id, nat_tests, refl, reverse, reverse-append, subst, suc, suc-mul, sym, take, take-append-drop, true, zero, ℕ, ◌∙◌}
-use Rattle.stmt65.specs.Words.{AreBytes, BigEndian, ByteOrder, Datum, Directive, IsDatum, IsList, IsValue, Listing, LittleEndian, Number, NumberDatum, Part, StringDatum, bytes_text, comma_list, cut_text, data_text, datum_text, digits2, digits_value, entries, entry_len, entry_text, entry_value, flat_map, hex2, hex_digit, in_order, is_ascii_hexdigit, is_plain, is_text_byte, list_all, low_number, map, nat_lt, numbers_text, order_of, parts, pieces}
+use Rattle.stmt65.specs.Words.{AreBytes, BigEndian, ByteOrder, Datum, Directive, IsDatum, IsList, IsValue, LittleEndian, Mark, NumberDatum, Part, StringDatum, bytes_text, comma_list, cut_text, data_text, datum_text, digits2, digits_value, entries, entry_len, entry_number, entry_text, entry_value, flat_map, hex2, hex_digit, in_order, is_ascii_hexdigit, is_plain, is_text_byte, list_all, low_number, map, nat_lt, next_text, numbers_text, order_of, pieces}
 use Rattle.stmt65.specs.declared.directive.Directive.TheVariants.{Word}
-use Rattle.stmt65.specs.Parts.{number_of}
-use Rattle.stmt65.proofs.Lexed.{Ends, parts_mark, parts_text, hex_is_digit, hex_value, below_16, parts_hex, parts_hex2, number_of-hex2}
-use Rattle.stmt65.proofs.PartLemmas.{parts_nil}
-use Rattle.stmt65.proofs.ReadIsSpelled.{Fronts}
+use Rattle.stmt65.proofs.Lexed.{Ends, Lexes, below_16, hex_is_digit, hex_value, lexes_both, lexes_hex, lexes_hex2, lexes_mark, lexes_text}
 use Rattle.stmt65.proofs.EntryLaws.{in_order-length, entries_more}
 use Rattle.stmt65.proofs.TableLists.{cut_nil, cut_case}
 
 -- ---- lists joined by commas
 
--- the parts of a text that spell x, and what follows it
-abbrev pub TextParts : {A : Type 0} → (A → List Part → Type 0) → A → List ℕ → List ℕ → Type 0
-TextParts Is x text rest = Fronts (Is x) (parts Listing (text ++ rest)) (parts Listing rest)
-
 listed : {A B : Type 0} (f : A → B) (Is : B → List Part → Type 0) (text : A → List ℕ) (p : A → Bool)
-    → ((x : A) → p x ≡ true → (rest : List ℕ) → Ends rest → TextParts Is (f x) (text x) rest)
-    → (x : A) (xs : List A) → list_all p (x ∷ xs) ≡ true → IsList Is (map f (x ∷ xs)) (parts Listing (text x ++ flat_map (λ y. 44 ∷ text y) xs))
-listed f Is text p each x [] h = grind (arith, and_parts, parts_nil, append-nil)
-listed f Is text p each x (y ∷ ys) h =
+    → ((x : A) → p x ≡ true → (rest : List ℕ) → Ends rest → Lexes (Is (f x)) (text x) rest)
+    → (x : A) (xs : List A) → list_all p (x ∷ xs) ≡ true → (rest : List ℕ) → Ends rest → Lexes (IsList Is (map f (x ∷ xs))) (text x ++ flat_map (next_text text) xs) rest
+listed f Is text p each x [] h rest e = rw append-nil (each x (and_parts (p x) true h).0 rest e)
+listed f Is text p each x (y ∷ ys) h rest e =
     let more = and_parts (p x) (list_all p (y ∷ ys)) h in
-    let rest = text y ++ flat_map (λ y. 44 ∷ text y) ys in
-    let t = each x more.0 (44 ∷ rest) refl in
-    (t.front, parts Listing rest, t.split ∙ ap (λ (ps : List Part). t.front ++ ps) (parts_mark 44 rest refl), t.is, listed f Is text p each y ys more.1)
+    let others = text y ++ flat_map (next_text text) ys in
+    lexes_both (text x) (44 ∷ others) rest (each x more.0 (44 ∷ (others ++ rest)) refl)
+    (lexes_both {R = λ qs. (ps : List Part) × (qs ≡ Mark 44 ∷ ps) × IsList Is (map f (y ∷ ys)) ps} (44 ∷ []) others rest (lexes_mark 44 (others ++ rest) refl) (listed f Is text p each y ys more.1 rest e) (λ ps qs m l. (qs, ap (λ (front : List Part). front ++ qs) m, l)))
+    (λ ps qs m l. (ps, l.0, ap (λ (rest : List Part). ps ++ rest) l.1, m, l.2))
 
 -- ---- bytes
 
-each_byte : (b : ℕ) → ltb b 256 ≡ true → (rest : List ℕ) → Ends rest → TextParts IsDatum (NumberDatum b) (hex2 b) rest
-each_byte b h rest e = record { front = Number (hex2 b) ∷ []; split = parts_hex2 b rest e; is = (hex2 b, number_of-hex2 b (ltb-true b 256 h), refl) }
+each_byte : (b : ℕ) → ltb b 256 ≡ true → (rest : List ℕ) → Ends rest → Lexes (IsDatum (NumberDatum b)) (hex2 b) rest
+each_byte b h rest e = lexes_hex2 b rest (ltb-true b 256 h) e
 
-pub bytes_listed : (bs : List ℕ) → 1 ≤ length bs → AreBytes bs → IsList IsDatum (map NumberDatum bs) (parts Listing (bytes_text bs))
+pub bytes_listed : (bs rest : List ℕ) → 1 ≤ length bs → AreBytes bs → Ends rest → Lexes (IsList IsDatum (map NumberDatum bs)) (bytes_text bs) rest
 unfolding comma_list
-bytes_listed [] lt h = absurd (omega arith)
-bytes_listed (b ∷ bs) lt h = listed NumberDatum IsDatum hex2 (λ b. ltb b 256) each_byte b bs h
+bytes_listed [] rest lt h e = absurd (omega arith)
+bytes_listed (b ∷ bs) rest lt h e = listed NumberDatum IsDatum hex2 (λ b. ltb b 256) each_byte b bs h rest e
 
 -- ---- numbers
 
@@ -85,19 +79,14 @@ entry_short : (d : Directive) → 2 * entry_len d ≤ 8
 entry_short Word = omega arith
 entry_short _ = omega arith
 
-each_entry : (d : Directive) (bytes : List ℕ) → is_entry d bytes ≡ true → (rest : List ℕ) → Ends rest → TextParts IsValue (entry_value d bytes) (entry_text d bytes) rest
-unfolding number_of
+each_entry : (d : Directive) (bytes : List ℕ) → is_entry d bytes ≡ true → (rest : List ℕ) → Ends rest → Lexes (IsValue (entry_value d bytes)) (entry_text d bytes) rest
 each_entry d bytes h rest e =
     let is = and_parts (length bytes == entry_len d) (list_all (λ b. nat_lt b 256) bytes) h in
     let long = eqb-true (length bytes) (entry_len d) is.0 in
     let low = in_order (order_of d) bytes in
     let digits = flat_map digits2 (reverse low) in
     let count : length digits ≡ 2 * entry_len d = digits_len (reverse low) ∙ rw (length-reverse low, in_order-length (order_of d) bytes, long) refl in
-    record {
-      front = Number (entry_text d bytes) ∷ [];
-      split = parts_hex digits rest (digits_pass (reverse low)) (omega (arith, count, entry_some d)) (omega (arith, count, entry_short d)) e;
-      is = (entry_text d bytes, sym (digits_count low (ordered_bytes (order_of d) bytes is.1)), refl);
-    }
+    lexes_hex (entry_number d bytes) digits rest (sym (digits_count low (ordered_bytes (order_of d) bytes is.1))) (digits_pass (reverse low)) (omega (arith, count, entry_some d)) (omega (arith, count, entry_short d)) e
 
 split_bytes : (n : ℕ) (bs : List ℕ) → AreBytes bs → AreBytes (take n bs) × AreBytes (drop n bs)
 split_bytes n bs h =
@@ -118,11 +107,11 @@ entries_are : (d : Directive) (bs : List ℕ) → AreBytes bs → list_all (is_e
 unfolding entries
 entries_are d bs h = grind (arith, pieces_are)
 
-pub numbers_listed : (d : Directive) (bs : List ℕ) → entry_len d ≤ length bs → AreBytes bs → IsList IsValue (map (entry_value d) (entries d bs)) (parts Listing (numbers_text d bs))
+pub numbers_listed : (d : Directive) (bs rest : List ℕ) → entry_len d ≤ length bs → AreBytes bs → Ends rest → Lexes (IsList IsValue (map (entry_value d) (entries d bs))) (numbers_text d bs) rest
 unfolding comma_list
-numbers_listed d bs le h =
+numbers_listed d bs rest le h e =
     let are = rw (entries_more d bs le) at (entries_are d bs h) in
-    rw (entries_more d bs le) (listed (entry_value d) IsValue (entry_text d) (is_entry d) (each_entry d) (take (entry_len d) bs) (entries d (drop (entry_len d) bs)) are)
+    rw (entries_more d bs le) (listed (entry_value d) IsValue (entry_text d) (is_entry d) (each_entry d) (take (entry_len d) bs) (entries d (drop (entry_len d) bs)) are rest e)
 
 -- ---- text
 
@@ -142,17 +131,17 @@ cut_sound (b ∷ bs) h =
     let more = cut_sound bs a.1 in
     cut_case (λ ds. list_all is_sound ds ≡ true) b bs (λ p. rw a.0 more) (λ p ends. rw (plain_text b p) more) (λ t ds p e. let k = rw e at more in rw (plain_text b p) k)
 
-each_datum : (d : Datum) → is_sound d ≡ true → (rest : List ℕ) → Ends rest → TextParts IsDatum d (datum_text d) rest
+each_datum : (d : Datum) → is_sound d ≡ true → (rest : List ℕ) → Ends rest → Lexes (IsDatum d) (datum_text d) rest
 each_datum (NumberDatum b) h rest e = each_byte b h rest e
-each_datum (StringDatum t) h rest e = grind (arith, append_assoc, parts_text)
+each_datum (StringDatum t) h rest e = lexes_text t rest h refl
 each_datum _ h rest e = absurd cc
 
-data_listed : (d : Datum) (ds : List Datum) → list_all is_sound (d ∷ ds) ≡ true → IsList IsDatum (d ∷ ds) (parts Listing (data_text (d ∷ ds)))
+data_listed : (d : Datum) (ds : List Datum) → list_all is_sound (d ∷ ds) ≡ true → (rest : List ℕ) → Ends rest → Lexes (IsList IsDatum (d ∷ ds)) (data_text (d ∷ ds)) rest
 unfolding comma_list
-data_listed d ds h = subst (λ (l : List Datum). IsList IsDatum l (parts Listing (data_text (d ∷ ds)))) (map-id (d ∷ ds)) (listed (λ d. d) IsDatum datum_text is_sound each_datum d ds h)
+data_listed d ds h rest e = subst (λ (l : List Datum). Lexes (IsList IsDatum l) (data_text (d ∷ ds)) rest) (map-id (d ∷ ds)) (listed (λ d. d) IsDatum datum_text is_sound each_datum d ds h rest e)
 
-pub text_listed : (bs : List ℕ) → 1 ≤ length bs → AreBytes bs → IsList IsDatum (cut_text bs) (parts Listing (data_text (cut_text bs)))
-text_listed [] lt h = absurd (omega arith)
-text_listed (b ∷ bs) lt h =
-    cut_case (λ ds. list_all is_sound ds ≡ true → IsList IsDatum ds (parts Listing (data_text ds))) b bs
-    (λ p. data_listed (NumberDatum b) (cut_text bs)) (λ p ends. data_listed (StringDatum (b ∷ [])) (cut_text bs)) (λ t ds p e. data_listed (StringDatum (b ∷ t)) ds) (cut_sound (b ∷ bs) h)
+pub text_listed : (bs rest : List ℕ) → 1 ≤ length bs → AreBytes bs → Ends rest → Lexes (IsList IsDatum (cut_text bs)) (data_text (cut_text bs)) rest
+text_listed [] rest lt h e = absurd (omega arith)
+text_listed (b ∷ bs) rest lt h e =
+    cut_case (λ ds. list_all is_sound ds ≡ true → Lexes (IsList IsDatum ds) (data_text ds) rest) b bs
+    (λ p k. data_listed (NumberDatum b) (cut_text bs) k rest e) (λ p ends k. data_listed (StringDatum (b ∷ [])) (cut_text bs) k rest e) (λ t ds p q k. data_listed (StringDatum (b ∷ t)) ds k rest e) (cut_sound (b ∷ bs) h)

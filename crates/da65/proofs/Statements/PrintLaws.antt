@@ -13,7 +13,7 @@ use Rattle.isa65.specs.declared.row.Row.TheVariants as row
 use Rattle.info65.specs.Words.{AreNames}
 use Rattle.stmt65.specs.Views as view
 use Rattle.stmt65.specs.Words.{AreOperands, AreWordWide, ExprView, HasLabelName, HasName, HasNames, HasNamesIn, IsInWidth, IsOperand, IsPrintable, IsWordWide, MayBeLabelled, OperandsView, PrintsAs, StatementView, source_line, with_label}
-use Rattle.stmt65.proofs.Public.{one_line, reads_back}
+use Rattle.stmt65.proofs.Public.{prints_as}
 use Rattle.map65.specs.Words.{AreBytes, Base, IsPlaced, MapView, entry_of, opcodes, role_of, target_of}
 use Rattle.da65.proofs.Statements.EachStatement.{of_group}
 use Rattle.da65.proofs.Statements.FragmentLaws.{target_is}
@@ -37,7 +37,7 @@ pub record CanPrint (t : Style) (l : ListingLine) : Type 0 where
 
 pub prints : (t : Style) (l : ListingLine) → CanPrint t l → PrintsAs (line_text t l) (with_label l.label (source_line l.statement))
 unfolding line_text
-prints t l h = grind (arith, one_line, reads_back)
+prints t l h = grind (arith, prints_as)
 
 -- ---- bytes
 
