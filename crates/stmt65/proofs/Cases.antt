@@ -1,8 +1,7 @@
 -- Going by what a test, an option or a list turns out to be; what stands in front; words in any case.
 use Rattle.std.specs.Prelude.{◌∷◌, ◌≡◌}
 use Rattle.stmt65.proofs.Lemmas.{Bool, List, None, Option, Some, [], and_parts, ap, arith, bytes_eq-Decides, drop, eqb-true, false, find-passes, lowercase-text_of, mnemonic_named-is, not-true, or_parts, refl, sym, true, ℕ, ◌∙◌}
-use Rattle.stmt65.specs.Words.{ALL, Adc, Define, Directive, Mark, Mnemonic, Number, Part, Word, codes, directive_named, directive_text, is_define, is_mark, is_name, is_number_here, is_reserved_word, is_word_here, mnemonic_named, number_in, same, str_to_ascii_lowercase, text_of}
-use Rattle.stmt65.specs.declared.directive.Directive.TheVariants as directive
+use Rattle.stmt65.specs.Words.{ALL, Define, Directive, Mark, Mnemonic, Number, Part, Word, codes, directive_named, directive_text, is_define, is_mark, is_name, is_number_here, is_reserved_word, is_word_here, mnemonic_named, number_in, same, text_of}
 use Rattle.stmt65.specs.Parts.{number_of}
 
 pub by_test : {P : Type 0} (b : Bool) → (b ≡ true → P) → (b ≡ false → P) → P
@@ -37,58 +36,12 @@ pub number_here_is : (text : List ℕ) (ps : List Part) → is_number_here text 
 number_here_is text (Number t ∷ ps) e = ap (λ (s : List ℕ). Number s ∷ ps) ((bytes_eq-Decides t text).0 e)
 number_here_is text _ e = absurd cc
 
--- a word is one text only
-pub other : (w s t : List ℕ) → same w s ≡ true → same s t ≡ false → same w t ≡ false
-other w s t h g = let e : str_to_ascii_lowercase w ≡ str_to_ascii_lowercase s = (bytes_eq-Decides _ _).0 h in rw e g
-
 pub mnemonic_is : (w : List ℕ) (m : Mnemonic) → mnemonic_named w ≡ Some m → same w (text_of m) ≡ true
 mnemonic_is w m h = (bytes_eq-Decides _ _).1 ((mnemonic_named-is w m).0 h ∙ sym (lowercase-text_of m))
-
-pub mnemonic_again : (w : List ℕ) (m : Mnemonic) → same w (text_of m) ≡ true → mnemonic_named w ≡ Some m
-mnemonic_again w m h = (mnemonic_named-is w m).1 ((bytes_eq-Decides _ _).0 h ∙ lowercase-text_of m)
-
--- two spellings of one word name the same directive
-named_alike : (w t : List ℕ) → same w t ≡ true → directive_named w ≡ directive_named t
-unfolding directive_named
-named_alike w t h = grind (arith, bytes_eq-Decides)
-
--- what is written of a directive names it
-text_names : (d : Directive) → directive_named (directive_text d) ≡ Some d
-unfolding directive_named
-text_names directive.Word = refl
-text_names _ = refl
-
-pub directive_again : (w : List ℕ) (d : Directive) → same w (directive_text d) ≡ true → directive_named w ≡ Some d
-directive_again w d h = named_alike w (directive_text d) h ∙ text_names d
 
 pub directive_is : (w : List ℕ) (d : Directive) → directive_named w ≡ Some d → same w (directive_text d) ≡ true
 unfolding directive_named
 directive_is w d h = find-passes (λ d. same w (directive_text d)) ALL d h
-
--- a word that spells what is no directive is none
-pub no_directive : (w t : List ℕ) → same w t ≡ true → directive_named t ≡ None → directive_named w ≡ None
-no_directive w t h e = named_alike w t h ∙ e
-
--- the other operations that begin with a dot
-pub no_directives : (directive_named (codes ".byte") ≡ None) × (directive_named (codes ".segment") ≡ None) × (directive_named (codes ".code") ≡ None) × (directive_named (codes ".setcpu") ≡ None)
-unfolding directive_named
-no_directives = (refl, refl, refl, refl)
-
--- what is none of the operations that begin with a dot
-pub record HasNoDot (t : List ℕ) : Type 0 where
-  pub directive : directive_named t ≡ None
-  pub byte : same t (codes ".byte") ≡ false
-  pub segment : same t (codes ".segment") ≡ false
-  pub code : same t (codes ".code") ≡ false
-  pub set_cpu : same t (codes ".setcpu") ≡ false
-  pub low_bytes : same t (codes ".lobytes") ≡ false
-  pub high_bytes : same t (codes ".hibytes") ≡ false
-  pub reserve : same t (codes ".res") ≡ false
-
-pub no_dot : (m : Mnemonic) → HasNoDot (text_of m)
-unfolding directive_named
-no_dot Adc = record { directive = refl; byte = refl; segment = refl; code = refl; set_cpu = refl; low_bytes = refl; high_bytes = refl; reserve = refl }
-no_dot _ = record { directive = refl; byte = refl; segment = refl; code = refl; set_cpu = refl; low_bytes = refl; high_bytes = refl; reserve = refl }
 
 -- a name is none of the operand words
 pub no_letter : (w : List ℕ) → is_name w ≡ true → (same w (codes "a") ≡ false) × (same w (codes "x") ≡ false) × (same w (codes "y") ≡ false)

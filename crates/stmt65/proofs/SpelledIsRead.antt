@@ -1,13 +1,14 @@
 -- What is spelled so is read, in either language; in a repair an instruction without an operand may work on the accumulator.
 use Rattle.std.specs.Prelude.{◌++◌, ◌∷◌, ◌≡◌, ◌≤◌}
-use Rattle.stmt65.proofs.Lemmas.{List, None, Option, Some, [], ap, append-nil, append_assoc, arith, eqb, false, inl, inr, length, refl, suc, sym, true, zero, ℕ, ◌∙◌, length-append}
-use Rattle.stmt65.specs.Words.{Accumulator, AddressSize, Assignment, Automatic, Code, Data, Datum, Define, DifferenceValue, Direct, DirectX, DirectY, Directive, Empty, Form, High, Immediate, Indirect, IndirectX, IndirectY, Instr, IsDatum, IsItem, IsList, IsMinus, IsPlus, IsSpelling, IsValue, Item, Language, Listing, Low, Mark, Minus, Mnemonic, NameValue, Nothing, Number, NumberDatum, NumberValue, One, Operation, Part, PlaceAssignment, Repair, Reserve, Segment, SetCpu, SourceLine, Spells, Statement, StringDatum, Two, Value, Values, Word, Zero, codes, constant_of, data_list, data_of, define, directive_text, form_items, further_at, immediate_of, inner_at, is_absolute, is_define, is_difference, is_equals, is_mark, is_name, is_nil, is_word_here, joined, less_one, line_at, mark, mark_datum, name, named_at, next_address, next_datum, next_half, next_value, number, number_at, number_datum, operand_in, operation_at, operation_items, other_at, prefix_items, quoted_name, reading_of, reserve_of, same, segment_of, set_cpu_of, sized, string, tail_at, text_in, text_of, unwritten, value, value_list, values_of, whole, word, word_datum}
+use Rattle.stmt65.proofs.Lemmas.{List, None, Option, Some, [], ap, append-nil, append_assoc, arith, bytes_eq-Decides, eqb, false, inl, inr, length, length-append, refl, suc, sym, true, zero, ℕ, ◌∙◌}
+use Rattle.stmt65.specs.Words.{Accumulator, Adc, AddressSize, Assignment, Automatic, Code, Data, Datum, Define, DifferenceValue, Direct, DirectX, DirectY, Directive, Empty, Form, High, Immediate, Indirect, IndirectX, IndirectY, Instr, IsDatum, IsItem, IsList, IsMinus, IsPlus, IsSpelling, IsValue, Item, Language, Listing, Low, Mark, Minus, Mnemonic, NameValue, Nothing, Number, NumberDatum, NumberValue, One, Operation, Part, PlaceAssignment, Repair, Reserve, Segment, SetCpu, SourceLine, Spells, Statement, StringDatum, Two, Value, Values, Word, Zero, codes, constant_of, data_list, data_of, define, directive_named, directive_text, form_items, further_at, immediate_of, inner_at, is_absolute, is_define, is_difference, is_equals, is_mark, is_name, is_nil, is_word_here, joined, less_one, line_at, mark, mark_datum, mnemonic_named, name, named_at, next_address, next_datum, next_half, next_value, number, number_at, number_datum, operand_in, operation_at, operation_items, other_at, prefix_items, quoted_name, reading_of, reserve_of, same, segment_of, set_cpu_of, sized, str_to_ascii_lowercase, string, tail_at, text_in, text_of, unwritten, value, value_list, values_of, whole, word, word_datum, ◌>>=◌}
 use Rattle.stmt65.specs.declared.source_line.AddressSize.TheVariants.{Absolute}
 use Rattle.stmt65.specs.declared.source_line.Minus.TheVariants.{One as MinusOne}
 use Rattle.stmt65.specs.declared.source_line.Notation.TheVariants as notation
 use Rattle.stmt65.specs.Parts.{number_of}
 use Rattle.stmt65.specs.Reading.{form_of, operation_of}
-use Rattle.stmt65.proofs.Cases.{by_test, HasNoDot, other, no_letter, no_dot, mnemonic_again, directive_again, no_directive, no_directives}
+use Rattle.stmt65.specs.declared.directive.Directive.TheVariants as directive
+use Rattle.stmt65.proofs.Cases.{by_test, no_letter}
 
 -- ---- items in front
 
@@ -129,7 +130,8 @@ direct_y : (l : Language) (size : AddressSize) (v : Value) (ps : List Part) → 
 unfolding tail_at
 direct_y l size v ps h =
     direct l size v _ ps _ h (λ rest g. let c = un_mark 44 _ rest g in let y = un_word (codes "y") [] c.0 c.2 in
-    rw (c.1, y.2, nothing_left y.1 y.4) (stops_mark 44 _ refl refl, rw (other y.0 (codes "y") (codes "x") y.3 refl, y.3) refl))
+    let e : str_to_ascii_lowercase y.0 ≡ str_to_ascii_lowercase (codes "y") = (bytes_eq-Decides _ _).0 y.3 in
+    rw (c.1, y.2, nothing_left y.1 y.4) (stops_mark 44 _ refl refl, rw e refl))
 
 form_again : (l : Language) (f : Form) (ps : List Part) → Spells (form_items f) ps → form_of l ps ≡ Some f
 unfolding form_of immediate_of tail_at inner_at
@@ -175,44 +177,42 @@ abbrev pub read_in : Language → Operation → Operation
 read_in l (Instr m f) = Instr m (operand_in l m f)
 read_in l o = o
 
--- a mnemonic is an instruction in either language
-instruction_again : (l : Language) (w : List ℕ) (m : Mnemonic) (f : Form) (ps : List Part) → same w (text_of m) ≡ true → form_of l ps ≡ Some f → other_at l w ps ≡ Some (Instr m (operand_in l m f))
-unfolding other_at further_at
-instruction_again l w m f ps e g = go l g
-  where
-    d : HasNoDot (text_of m)
-    d = no_dot m
+-- words that differ in letter case alone begin the same operation
+alike : (l : Language) (w t : List ℕ) (ps : List Part) → same w t ≡ true → operation_at l w ps ≡ operation_at l t ps
+unfolding operation_at other_at further_at directive_named mnemonic_named
+alike Listing w t ps h = let e : str_to_ascii_lowercase w ≡ str_to_ascii_lowercase t = (bytes_eq-Decides _ _).0 h in rw e refl
+alike Repair w t ps h = let e : str_to_ascii_lowercase w ≡ str_to_ascii_lowercase t = (bytes_eq-Decides _ _).0 h in rw e refl
 
-    not : (t : List ℕ) → same (text_of m) t ≡ false → same w t ≡ false
-    not t h = other w (text_of m) t e h
+-- a mnemonic begins an instruction, and a directive its numbers
+instruction_again : (l : Language) (m : Mnemonic) (ps : List Part) → operation_at l (text_of m) ps ≡ (form_of l ps >>= λ f. Some (Instr m (operand_in l m f)))
+unfolding operation_at other_at further_at directive_named mnemonic_named
+instruction_again Listing Adc ps = refl
+instruction_again Listing _ ps = refl
+instruction_again Repair Adc ps = refl
+instruction_again Repair _ ps = refl
 
-    go : (l : Language) → form_of l ps ≡ Some f → other_at l w ps ≡ Some (Instr m (operand_in l m f))
-    go Listing g = rw (not (codes ".byte") d.byte, not (codes ".segment") d.segment, not (codes ".code") d.code, not (codes ".setcpu") d.set_cpu, mnemonic_again w m e, g) refl
-    go Repair g = rw (not (codes ".byte") d.byte, not (codes ".segment") d.segment, not (codes ".code") d.code, not (codes ".setcpu") d.set_cpu, not (codes ".lobytes") d.low_bytes, not (codes ".hibytes") d.high_bytes, not (codes ".res") d.reserve, mnemonic_again w m e, g) refl
+values_again : (l : Language) (d : Directive) (ps : List Part) → operation_at l (directive_text d) ps ≡ values_of l d ps
+unfolding operation_at directive_named
+values_again l directive.Word ps = refl
+values_again l _ ps = refl
+
+-- an operation that begins with this word
+begun_again : (l : Language) (text : List ℕ) (is : List Item) (ps : List Part) (o : Operation) → Spells (word text ∷ is) ps → ((rest : List Part) → Spells is rest → operation_at l text rest ≡ Some o) → operation_of l ps ≡ Some o
+unfolding operation_of
+begun_again l text is ps o h k = let w = un_word text is ps h in rw w.2 (alike l w.0 text w.1 w.3 ∙ k w.1 w.4)
 
 operation_again : (l : Language) (o : Operation) (ps : List Part) → Spells (operation_items o) ps → operation_of l ps ≡ Some (read_in l o)
-unfolding operation_of operation_at other_at text_in
+unfolding operation_of operation_at other_at directive_named text_in
 operation_again l Nothing ps h = rw (nothing_left ps h) refl
-operation_again l (Instr m f) ps h =
-    let w = un_word (text_of m) (form_items f) ps h in
-    rw w.2 (rw (no_directive w.0 (text_of m) w.3 (no_dot m).directive) (instruction_again l w.0 m f w.1 w.3 (form_again l f w.1 w.4)))
+operation_again l (Instr m f) ps h = begun_again l (text_of m) (form_items f) ps _ h (λ rest g. instruction_again l m rest ∙ rw (form_again l f rest g) refl)
 operation_again l (Data xs) ps h =
-    let w = un_word (codes ".byte") (data_list xs ∷ []) ps h in
-    rw (w.2, no_directive w.0 _ w.3 no_directives.0, w.3, joined_again IsDatum (next_datum l) (datum_again l) xs (length w.1) w.1 (un_last (data_list xs) w.1 w.4) (omega arith)) refl
+    begun_again l (codes ".byte") _ ps _ h (λ rest g. rw (joined_again IsDatum (next_datum l) (datum_again l) xs (length rest) rest (un_last (data_list xs) rest g) (omega arith)) refl)
 operation_again l (Values d vs) ps h =
-    let w = un_word (directive_text d) (value_list vs ∷ []) ps h in
-    rw (w.2, directive_again w.0 d w.3, joined_again IsValue (next_value l) (value_again l) vs (length w.1) w.1 (un_last (value_list vs) w.1 w.4) (omega arith)) refl
+    begun_again l (directive_text d) _ ps _ h (λ rest g. values_again l d rest ∙ rw (joined_again IsValue (next_value l) (value_again l) vs (length rest) rest (un_last (value_list vs) rest g) (omega arith)) refl)
 operation_again l (Reserve n v) ps h = absurd (un_last unwritten ps h)
-operation_again l (Segment t) ps h =
-    let w = un_word (codes ".segment") (quoted_name t ∷ []) ps h in
-    let q = un_last (quoted_name t) w.1 w.4 in
-    rw (w.2, no_directive w.0 _ w.3 no_directives.1, other w.0 (codes ".segment") (codes ".byte") w.3 refl, w.3, q.1, q.0) refl
-operation_again l Code ps h =
-    let w = un_word (codes ".code") [] ps h in
-    rw (w.2, no_directive w.0 _ w.3 no_directives.2, other w.0 (codes ".code") (codes ".byte") w.3 refl, other w.0 (codes ".code") (codes ".segment") w.3 refl, w.3, nothing_left w.1 w.4) refl
-operation_again l (SetCpu t) ps h =
-    let w = un_word (codes ".setcpu") (string t ∷ []) ps h in
-    rw (w.2, no_directive w.0 _ w.3 no_directives.3, other w.0 (codes ".setcpu") (codes ".byte") w.3 refl, other w.0 (codes ".setcpu") (codes ".segment") w.3 refl, other w.0 (codes ".setcpu") (codes ".code") w.3 refl, w.3, un_last (string t) w.1 w.4) refl
+operation_again l (Segment t) ps h = begun_again l (codes ".segment") _ ps _ h (λ rest g. let q = un_last (quoted_name t) rest g in rw (q.1, q.0) refl)
+operation_again l Code ps h = begun_again l (codes ".code") [] ps _ h (λ rest g. rw (nothing_left rest g) refl)
+operation_again l (SetCpu t) ps h = begun_again l (codes ".setcpu") _ ps _ h (λ rest g. rw (un_last (string t) rest g) refl)
 
 -- a word with which nothing can go on is no operation
 none_at : (l : Language) (w : List ℕ) (ps : List Part) → ((d : Directive) → values_of l d ps ≡ None) → data_of (next_datum l) ps ≡ None → data_of (next_half Low) ps ≡ None → data_of (next_half High) ps ≡ None
