@@ -3,7 +3,7 @@ pub use Rattle.stmt65.specs.Types.{ALL, Abs, Absindx, AbsoluteX, AbsoluteY, Absx
 unfoldable pub use Rattle.stmt65.specs.Types.{cpu_named, has_name_form, is_reserved_word, mnemonic_named, text_lines}
 pub use Rattle.stmt65.specs.Answer.{Assembles, IsExplained, out_of_memory}
 pub use Rattle.stmt65.specs.Code.CodingViews.{Adds, AddsOne, Emits, IsFirstOf, IsFirstWay, Puts, PutsAll, coded_of, data_fragments, entry_fragments, fragment_of, instruction_of, operand_of}
-pub use Rattle.stmt65.specs.Code.Found.{Gives, GivesIfOk, Reads}
+pub use Rattle.stmt65.specs.Code.Found.{Eats, Gives, GivesIfOk, Reads}
 pub use Rattle.stmt65.specs.Code.Held.{capped, held}
 pub use Rattle.stmt65.specs.Code.LateViews.{AreFirstOf, Codes, Follows, GoesOn, IsFaulty, IsIdle, IsLeft, IsOf, IsPassed, IsSound, Keeps, PassesOver, Settles, Takes, late_line, said_of, state_in, work_end, work_of}
 unfoldable pub use Rattle.stmt65.specs.Code.LateViews.{coded_late, fronts}
@@ -41,7 +41,7 @@ unfoldable pub use Rattle.stmt65.specs.Names.{is_name}
 pub use Rattle.stmt65.specs.Operands.{in_pattern, in_row, kind_text, kind_texts, long_text, named_text, prefix_text, row_operands}
 unfoldable pub use Rattle.stmt65.specs.Operands.{operand_text}
 pub use Rattle.stmt65.specs.Parts.{Define, Mark, Number, Part, Text, Word, begins_with}
-pub use Rattle.stmt65.specs.Places.{GoesOver, IsAmong, IsRemarkOf, ReadsAs, StandsIn, bytes_in, parts_left, value_alone, part_text}
+pub use Rattle.stmt65.specs.Places.{GoesOver, IsAmong, IsRemarkOf, ReadsAs, StandsIn, bytes_in, part_text, parts_left, value_alone}
 pub use Rattle.stmt65.specs.Printable.{AreOperands, IsLong, IsNameLong, IsOperand, IsPrintable, IsTable, IsWrittenIn, MayBeForced, MayBeLabelled, TakesLabel}
 pub use Rattle.stmt65.specs.Printed.{HasLabelName, HasName, HasNames, HasNamesIn, PrintsAs, ReadsBack, address_size, entry_value, row_form, source_line, source_value, with_label}
 unfoldable pub use Rattle.stmt65.specs.Printed.{source_form}

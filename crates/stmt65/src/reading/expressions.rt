@@ -1,8 +1,7 @@
 //! Expressions: a number, the sum of two, a name with an optional number added and an optional `-1`, a name less a
 //! number, or the difference of two names; and what is an address or is halved.
 
-ghost use Rattle.std.specs.Prelude.{◌≡◌, ◌≤◌};
-ghost use Rattle.stmt65.specs.Words.{Reads, bracketed_in, halved_in, length, less_at, less_one, named_at, next_address, next_value, number_at, numeral_of, value_of};
+ghost use Rattle.stmt65.specs.Words.{Reads, bracketed_in, halved_in, less_at, less_one, named_at, next_address, next_value, number_at, numeral_of, value_of};
 
 use crate::language::Language;
 use crate::reading::lexer::Part;
@@ -13,8 +12,7 @@ use crate::source_line::{Minus, Value};
 
 /// After a name and `-`: in a repair a number or another name.
 fn less_at<'a>(language: Language, name: &'a [u8], parts: &mut Parts<'a>) -> Option<Value<'a>>
-    ensures read { Reads value_of result (less_at language name.now parts.old) parts.new }
-    ensures fewer { length parts.new ≤ length parts.old }
+    ensures { Reads value_of result (less_at language name.now) parts.old parts.new }
 {
     if language == Language::Listing {
         return None;
@@ -34,8 +32,7 @@ fn less_one<'a>(
     plus: Numeral<'a>,
     parts: &mut Parts<'a>,
 ) -> Option<Value<'a>>
-    ensures read { Reads value_of result (less_one language name.now (numeral_of plus.entry) parts.old) parts.new }
-    ensures fewer { length parts.new ≤ length parts.old }
+    ensures { Reads value_of result (less_one language name.now (numeral_of plus.entry)) parts.old parts.new }
 {
     if !parts.eat(b'-') {
         return Some(Value::Name(name, plus, Minus::Zero));
@@ -49,8 +46,7 @@ fn less_one<'a>(
 /// After a name.
 #[tactic(auto, unfolding(crate::specs::Reading::named_at))]
 pub fn named_at<'a>(language: Language, name: &'a [u8], parts: &mut Parts<'a>) -> Option<Value<'a>>
-    ensures read { Reads value_of result (named_at language name.now parts.old) parts.new }
-    ensures fewer { length parts.new ≤ length parts.old }
+    ensures { Reads value_of result (named_at language name.now) parts.old parts.new }
 {
     if !parts.eat(b'+') {
         return less_one(language, name, Numeral::zero(), parts);
@@ -65,9 +61,7 @@ fn number_at<'a>(
     number: Numeral<'a>,
     parts: &mut Parts<'a>,
 ) -> Option<Value<'a>>
-    ensures read { Reads value_of result
-        (number_at language (numeral_of number.entry) parts.old) parts.new }
-    ensures fewer { length parts.new ≤ length parts.old }
+    ensures { Reads value_of result (number_at language (numeral_of number.entry)) parts.old parts.new }
 {
     if language == Language::Listing || !parts.eat(b'+') {
         return Some(Value::Number(number));
@@ -79,8 +73,7 @@ fn number_at<'a>(
 /// The next expression.
 #[tactic(auto, unfolding(crate::specs::Reading::next_value))]
 pub fn next_value<'a>(language: Language, parts: &mut Parts<'a>) -> Option<Value<'a>>
-    ensures read { Reads value_of result (next_value language parts.old) parts.new }
-    ensures fewer { length parts.new ≤ length parts.old }
+    ensures { Reads value_of result (next_value language) parts.old parts.new }
 {
     match parts.next()? {
         Part::Number(text) => number_at(language, Numeral { text }, parts),
@@ -91,8 +84,7 @@ pub fn next_value<'a>(language: Language, parts: &mut Parts<'a>) -> Option<Value
 
 /// The address in an operand: any expression but a difference of names.
 pub fn next_address<'a>(language: Language, parts: &mut Parts<'a>) -> Option<Value<'a>>
-    ensures read { Reads value_of result (next_address language parts.old) parts.new }
-    ensures fewer { length parts.new ≤ length parts.old }
+    ensures { Reads value_of result (next_address language) parts.old parts.new }
 {
     let value = next_value(language, parts)?;
     if language == Language::Repair && matches!(value, Value::Difference(_, _)) {
@@ -103,8 +95,7 @@ pub fn next_address<'a>(language: Language, parts: &mut Parts<'a>) -> Option<Val
 
 /// An expression and `)`.
 fn bracketed_in<'a>(parts: &mut Parts<'a>) -> Option<Value<'a>>
-    ensures read { Reads value_of result (bracketed_in parts.old) parts.new }
-    ensures fewer { length parts.new ≤ length parts.old }
+    ensures { Reads value_of result bracketed_in parts.old parts.new }
 {
     let value = next_value(Language::Repair, parts)?;
     parts.eat(b')').then_some(value)
@@ -113,8 +104,7 @@ fn bracketed_in<'a>(parts: &mut Parts<'a>) -> Option<Value<'a>>
 /// What `<` and `>` take: a number, a name, or an expression in parentheses.
 #[tactic(auto, unfolding(crate::specs::Reading::halved_in))]
 pub fn halved_in<'a>(parts: &mut Parts<'a>) -> Option<Value<'a>>
-    ensures read { Reads value_of result (halved_in parts.old) parts.new }
-    ensures fewer { length parts.new ≤ length parts.old }
+    ensures { Reads value_of result halved_in parts.old parts.new }
 {
     match parts.next()? {
         Part::Number(text) => Some(Value::Number(Numeral { text })),

@@ -1,7 +1,7 @@
 //! Operations: a mnemonic with its operand, or an operation of the assembler.
 
-ghost use Rattle.std.specs.Prelude.{◌≡◌, ◌≤◌};
-ghost use Rattle.stmt65.specs.Words.{Gives, GivesIfOk, List, Option, Part, Reads, data_of, datum_of, further_at, half_datum, length, list_of, map, mark_datum, next_datum, next_half, number_datum, numeral_of, operand_in, operation_at, other_at, reserve_of, segment_of, takes_accumulator, text_in, word_datum};
+ghost use Rattle.std.specs.Prelude.{◌≡◌};
+ghost use Rattle.stmt65.specs.Words.{Gives, GivesIfOk, List, Option, Part, Reads, data_of, datum_of, further_at, half_datum, list_of, map, mark_datum, next_datum, next_half, number_datum, numeral_of, operand_in, operation_at, other_at, reserve_of, segment_of, takes_accumulator, text_in, word_datum};
 ghost use Rattle.stmt65.specs.Code.SourceLineViews.{form_of as form_of_code, operation_of as operation_of_code};
 ghost use Rattle.stmt65.specs.Reading.{instruction_of, operation_of};
 
@@ -29,8 +29,7 @@ trait Listed<'a, R>: Sized {
 
     /// Takes the next of it.
     fn next_in(rule: R, parts: &mut Parts<'a>) -> Option<Self>
-        ensures read { Reads seen result (first_in rule parts.old) parts.new }
-        ensures fewer { length parts.new ≤ length parts.old };
+        ensures { Reads seen result (first_in rule) parts.old parts.new };
 }
 
 impl<'a> Listed<'a, Language> for Datum<'a> {
@@ -87,8 +86,7 @@ impl<'a> Listed<'a, Half> for Datum<'a> {
 /// After a word as an operand of `.byte`: in a repair an expression with this name.
 #[tactic(auto, unfolding(crate::specs::Reading::word_datum))]
 fn word_datum<'a>(language: Language, word: &'a [u8], parts: &mut Parts<'a>) -> Option<Datum<'a>>
-    ensures read { Reads datum_of result (word_datum language word.now parts.old) parts.new }
-    ensures fewer { length parts.new ≤ length parts.old }
+    ensures { Reads datum_of result (word_datum language word.now) parts.old parts.new }
 {
     if language == Language::Listing || !is_name(word) {
         return None;
@@ -99,8 +97,7 @@ fn word_datum<'a>(language: Language, word: &'a [u8], parts: &mut Parts<'a>) -> 
 
 /// After `<` or `>`.
 fn half_datum<'a>(half: Half, parts: &mut Parts<'a>) -> Option<Datum<'a>>
-    ensures read { Reads datum_of result (half_datum half parts.old) parts.new }
-    ensures fewer { length parts.new ≤ length parts.old }
+    ensures { Reads datum_of result (half_datum half) parts.old parts.new }
 {
     let value = halved_in(parts)?;
     Some(Datum::Half(half, value))
@@ -109,8 +106,7 @@ fn half_datum<'a>(half: Half, parts: &mut Parts<'a>) -> Option<Datum<'a>>
 /// After a byte by itself as an operand of `.byte`: in a repair a half.
 #[tactic(auto, unfolding(crate::specs::Reading::mark_datum))]
 fn mark_datum<'a>(language: Language, mark: u8, parts: &mut Parts<'a>) -> Option<Datum<'a>>
-    ensures read { Reads datum_of result (mark_datum language mark parts.old) parts.new }
-    ensures fewer { length parts.new ≤ length parts.old }
+    ensures { Reads datum_of result (mark_datum language mark) parts.old parts.new }
 {
     if language == Language::Listing {
         return None;
@@ -128,9 +124,7 @@ fn number_datum<'a>(
     number: Numeral<'a>,
     parts: &mut Parts<'a>,
 ) -> Option<Datum<'a>>
-    ensures read { Reads datum_of result
-        (number_datum language (numeral_of number.entry) parts.old) parts.new }
-    ensures fewer { length parts.new ≤ length parts.old }
+    ensures { Reads datum_of result (number_datum language (numeral_of number.entry)) parts.old parts.new }
 {
     if language == Language::Listing || !parts.eat(b'+') {
         return Some(Datum::Number(number));

@@ -1,7 +1,7 @@
 //! A cursor over the parts of a line.
 
 ghost use Rattle.std.specs.Prelude.{◌∷◌, ◌≡◌, ◌≤◌};
-ghost use Rattle.stmt65.specs.Words.{MatchOption, OnFalse, OnTrue, Reads, [], drop, is_define, is_mark, is_nil, is_number_here, is_word_here, length, number_in, numeral_of, part_of, parts};
+ghost use Rattle.stmt65.specs.Words.{Eats, MatchOption, Reads, [], is_define, is_mark, is_nil, is_number_here, is_word_here, length, number_in, numeral_of, part_of, parts};
 
 use crate::language::Language;
 use crate::reading::lexer::{Part, first_part};
@@ -53,39 +53,23 @@ impl<'a> Parts<'a> {
         ensures fewer { length self.new ≤ length self.old }
     {
         let part = self.first?;
-        self.pass();
+        *self = Parts::new(self.language, self.rest);
         Some(part)
-    }
-
-    /// Passes over the next part, if there is one.
-    fn pass(&mut self)
-        ensures left { self.new ≡ drop 1 self.old }
-        ensures fewer { length self.new ≤ length self.old }
-    {
-        if self.first.is_some() {
-            *self = Parts::new(self.language, self.rest);
-        }
     }
 
     /// Passes over the next part if it is the one that is looked for, and returns whether it is.
     fn pass_if(&mut self, is_here: bool) -> bool
-        ensures value { result ≡ is_here }
-        ensures taken { OnTrue is_here (self.new ≡ drop 1 self.old) }
-        ensures left { OnFalse is_here (self.new ≡ self.old) }
-        ensures fewer { length self.new ≤ length self.old }
+        ensures { Eats (λ parts. is_here) self.old result self.new }
     {
         if is_here {
-            self.pass();
+            let _passed = self.next();
         }
         is_here
     }
 
     /// Takes the next part if it is this byte by itself.
     pub fn eat(&mut self, mark: u8) -> bool
-        ensures value { result ≡ is_mark mark self.old }
-        ensures taken { OnTrue result (self.new ≡ drop 1 self.old) }
-        ensures left { OnFalse result (self.new ≡ self.old) }
-        ensures fewer { length self.new ≤ length self.old }
+        ensures { Eats (is_mark mark) self.old result self.new }
     {
         let is_here = matches!(self.first, Some(Part::Mark(b)) if b == mark);
         self.pass_if(is_here)
@@ -93,10 +77,7 @@ impl<'a> Parts<'a> {
 
     /// Takes the next part if it is this word, in any letter case.
     pub fn eat_word(&mut self, word: &[u8]) -> bool
-        ensures value { result ≡ is_word_here word.now self.old }
-        ensures taken { OnTrue result (self.new ≡ drop 1 self.old) }
-        ensures left { OnFalse result (self.new ≡ self.old) }
-        ensures fewer { length self.new ≤ length self.old }
+        ensures { Eats (is_word_here word.now) self.old result self.new }
     {
         let is_here = matches!(self.first, Some(Part::Word(w)) if w.eq_ignore_ascii_case(word));
         self.pass_if(is_here)
@@ -104,10 +85,7 @@ impl<'a> Parts<'a> {
 
     /// Takes the next part if it is a number that is written so.
     pub fn eat_number(&mut self, text: &[u8]) -> bool
-        ensures value { result ≡ is_number_here text.now self.old }
-        ensures taken { OnTrue result (self.new ≡ drop 1 self.old) }
-        ensures left { OnFalse result (self.new ≡ self.old) }
-        ensures fewer { length self.new ≤ length self.old }
+        ensures { Eats (is_number_here text.now) self.old result self.new }
     {
         let is_here = match self.first {
             Some(Part::Number(t)) => t == text,
@@ -118,10 +96,7 @@ impl<'a> Parts<'a> {
 
     /// Takes the next part if it is `:=`.
     pub fn eat_define(&mut self) -> bool
-        ensures value { result ≡ is_define self.old }
-        ensures taken { OnTrue result (self.new ≡ drop 1 self.old) }
-        ensures left { OnFalse result (self.new ≡ self.old) }
-        ensures fewer { length self.new ≤ length self.old }
+        ensures { Eats is_define self.old result self.new }
     {
         let is_here = matches!(self.first, Some(Part::Define));
         self.pass_if(is_here)
@@ -129,8 +104,7 @@ impl<'a> Parts<'a> {
 
     /// Takes the next part if it is a number.
     pub fn number(&mut self) -> Option<Numeral<'a>>
-        ensures read { Reads numeral_of result (number_in self.old) self.new }
-        ensures fewer { length self.new ≤ length self.old }
+        ensures { Reads numeral_of result number_in self.old self.new }
     {
         match self.next()? {
             Part::Number(text) => Some(Numeral { text }),
