@@ -5,7 +5,6 @@ mod ListLemmas
 mod Cases
 mod EndLemmas
 mod SpacingLemmas
-mod PlaceLemmas
 mod ReadIsSpelled
 mod SpelledIsRead
 mod LineLemmas

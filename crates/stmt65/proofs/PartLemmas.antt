@@ -1,7 +1,9 @@
--- The parts of a line, step by step.
-use Rattle.std.specs.Prelude.{◌+◌, ◌-◌, ◌<◌, ◌∷◌, ◌≡◌, ◌≢◌}
-use Rattle.stmt65.proofs.Lemmas.{List, [], add-one, ap, arith, drop, eqb, false, get_or, length, lt-ltb, ne_eqb, refl, suc, take, take_rest, true, zero, ℕ, ◌∙◌}
-use Rattle.stmt65.specs.Words.{Language, Number, Part, Word, hex_len, is_ascii_digit, is_blank, is_word_byte, is_word_start, nat_lt, part_at, parts, parts_after, prefix_len}
+-- The parts of a line, step by step, and where they stand.
+use Rattle.std.specs.Prelude.{◌&&◌, ◌++◌, ◌+◌, ◌-◌, ◌<◌, ◌==◌, ◌∷◌, ◌≡◌, ◌≢◌}
+use Rattle.stmt65.proofs.Lemmas.{List, [], add-one, and_parts, ap, arith, drop, drop-drop, eqb, eqb-true, false, get_or, length, length-drop, lt-ltb, ne_eqb, refl, suc, sym, take, take_rest, true, zero, ℕ, ◌∙◌}
+use Rattle.stmt65.specs.Words.{Language, Listing, Number, Part, Repair, Word, alone_at, begins_with, hex_len, is_ascii_digit, is_blank, is_text_byte, is_word_byte, is_word_start, nat_lt, part_at, part_text, parts, parts_after, prefix_len}
+use Rattle.stmt65.specs.Signs.{colon, dollar, equals, quote}
+use Rattle.stmt65.proofs.Cases.{by_test}
 
 pub parts_after-drop : (l : Language) (skip : ℕ) (bs : List ℕ) → parts_after l skip bs ≡ parts l (drop skip bs)
 unfolding parts_after
@@ -25,16 +27,83 @@ pub parts_part : (l : Language) (b : ℕ) (bs : List ℕ) → is_blank b ≡ fal
 unfolding parts_after
 parts_part l b bs h g = rw (h, g) (ap (λ (ps : List Part). (part_at l b bs).0 ∷ ps) (parts_after-drop l (part_at l b bs).1 bs))
 
--- ---- the same for a slice and its places
+-- ---- blanks in front
 
-pub parts_here : (l : Language) (bytes : List ℕ) → 0 < length bytes → is_blank (get_or bytes 0 0) ≡ false → get_or bytes 0 0 ≢ 59 → parts l bytes ≡ (part_at l (get_or bytes 0 0) (drop 1 bytes)).0 ∷ parts l (drop ((part_at l (get_or bytes 0 0) (drop 1 bytes)).1 + 1) bytes)
-parts_here l [] lt h g = absurd (omega arith)
-parts_here l (b ∷ bs) lt h g = rw add-one (parts_part l b bs h (ne_eqb b 59 g))
+one_more : (b n : ℕ) (bs : List ℕ) → drop (1 + n) (b ∷ bs) ≡ drop n bs
+one_more b n bs = let e : 1 + n ≡ suc n = omega arith in rw e refl
 
-pub parts_blank_here : (l : Language) (bytes : List ℕ) (i : ℕ) → i < length bytes → is_blank (get_or bytes i 0) ≡ true → parts l (drop i bytes) ≡ parts l (drop (i + 1) bytes)
-parts_blank_here l [] i lt h = absurd (omega arith)
-parts_blank_here l (b ∷ bs) zero lt h = parts_blank l b bs h
-parts_blank_here l (b ∷ bs) (suc i) lt h = grind (arith, (parts_blank_here l bs i (omega arith) h), add-one)
+after_blank : (b : ℕ) (bs : List ℕ) → is_blank b ≡ true → drop (prefix_len is_blank (b ∷ bs)) (b ∷ bs) ≡ drop (prefix_len is_blank bs) bs
+after_blank b bs e = rw e (one_more b (prefix_len is_blank bs) bs)
+
+-- blanks at the beginning are no parts
+parts_begin : (l : Language) (bs : List ℕ) → parts l (drop (prefix_len is_blank bs) bs) ≡ parts l bs
+parts_begin l [] = refl
+parts_begin l (b ∷ bs) = by_test (is_blank b) (λ e. ap (parts l) (after_blank b bs e) ∙ parts_begin l bs ∙ sym (parts_blank l b bs e)) (λ e. rw e refl)
+
+-- what follows them is none
+no_blank : (bs : List ℕ) → 0 < length (drop (prefix_len is_blank bs) bs) → is_blank (get_or (drop (prefix_len is_blank bs) bs) 0 0) ≡ false
+no_blank [] lt = absurd (omega arith)
+no_blank (b ∷ bs) lt = by_test (is_blank b) (λ e. let f = after_blank b bs e in rw f (no_blank bs (rw f at lt))) (λ e. rw e e)
+
+-- the same of a slice
+pub slice_parts : (l : Language) (bytes : List ℕ) (n : ℕ) → n ≡ prefix_len is_blank bytes → parts l (take (length bytes - n) (drop n bytes)) ≡ parts l bytes
+slice_parts l bytes n e = rw (take_rest, e) (parts_begin l bytes)
+
+pub slice_stop : (bytes : List ℕ) (n : ℕ) → n ≡ prefix_len is_blank bytes → 0 < length (take (length bytes - n) (drop n bytes)) → is_blank (get_or (take (length bytes - n) (drop n bytes)) 0 0) ≡ false
+slice_stop bytes n e some = let some' = rw take_rest at some in rw (take_rest, e) (no_blank bytes (rw e at some'))
+
+pub ruleset after_blanks = (slice_parts, slice_stop)
+
+-- ---- what a part is written with
+
+take_one : (b n : ℕ) (bs : List ℕ) → b ∷ take n bs ≡ take (n + 1) (b ∷ bs)
+take_one b n bs = rw add-one refl
+
+-- one byte more
+take_next : (c n : ℕ) (bs : List ℕ) → begins_with c (drop n bs) ≡ true → take n bs ++ c ∷ [] ≡ take (n + 1) bs
+take_next c zero [] h = absurd cc
+take_next c (suc n) [] h = absurd cc
+take_next c zero (b ∷ bs) h = ap (λ (x : ℕ). x ∷ []) (sym (eqb-true b c h))
+take_next c (suc n) (b ∷ bs) h = rw add-one (ap (λ (xs : List ℕ). b ∷ xs) (take_next c n bs h ∙ ap (λ (k : ℕ). take k bs) (add-one n)))
+
+define_text : (b : ℕ) (bs : List ℕ) → b ≡ 58 → begins_with 61 bs ≡ true → 58 ∷ 61 ∷ [] ≡ take 2 (b ∷ bs)
+define_text b [] e h = absurd cc
+define_text b (c ∷ bs) e h = rw (e, eqb-true c 61 h) refl
+
+quoted_text : (b n : ℕ) (bs : List ℕ) → b ≡ 34 → begins_with 34 (drop n bs) ≡ true → 34 ∷ (take n bs ++ 34 ∷ []) ≡ take ((n + 1) + 1) (b ∷ bs)
+quoted_text b n bs e h = ap (λ (xs : List ℕ). 34 ∷ xs) (take_next 34 n bs h) ∙ rw e (take_one 34 (n + 1) bs)
+
+alone_text : (l : Language) (b : ℕ) (bs : List ℕ) → part_text (alone_at l b bs).0 ≡ take ((alone_at l b bs).1 + 1) (b ∷ bs)
+alone_text Listing b bs = refl
+alone_text Repair b bs = grind (arith, by_test, take_one)
+
+text_at : (l : Language) (b : ℕ) (bs : List ℕ) → part_text (part_at l b bs).0 ≡ take ((part_at l b bs).1 + 1) (b ∷ bs)
+unfolding part_at
+text_at l b bs =
+    by_test (is_word_start b)
+    (λ e. rw e (take_one b _ bs))
+    (λ e. rw e (by_test (is_ascii_digit b)
+    (λ d. rw d (take_one b _ bs))
+    (λ d. rw d (by_test ((b == dollar) && nat_lt 0 (hex_len bs))
+    (λ x. rw x (take_one b (hex_len bs) bs))
+    (λ x. rw x (by_test ((b == quote) && begins_with quote (drop (prefix_len is_text_byte bs) bs))
+    (λ q. let two = and_parts (b == quote) (begins_with quote (drop (prefix_len is_text_byte bs) bs)) q in
+    rw q (quoted_text b (prefix_len is_text_byte bs) bs (eqb-true b quote two.0) two.1))
+    (λ q. rw q (by_test ((b == colon) && begins_with equals bs)
+    (λ c. let two = and_parts (b == colon) (begins_with equals bs) c in
+    rw c (define_text b bs (eqb-true b colon two.0) two.1))
+    (λ c. rw c (alone_text l b bs))))))))))
+
+-- ---- the part with which a slice begins
+
+pub part_text_here : (l : Language) (bytes : List ℕ) (p : Part) (more : ℕ) → 0 < length bytes → p ≡ (part_at l (get_or bytes 0 0) (drop 1 bytes)).0 → more ≡ (part_at l (get_or bytes 0 0) (drop 1 bytes)).1 → part_text p ≡ take (more + 1) bytes
+part_text_here l [] p more lt e f = absurd (omega arith)
+part_text_here l (b ∷ bs) p more lt e f = rw (e, f) (text_at l b bs)
+
+pub part_step : (l : Language) (bytes : List ℕ) (p : Part) (more : ℕ) → 0 < length bytes → (0 < length bytes → is_blank (get_or bytes 0 0) ≡ false) → get_or bytes 0 0 ≢ 59
+    → p ≡ (part_at l (get_or bytes 0 0) (drop 1 bytes)).0 → more ≡ (part_at l (get_or bytes 0 0) (drop 1 bytes)).1 → parts l bytes ≡ p ∷ parts l (drop (more + 1) bytes)
+part_step l [] p more lt blank remark e f = absurd (omega arith)
+part_step l (b ∷ bs) p more lt blank remark e f = rw (e, f, add-one) (parts_part l b bs (blank lt) (ne_eqb b 59 remark))
 
 pub parts_at_end : (l : Language) (bytes : List ℕ) → length bytes ≡ 0 → parts l bytes ≡ []
 parts_at_end l [] h = parts_nil l
@@ -44,12 +113,7 @@ pub parts_at_remark : (l : Language) (bytes : List ℕ) → 0 < length bytes →
 parts_at_remark l [] lt h = absurd (omega arith)
 parts_at_remark l (b ∷ bs) lt h = ap (λ (c : ℕ). parts l (c ∷ bs)) h ∙ parts_remark l bs
 
-pub ruleset lexing = (parts_here, parts_blank_here, parts_at_end, parts_at_remark)
-
-pub first_step : (l : Language) (bytes : List ℕ) (p : Part) (more : ℕ) → 0 < length bytes → (0 < length bytes → is_blank (get_or bytes 0 0) ≡ false) → get_or bytes 0 0 ≢ 59
-    → p ≡ (part_at l (get_or bytes 0 0) (drop 1 bytes)).0 → more ≡ (part_at l (get_or bytes 0 0) (drop 1 bytes)).1
-    → parts l bytes ≡ p ∷ parts l (take (length bytes - (more + 1)) (drop (more + 1) bytes))
-first_step l bytes p more lt blank remark e f = rw (take_rest, e, f) (parts_here l bytes lt (blank lt) remark)
+pub ruleset lexing = (part_text_here, part_step, parts_at_end, parts_at_remark)
 
 -- ---- a part that is a prefix of the slice
 
@@ -75,3 +139,45 @@ hex_part l bytes n lt h e pos =
     let e' = rw take_rest at e in
     let some : nat_lt 0 (hex_len (drop 1 bytes)) ≡ true = lt-ltb 0 (hex_len (drop 1 bytes)) (omega arith) in
     ap Number (take_first bytes n lt) ∙ rw (h, some, e') refl
+
+-- ---- a line and its places
+
+rest_after : (line : List ℕ) (at n : ℕ) → drop (at + n) line ≡ drop n (drop at line)
+rest_after line at n = sym (drop-drop n at line)
+
+pub begin_parts : (l : Language) (line : List ℕ) (at n : ℕ) → n ≡ prefix_len is_blank (take (length line - at) (drop at line)) → parts l (drop (at + n) line) ≡ parts l (drop at line)
+begin_parts l line at n e = let e' = rw take_rest at e in rw (rest_after line at n, e') (parts_begin l (drop at line))
+
+pub begin_stop : (line : List ℕ) (at n : ℕ) → n ≡ prefix_len is_blank (take (length line - at) (drop at line)) → at + n < length line → is_blank (get_or (drop (at + n) line) 0 0) ≡ false
+begin_stop line at n e lt =
+    let e' = rw take_rest at e in
+    let same : drop (at + n) line ≡ drop (prefix_len is_blank (drop at line)) (drop at line) = rest_after line at n ∙ ap (λ (k : ℕ). drop k (drop at line)) e' in
+    let some : 0 < length (drop (at + n) line) = omega (arith, length-drop (at + n) line, lt) in
+    rw same (no_blank (drop at line) (rw same at some))
+
+pub ruleset begins = (begin_parts, begin_stop)
+
+-- the place of a part that begins at a place of a line
+pub place_text : (line : List ℕ) (from len : ℕ) (text : List ℕ) → text ≡ take len (take (length line - from) (drop from line)) → take ((from + len) - from) (drop from line) ≡ text
+place_text line from len text e =
+    let e' = rw take_rest at e in
+    let same : (from + len) - from ≡ len = omega arith in
+    rw (same, e') refl
+
+pub place_next : (l : Language) (line : List ℕ) (from len : ℕ) (p : Part) (old : List Part) → parts l (drop from line) ≡ old
+    → parts l (take (length line - from) (drop from line)) ≡ p ∷ parts l (drop len (take (length line - from) (drop from line))) → old ≡ p ∷ parts l (drop (from + len) line)
+place_next l line from len p old e h =
+    let h' = rw take_rest at h in
+    sym e ∙ h' ∙ rw (rest_after line from len) refl
+
+pub place_end : (l : Language) (line : List ℕ) (from : ℕ) (old : List Part) → parts l (drop from line) ≡ old → parts l (take (length line - from) (drop from line)) ≡ [] → old ≡ []
+place_end l line from old e h =
+    let h' = rw take_rest at h in
+    sym e ∙ h'
+
+pub place_stop : (line : List ℕ) (from : ℕ) → (from < length line → is_blank (get_or (drop from line) 0 0) ≡ false) → 0 < length (take (length line - from) (drop from line)) → is_blank (get_or (take (length line - from) (drop from line)) 0 0) ≡ false
+place_stop line from stop some =
+    let some' = rw take_rest at some in
+    rw take_rest (stop (omega (arith, length-drop from line, some')))
+
+pub ruleset places = (place_text, place_next, place_end, place_stop)

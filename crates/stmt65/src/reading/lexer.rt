@@ -1,7 +1,7 @@
 //! The parts of a line, each taken as long as it can be.
 
 ghost use Rattle.std.specs.Prelude.{◌<◌, ◌∷◌, ◌≡◌, ◌≤◌};
-ghost use Rattle.stmt65.specs.Words.{Language, MatchOption, [], alone_at, cut_by, false, hex_len, is_ascii_digit, is_ascii_hexdigit, is_binary_digit, is_blank, is_character, is_text_byte, is_word_byte, is_word_start, length, part_at, part_of, parts, prefix_len, slice_index, true};
+ghost use Rattle.stmt65.specs.Words.{IfSome, Language, MatchOption, [], alone_at, cut_by, drop, false, get_or, hex_len, is_ascii_digit, is_ascii_hexdigit, is_binary_digit, is_blank, is_character, is_text_byte, is_word_byte, is_word_start, length, part_at, part_of, part_text, parts, prefix_len, take, true};
 
 use crate::language::Language;
 use text65::{is_blank, is_word_byte};
@@ -118,7 +118,7 @@ fn alone_at(language: Language, bytes: &[u8]) -> (Part<'_>, usize)
 
 /// The part that begins with the first byte, and how many of the bytes after it belong to it.
 #[tactic(auto, unfolding(crate::specs::Lexing::part_at))]
-pub fn part_at(language: Language, bytes: &[u8]) -> (Part<'_>, usize)
+fn part_at(language: Language, bytes: &[u8]) -> (Part<'_>, usize)
     requires { 0 < length bytes.now }
     ensures part { part_of result.0 ≡ (cut_by (part_at language) bytes.now).0 }
     ensures more { result.1 ≡ (cut_by (part_at language) bytes.now).1 }
@@ -154,27 +154,32 @@ pub fn part_at(language: Language, bytes: &[u8]) -> (Part<'_>, usize)
     alone_at(language, bytes)
 }
 
-/// The bytes from the first on that is no blank.
-#[tactic(auto, using(crate::proofs::PartLemmas::lexing))]
-fn after_blanks(bytes: &[u8]) -> &[u8]
-    ensures parts { (language : Language) → parts language result.now ≡ parts language bytes.now }
-    ensures stop { 0 < length result.now → is_blank (slice_index result.now 0) ≡ false }
+/// How many blanks the bytes begin with.
+pub fn blank_len(bytes: &[u8]) -> usize
+    ensures value { result ≡ prefix_len is_blank bytes.now }
+    ensures fits { result ≤ length bytes.now }
 {
-    for (i, b) in bytes.iter().enumerate() {
-        if !is_blank(*b) {
-            return &bytes[i..];
-        }
-    }
-    &[]
+    bytes.iter().take_while(|byte| is_blank(**byte)).count()
 }
 
-/// The first part of the line, and the bytes after it.
-#[tactic(auto, using(crate::proofs::PartLemmas::lexing, crate::proofs::PartLemmas::first_step))]
-pub fn first_part(language: Language, bytes: &[u8]) -> Option<(Part<'_>, &[u8])>
-    ensures { MatchOption result (parts language bytes.now ≡ [])
-        (λ found. parts language bytes.now ≡ part_of found.0 ∷ parts language found.1.now) }
+/// The bytes from the first on that is no blank.
+#[tactic(auto, using(crate::proofs::PartLemmas::after_blanks))]
+fn after_blanks(bytes: &[u8]) -> &[u8]
+    ensures parts { (language : Language) → parts language result.now ≡ parts language bytes.now }
+    ensures stop { 0 < length result.now → is_blank (get_or result.now 0 0) ≡ false }
 {
-    let bytes = after_blanks(bytes);
+    &bytes[blank_len(bytes)..]
+}
+
+/// The part with which the bytes begin, and how many of them it has. They begin with no blank.
+#[tactic(auto, using(crate::proofs::PartLemmas::lexing))]
+pub fn part_here(language: Language, bytes: &[u8]) -> Option<(Part<'_>, usize)>
+    requires stop { 0 < length bytes.now → is_blank (get_or bytes.now 0 0) ≡ false }
+    ensures parts { MatchOption result (parts language bytes.now ≡ [])
+        (λ f. parts language bytes.now ≡ part_of f.0 ∷ parts language (drop f.1 bytes.now)) }
+    ensures text { IfSome result (λ f. part_text (part_of f.0) ≡ take f.1 bytes.now) }
+    ensures fits { IfSome result (λ f. f.1 ≤ length bytes.now) }
+{
     match bytes {
         [] => None,
         [first, ..] => {
@@ -182,7 +187,17 @@ pub fn first_part(language: Language, bytes: &[u8]) -> Option<(Part<'_>, &[u8])>
                 return None;
             }
             let (part, more) = part_at(language, bytes);
-            Some((part, &bytes[more + 1..]))
+            Some((part, more + 1))
         }
     }
+}
+
+/// The first part of the line, and the bytes after it.
+pub fn first_part(language: Language, bytes: &[u8]) -> Option<(Part<'_>, &[u8])>
+    ensures { MatchOption result (parts language bytes.now ≡ [])
+        (λ found. parts language bytes.now ≡ part_of found.0 ∷ parts language found.1.now) }
+{
+    let bytes = after_blanks(bytes);
+    let (part, len) = part_here(language, bytes)?;
+    Some((part, &bytes[len..]))
 }

@@ -1,16 +1,15 @@
 //! Where the parts of a line stand.
 
 ghost use Rattle.std.specs.Prelude.{◌<◌, ◌∷◌, ◌≡◌, ◌≤◌};
-ghost use Rattle.stmt65.specs.Words.{Gives, GoesOver, IfSome, IsAmong, IsRemarkOf, MatchOption, ReadsAs, StandsIn, [], bytes_in, datum_of, drop, false, get_or, is_blank, length, part_of, part_text, parts, parts_left, prefix_len, take, value_alone, value_of};
+ghost use Rattle.stmt65.specs.Words.{Gives, GoesOver, IfSome, IsAmong, IsRemarkOf, MatchOption, ReadsAs, StandsIn, [], bytes_in, datum_of, drop, false, get_or, is_blank, length, part_of, parts, parts_left, value_alone, value_of};
 
 use crate::language::Language;
 use crate::reading::expressions::next_value;
-use crate::reading::lexer::{Part, part_at};
+use crate::reading::lexer::{Part, blank_len, part_here};
 use crate::reading::names::is_name;
 use crate::reading::parts::Parts;
 use crate::source_line::{Datum, Half, Value};
 use std::marker::Model;
-use text65::is_blank;
 
 /// From which byte of a line to before which one something stands.
 #[derive(Clone, Copy, Debug, PartialEq, Eq)]
@@ -61,35 +60,6 @@ impl<'a> Model for Places<'a> {
     ghost invariant = { λ p. p.at ≤ length p.line.now };
 }
 
-/// How many blanks are at the beginning of a line.
-fn blank_len(bytes: &[u8]) -> usize
-    ensures value { result ≡ prefix_len is_blank bytes.now }
-    ensures fits { result ≤ length bytes.now }
-{
-    bytes.iter().take_while(|byte| is_blank(**byte)).count()
-}
-
-/// The part with which the bytes begin, and how many of them it has. They begin with no blank.
-#[tactic(auto, using(crate::proofs::PartLemmas::lexing, crate::proofs::PlaceLemmas::parts_of_slices))]
-fn part_here(language: Language, bytes: &[u8]) -> Option<(Part<'_>, usize)>
-    requires stop { 0 < length bytes.now → is_blank (get_or bytes.now 0 0) ≡ false }
-    ensures parts { MatchOption result (parts language bytes.now ≡ [])
-        (λ f. parts language bytes.now ≡ part_of f.0 ∷ parts language (drop f.1 bytes.now)) }
-    ensures text { IfSome result (λ f. part_text (part_of f.0) ≡ take f.1 bytes.now) }
-    ensures fits { IfSome result (λ f. f.1 ≤ length bytes.now) }
-{
-    match bytes {
-        [] => None,
-        [first, ..] => {
-            if *first == b';' {
-                return None;
-            }
-            let (part, more) = part_at(language, bytes);
-            Some((part, more + 1))
-        }
-    }
-}
-
 /// The expression that the bytes are, if they are one and nothing else.
 pub fn read_value<'a>(language: Language, bytes: &'a [u8]) -> Option<Value<'a>>
     /// Returns the expression that some bytes are, if they are one and nothing else.
@@ -128,7 +98,7 @@ impl<'a> Places<'a> {
     }
 
     /// Where the next part begins, or the remark or the end of the line.
-    #[tactic(auto, using(crate::proofs::PlaceLemmas::begins))]
+    #[tactic(auto, using(crate::proofs::PartLemmas::begins))]
     fn begin(&self) -> usize
         ensures parts { parts self.now.language (drop result self.now.line) ≡ parts_left self.now }
         ensures stop { result < length self.now.line
@@ -140,7 +110,7 @@ impl<'a> Places<'a> {
     }
 
     /// The next part, and where it stands. At the end the answer is `None`, again and again.
-    #[tactic(auto, using(crate::proofs::PlaceLemmas::places))]
+    #[tactic(auto, using(crate::proofs::PartLemmas::places))]
     pub fn next(&mut self) -> Option<PlacedPart<'a>>
         /// Goes over the parts of a line as the reading has them, in order, each once. The bytes at the place of
         /// each part are those that it is written with, and its place is after those of the parts before.
