@@ -8,7 +8,7 @@ pub use Rattle.stmt65.specs.Code.Held.{capped, held}
 pub use Rattle.stmt65.specs.Code.LateViews.{AreFirstOf, Codes, Follows, GoesOn, IsFaulty, IsIdle, IsLeft, IsOf, IsPassed, IsSound, Keeps, PassesOver, Settles, Takes, late_line, said_of, state_in, work_end, work_of}
 unfoldable pub use Rattle.stmt65.specs.Code.LateViews.{coded_late, fronts}
 pub use Rattle.stmt65.specs.Code.LineEnds.{ends_left}
-pub use Rattle.stmt65.specs.Code.LineViews.{Lists, Prints, len_with}
+pub use Rattle.stmt65.specs.Code.LineViews.{Appends, Lists, Prints, len_with}
 pub use Rattle.stmt65.specs.Code.MeaningViews.{IsCoding, Place, below_place, definitions_in, fault_by, fragments_in, held_definition, held_definitions, is_named_in, line_in, line_operation, line_then, place_of, state_of}
 unfoldable pub use Rattle.stmt65.specs.Code.MeaningViews.{bytes_at, fault_at, held_after, held_coded, held_final, place_in}
 pub use Rattle.stmt65.specs.Code.PartViews.{cut_by, part_of}

@@ -1,13 +1,19 @@
 -- What is added to the line that is printed.
-use Rattle.arrayvec.specs.ArrayVec.{ArrayVec, array_vec_len}
-use Rattle.std.specs.Prelude.{◌≡◌, ℕ, ◌+◌, ◌*◌, List, ◌++◌, length}
+use Rattle.arrayvec.specs.ArrayVec.{ArrayVec, Extends, array_vec_len}
+use Rattle.std.specs.Prelude.{◌≡◌, ◌≤◌, ℕ, ◌+◌, ◌*◌, List, ◌++◌, length}
 use Rattle.std.specs.List.{flat_map}
 use Rattle.stmt65.specs.Line.{with_fields}
 use Rattle.stmt65.specs.Statements.{Field, comma_list, next_text}
 
--- further fields
-abbrev pub Prints : ArrayVec ℕ → List Field → ArrayVec ℕ → Type 0
-Prints old fields new = new.items ≡ with_fields old.items fields
+-- a text of at most so many bytes
+pub record Appends (old : ArrayVec ℕ) (text : List ℕ) (new : ArrayVec ℕ) (most : ℕ) : Type 0 where
+  pub items : Extends old text new
+  pub len : array_vec_len new ≤ array_vec_len old + most
+
+-- further fields, and the line has at most so many bytes
+pub record Prints (old : ArrayVec ℕ) (fields : List Field) (new : ArrayVec ℕ) (most : ℕ) : Type 0 where
+  pub items : new.items ≡ with_fields old.items fields
+  pub len : array_vec_len new ≤ most
 
 -- the texts of a list, up to those that are left, each after a comma
 abbrev pub Lists : {X : Type 0} → (X → List ℕ) → ArrayVec ℕ → List X → ArrayVec ℕ → List X → Type 0

@@ -12,8 +12,7 @@ use crate::printing::line::Line;
 pub(super) fn put_label(out: &mut Line, name: &[u8])
     requires room { array_vec_len out.old ≤ 82 }
     requires name { IsNameLong name.now }
-    ensures items { Prints out.old (label_fields (Some name.now)) out.new }
-    ensures len { array_vec_len out.new ≤ array_vec_len out.old + 82 }
+    ensures { Prints out.old (label_fields (Some name.now)) out.new (array_vec_len out.old + 82) }
 {
     start_field(out, Column::first());
     put(out, name);
@@ -24,8 +23,7 @@ pub(super) fn put_label(out: &mut Line, name: &[u8])
 fn start_definition(out: &mut Line, columns: &Columns, name: &[u8])
     requires room { array_vec_len out.old ≤ 82 }
     requires name { IsNameLong name.now }
-    ensures items { Prints out.old (definition_fields columns.now name.now []) out.new }
-    ensures len { array_vec_len out.new ≤ 256 }
+    ensures { Prints out.old (definition_fields columns.now name.now []) out.new 256 }
 {
     start_field(out, Column::first());
     put(out, name);
@@ -37,8 +35,7 @@ fn start_definition(out: &mut Line, columns: &Columns, name: &[u8])
 pub(super) fn put_const(out: &mut Line, columns: &Columns, name: &[u8], number: u16)
     requires room { array_vec_len out.old ≤ 82 }
     requires name { IsNameLong name.now }
-    ensures items { Prints out.old (definition_fields columns.now name.now (hex4 number)) out.new }
-    ensures len { array_vec_len out.new ≤ 340 }
+    ensures { Prints out.old (definition_fields columns.now name.now (hex4 number)) out.new 340 }
 {
     start_definition(out, columns, name);
     put_hex4(out, number);
@@ -54,9 +51,8 @@ pub(super) fn put_forward(
 )
     requires room { array_vec_len out.old ≤ 82 }
     requires name { IsNameLong name.now }
-    ensures items { Prints out.old (definition_fields columns.now name.now
-        (codes "* + " ++ distance_text (in_hex offsets) distance)) out.new }
-    ensures len { array_vec_len out.new ≤ 340 }
+    ensures { Prints out.old (definition_fields columns.now name.now
+        (codes "* + " ++ distance_text (in_hex offsets) distance)) out.new 340 }
 {
     start_definition(out, columns, name);
     put(out, b"* + ");

@@ -1,7 +1,7 @@
 //! Numbers in hex digits and in decimal.
 
 ghost use Rattle.std.specs.Prelude.{decimal, ◌+◌, ◌≡◌, ◌≤◌};
-ghost use Rattle.stmt65.specs.Words.{Extends, array_vec_len, digits2, digits4, distance_text, hex2, hex4, in_hex, offset_text};
+ghost use Rattle.stmt65.specs.Words.{Appends, Extends, array_vec_len, digits2, digits4, distance_text, hex2, hex4, in_hex, offset_text};
 
 use crate::printing::fields::put;
 use crate::printing::line::Line;
@@ -74,8 +74,7 @@ pub(super) fn put_hex4(out: &mut Line, number: u16)
 
 fn put_decimal(out: &mut Line, number: u16)
     requires { array_vec_len out.old + 5 ≤ 512 }
-    ensures items { Extends out.old (decimal number) out.new }
-    ensures len { array_vec_len out.new ≤ array_vec_len out.old + 5 }
+    ensures { Appends out.old (decimal number) out.new 5 }
 {
     let mut buffer = Buffer::new();
     put(out, buffer.format(number).as_bytes());
@@ -84,8 +83,7 @@ fn put_decimal(out: &mut Line, number: u16)
 /// Appends what is added to a name: in hex digits two of them if it has no more, else four.
 pub(super) fn put_offset(out: &mut Line, offsets: Offsets, offset: u16)
     requires { array_vec_len out.old + 5 ≤ 512 }
-    ensures items { Extends out.old (offset_text (in_hex offsets) offset) out.new }
-    ensures len { array_vec_len out.new ≤ array_vec_len out.old + 5 }
+    ensures { Appends out.old (offset_text (in_hex offsets) offset) out.new 5 }
 {
     match offsets {
         Offsets::Decimal => put_decimal(out, offset),
@@ -97,8 +95,7 @@ pub(super) fn put_offset(out: &mut Line, offsets: Offsets, offset: u16)
 /// Appends the distance of a name from its own line.
 pub(super) fn put_distance(out: &mut Line, offsets: Offsets, distance: u16)
     requires { array_vec_len out.old + 5 ≤ 512 }
-    ensures items { Extends out.old (distance_text (in_hex offsets) distance) out.new }
-    ensures len { array_vec_len out.new ≤ array_vec_len out.old + 5 }
+    ensures { Appends out.old (distance_text (in_hex offsets) distance) out.new 5 }
 {
     match offsets {
         Offsets::Decimal => put_decimal(out, distance),

@@ -1,7 +1,7 @@
 //! What stands after a statement that has bytes, by the comment level.
 
-ghost use Rattle.std.specs.Prelude.{◌+◌, ◌≡◌, ◌≤◌};
-ghost use Rattle.stmt65.specs.Words.{Extends, Prints, array_vec_len, character, fields_after, flat_map, len_with, length, level_fields, map, remarks_seen, spaced_byte, statement_seen};
+ghost use Rattle.std.specs.Prelude.{◌*◌, ◌+◌, ◌≡◌, ◌≤◌};
+ghost use Rattle.stmt65.specs.Words.{Appends, Extends, Prints, array_vec_len, character, fields_after, flat_map, len_with, length, level_fields, map, remarks_seen, spaced_byte, statement_seen};
 
 use crate::printing::columns::Columns;
 use crate::printing::digits::{put_digits2, put_digits4};
@@ -13,8 +13,7 @@ use crate::statement::Statement;
 /// Appends the bytes in hex digits, each after a blank.
 fn put_spaced_bytes(out: &mut Line, bytes: &[u8])
     requires { len_with out.old 3 bytes.now ≤ 512 }
-    ensures items { Extends out.old (flat_map spaced_byte bytes.now) out.new }
-    ensures len { array_vec_len out.new ≡ len_with out.old 3 bytes.now }
+    ensures { Appends out.old (flat_map spaced_byte bytes.now) out.new (3 * length bytes.now) }
 {
     for byte in bytes {
         out.push(b' ');
@@ -36,8 +35,7 @@ fn character(byte: u8) -> u8
 /// Appends the bytes as characters.
 fn put_characters(out: &mut Line, bytes: &[u8])
     requires { array_vec_len out.old + length bytes.now ≤ 512 }
-    ensures items { Extends out.old (map character bytes.now) out.new }
-    ensures len { array_vec_len out.new ≡ array_vec_len out.old + length bytes.now }
+    ensures { Appends out.old (map character bytes.now) out.new (length bytes.now) }
 {
     for byte in bytes {
         out.push(character(*byte));
@@ -50,8 +48,7 @@ fn put_remarked(out: &mut Line, columns: &Columns, level: u8, address: u16, byte
     requires level { 2 ≤ level }
     requires room { array_vec_len out.old ≤ 340 }
     requires few { length bytes.now ≤ 16 }
-    ensures items { Prints out.old (level_fields columns.now level address bytes.now) out.new }
-    ensures len { array_vec_len out.new ≤ 511 }
+    ensures { Prints out.old (level_fields columns.now level address bytes.now) out.new 511 }
 {
     start_field(out, columns.comment);
     put(out, b"; ");
@@ -72,9 +69,8 @@ fn put_remarked(out: &mut Line, columns: &Columns, level: u8, address: u16, byte
 pub(super) fn put_after(out: &mut Line, columns: &Columns, statement: &Statement, remarks: &Remarks)
     requires room { array_vec_len out.old ≤ 340 }
     requires few { length remarks.now.bytes.now ≤ 16 }
-    ensures items { Prints out.old (fields_after columns.now (statement_seen statement.now)
-        (remarks_seen remarks.now)) out.new }
-    ensures len { array_vec_len out.new ≤ 511 }
+    ensures { Prints out.old (fields_after columns.now (statement_seen statement.now)
+        (remarks_seen remarks.now)) out.new 511 }
 {
     let level = remarks.level.get();
     if statement.has_bytes() && 2 <= level {

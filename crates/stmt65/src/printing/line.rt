@@ -1,7 +1,7 @@
 //! Printing a statement as a line.
 
-ghost use Rattle.std.specs.Prelude.{◌++◌, ◌+◌, ◌<◌, ◌∷◌, ◌≡◌, ◌≤◌};
-ghost use Rattle.stmt65.specs.Words.{AreBytes, AreWordWide, Extends, IfSome, IsInWidth, IsNameLong, IsPrintable, IsTable, IsWrittenIn, MayBeLabelled, Prints, ReadsBack, [], array_vec_len, bytes_text, codes, cut_text, data_text, directive_text, fields_of, filled, in_hex, instr_fields, is_absolute, label_fields, len_with, length, line_of, named_text, numbers_text, operands_seen, option_copied, option_map, quoted, remark_fields, remarks_seen, return_text, statement_seen, target_seen, with_fields, with_operands};
+ghost use Rattle.std.specs.Prelude.{◌*◌, ◌++◌, ◌+◌, ◌<◌, ◌∷◌, ◌≡◌, ◌≤◌};
+ghost use Rattle.stmt65.specs.Words.{Appends, AreBytes, AreWordWide, Extends, IfSome, IsInWidth, IsNameLong, IsPrintable, IsTable, IsWrittenIn, MayBeLabelled, Prints, ReadsBack, [], alone, array_vec_len, bytes_text, codes, cut_text, data_text, directive_text, fields_of, filled, in_hex, instr_fields, is_absolute, label_fields, len_with, length, line_of, named_text, numbers_text, operands_seen, option_copied, option_map, quoted, remark_fields, remarks_seen, return_text, statement_seen, target_seen, with_fields, with_operands};
 ghost use Rattle.stmt65.specs.Views as view;
 
 use crate::directive::Directive;
@@ -24,11 +24,20 @@ pub type Line = ArrayVec<u8, 512>;
 fn put_operation(out: &mut Line, columns: &Columns, operation: &[u8])
     requires room { array_vec_len out.old ≤ 82 }
     requires short { length operation.now ≤ 8 }
-    ensures items { out.new.items ≡ filled out.old.items columns.now.mnemonic ++ operation.now }
-    ensures len { array_vec_len out.new ≤ 128 }
+    ensures { Prints out.old (alone columns.now operation.now) out.new 128 }
 {
     start_field(out, columns.mnemonic);
     put(out, operation);
+}
+
+/// Appends an operation, and begins the field of its operands.
+fn start_operands(out: &mut Line, columns: &Columns, operation: &[u8])
+    requires room { array_vec_len out.old ≤ 82 }
+    requires short { length operation.now ≤ 8 }
+    ensures { Prints out.old (with_operands columns.now operation.now []) out.new 129 }
+{
+    put_operation(out, columns, operation);
+    start_field(out, columns.argument);
 }
 
 /// Appends the text of a mnemonic. Most have three letters.
@@ -58,9 +67,8 @@ fn put_instr(
 )
     requires room { array_vec_len out.old ≤ 82 }
     requires written { IsWrittenIn op.mode (operands_seen operands.now) }
-    ensures items { Prints out.old (instr_fields columns.now (in_hex offsets) op (is_absolute size)
-        (operands_seen operands.now)) out.new }
-    ensures len { array_vec_len out.new ≤ 340 }
+    ensures fields { Prints out.old (instr_fields columns.now (in_hex offsets) op
+        (is_absolute size) (operands_seen operands.now)) out.new 340 }
     ensures width { AreWordWide (operands_seen operands.now) }
 {
     start_field(out, columns.mnemonic);
@@ -71,12 +79,12 @@ fn put_instr(
     }
 }
 
-#[tactic(auto, unfolding(crate::specs::Statements::comma_list))]
+#[tactic(auto, using(crate::proofs::WidthLemmas::each_in_width), unfolding(crate::specs::Statements::comma_list))]
 fn put_bytes(out: &mut Line, bytes: &[u8])
     requires some { 1 ≤ length bytes.now }
     requires room { len_with out.old 4 bytes.now ≤ 512 }
-    ensures items { Extends out.old (bytes_text bytes.now) out.new }
-    ensures len { array_vec_len out.new ≤ len_with out.old 4 bytes.now }
+    ensures text { Appends out.old (bytes_text bytes.now) out.new (4 * length bytes.now) }
+    ensures width { AreBytes bytes.now }
 {
     let [first, rest @ ..] = bytes else {
         unreachable!()
@@ -89,44 +97,14 @@ fn put_bytes(out: &mut Line, bytes: &[u8])
 }
 
 #[tactic(auto, using(crate::proofs::WidthLemmas::each_in_width))]
-fn put_data(out: &mut Line, columns: &Columns, bytes: &[u8])
-    requires room { array_vec_len out.old ≤ 82 }
-    requires some { 1 ≤ length bytes.now }
-    requires few { length bytes.now ≤ 8 }
-    ensures items { Prints out.old (with_operands columns.now (codes ".byte") (bytes_text bytes.now)) out.new }
-    ensures len { array_vec_len out.new ≤ 340 }
-    ensures width { AreBytes bytes.now }
-{
-    put_operation(out, columns, b".byte");
-    start_field(out, columns.argument);
-    put_bytes(out, bytes);
-}
-
-#[tactic(auto, using(crate::proofs::WidthLemmas::each_in_width))]
-fn put_text_data(out: &mut Line, columns: &Columns, bytes: &[u8])
-    requires room { array_vec_len out.old ≤ 82 }
-    requires some { 1 ≤ length bytes.now }
-    requires few { length bytes.now ≤ 16 }
-    ensures items { Prints out.old (with_operands columns.now (codes ".byte") (data_text (cut_text bytes.now))) out.new }
-    ensures len { array_vec_len out.new ≤ 340 }
-    ensures width { AreBytes bytes.now }
-{
-    put_operation(out, columns, b".byte");
-    start_field(out, columns.argument);
-    put_text(out, bytes);
-}
-
-#[tactic(auto, using(crate::proofs::WidthLemmas::each_in_width))]
 fn put_numbers(out: &mut Line, columns: &Columns, directive: Directive, bytes: &[u8])
     requires room { array_vec_len out.old ≤ 82 }
     requires table { IsTable directive bytes.now }
-    ensures items { Prints out.old (with_operands columns.now (directive_text directive)
-        (numbers_text directive bytes.now)) out.new }
-    ensures len { array_vec_len out.new ≤ 340 }
+    ensures fields { Prints out.old (with_operands columns.now (directive_text directive)
+        (numbers_text directive bytes.now)) out.new 340 }
     ensures width { AreBytes bytes.now }
 {
-    put_operation(out, columns, directive.text());
-    start_field(out, columns.argument);
+    start_operands(out, columns, directive.text());
     put_entries(out, directive, bytes);
 }
 
@@ -135,40 +113,24 @@ fn put_string(out: &mut Line, columns: &Columns, operation: &[u8], text: &[u8])
     requires room { array_vec_len out.old ≤ 82 }
     requires short { length operation.now ≤ 8 }
     requires fits { length text.now ≤ 80 }
-    ensures items { Prints out.old (with_operands columns.now operation.now (quoted text.now)) out.new }
-    ensures len { array_vec_len out.new ≤ 340 }
+    ensures { Prints out.old (with_operands columns.now operation.now
+        (quoted text.now)) out.new 340 }
 {
-    put_operation(out, columns, operation);
-    start_field(out, columns.argument);
+    start_operands(out, columns, operation);
     out.push(b'"');
     put(out, text);
     out.push(b'"');
-}
-
-fn put_addr(out: &mut Line, columns: &Columns, offsets: Offsets, target: Target)
-    requires room { array_vec_len out.old ≤ 82 }
-    requires name { IsNameLong target.name.now }
-    ensures items { Prints out.old (with_operands columns.now (codes ".addr")
-        (named_text (in_hex offsets) target.entry.name.now target.entry.offset)) out.new }
-    ensures len { array_vec_len out.new ≤ 340 }
-    ensures width { target.entry.offset < 65536 }
-{
-    put_operation(out, columns, b".addr");
-    start_field(out, columns.argument);
-    put_named(out, offsets, target.name, target.offset);
 }
 
 /// Appends an entry of a return table.
 fn put_rts(out: &mut Line, columns: &Columns, offsets: Offsets, target: Option<Target>)
     requires room { array_vec_len out.old ≤ 82 }
     requires name { IsPrintable (view.rts (option_map target_seen target)) }
-    ensures items { Prints out.old (with_operands columns.now (codes ".word")
-        (return_text (in_hex offsets) (option_map target_seen target.entry))) out.new }
-    ensures len { array_vec_len out.new ≤ 340 }
+    ensures fields { Prints out.old (with_operands columns.now (codes ".word")
+        (return_text (in_hex offsets) (option_map target_seen target.entry))) out.new 340 }
     ensures width { IsInWidth (view.rts (option_map target_seen target.entry)) }
 {
-    put_operation(out, columns, b".word");
-    start_field(out, columns.argument);
+    start_operands(out, columns, b".word");
     match target {
         Some(Target { name, offset }) => {
             put_named(out, offsets, name, offset);
@@ -181,8 +143,7 @@ fn put_rts(out: &mut Line, columns: &Columns, offsets: Offsets, target: Option<T
 fn put_remark(out: &mut Line, text: &[u8])
     requires room { array_vec_len out.old ≤ 82 }
     requires fits { length text.now ≤ 200 }
-    ensures items { Prints out.old (remark_fields text.now) out.new }
-    ensures len { array_vec_len out.new ≤ 340 }
+    ensures { Prints out.old (remark_fields text.now) out.new 340 }
 {
     start_field(out, Column::first());
     put(out, b"; ");
@@ -195,9 +156,8 @@ fn put_remark(out: &mut Line, text: &[u8])
 fn put_fields(out: &mut Line, columns: &Columns, offsets: Offsets, statement: &Statement)
     requires room { array_vec_len out.old ≤ 82 }
     requires printable { IsPrintable (statement_seen statement.now) }
-    ensures items { Prints out.old (fields_of columns.now (in_hex offsets)
-        (statement_seen statement.now)) out.new }
-    ensures len { array_vec_len out.new ≤ 340 }
+    ensures fields { Prints out.old (fields_of columns.now (in_hex offsets)
+        (statement_seen statement.now)) out.new 340 }
     ensures width { IsInWidth (statement_seen statement.now) }
 {
     match *statement {
@@ -206,12 +166,21 @@ fn put_fields(out: &mut Line, columns: &Columns, offsets: Offsets, statement: &S
             size,
             ref operands,
         } => put_instr(out, columns, offsets, op, size, operands),
-        Statement::Bytes(bytes) => put_data(out, columns, bytes),
-        Statement::Text(bytes) => put_text_data(out, columns, bytes),
+        Statement::Bytes(bytes) => {
+            start_operands(out, columns, b".byte");
+            put_bytes(out, bytes);
+        }
+        Statement::Text(bytes) => {
+            start_operands(out, columns, b".byte");
+            put_text(out, bytes);
+        }
         Statement::Words(bytes) => put_numbers(out, columns, Directive::Word, bytes),
         Statement::Dbyts(bytes) => put_numbers(out, columns, Directive::Dbyt, bytes),
         Statement::Dwords(bytes) => put_numbers(out, columns, Directive::Dword, bytes),
-        Statement::Addr(target) => put_addr(out, columns, offsets, target),
+        Statement::Addr(Target { name, offset }) => {
+            start_operands(out, columns, b".addr");
+            put_named(out, offsets, name, offset);
+        }
         Statement::Rts(target) => put_rts(out, columns, offsets, target),
         Statement::Label(name) => put_label(out, name),
         Statement::Const(name, number) => put_const(out, columns, name, number),
@@ -229,8 +198,7 @@ fn put_fields(out: &mut Line, columns: &Columns, offsets: Offsets, statement: &S
 fn start_line(out: &mut Line, label: Option<&[u8]>)
     requires empty { out.old.items ≡ [] }
     requires name { IfSome (option_copied label) IsNameLong }
-    ensures items { out.new.items ≡ with_fields [] (label_fields (option_copied label.entry)) }
-    ensures len { array_vec_len out.new ≤ 82 }
+    ensures { Prints out.old (label_fields (option_copied label.entry)) out.new 82 }
 {
     if let Some(name) = label {
         put_label(out, name);

@@ -1,7 +1,7 @@
 //! The operands of an instruction.
 
-ghost use Rattle.std.specs.Prelude.{◌+◌, ◌≤◌};
-ghost use Rattle.stmt65.specs.Words.{AreOperands, AreWordWide, Extends, IsOperand, IsWordWide, IsWrittenIn, array_vec_len, expr_seen, in_hex, in_row, is_absolute, kind_text, length, named_text, none, one, operand_text, operands_seen, prefix_text, row_text, two};
+ghost use Rattle.std.specs.Prelude.{◌+◌, ◌<◌, ◌≤◌};
+ghost use Rattle.stmt65.specs.Words.{Appends, AreOperands, AreWordWide, Extends, IsOperand, IsWordWide, IsWrittenIn, array_vec_len, expr_seen, in_hex, in_row, is_absolute, kind_text, length, named_text, none, one, operand_text, operands_seen, prefix_text, row_text, two};
 
 use crate::printing::digits::{Offsets, put_hex2, put_hex4, put_offset};
 use crate::printing::fields::put;
@@ -13,8 +13,9 @@ use isa65::{Mode, OperandKind, Pattern, Row};
 /// Appends a name, and `+` and the offset if that is not 0.
 pub(super) fn put_named(out: &mut Line, offsets: Offsets, name: &[u8], offset: u16)
     requires { array_vec_len out.old + length name.now + 6 ≤ 512 }
-    ensures items { Extends out.old (named_text (in_hex offsets) name.now offset) out.new }
-    ensures len { array_vec_len out.new ≤ array_vec_len out.old + length name.now + 6 }
+    ensures text { Appends out.old (named_text
+        (in_hex offsets) name.now offset) out.new (length name.now + 6) }
+    ensures width { offset < 65536 }
 {
     put(out, name);
     if offset != 0 {
@@ -27,8 +28,8 @@ pub(super) fn put_named(out: &mut Line, offsets: Offsets, name: &[u8], offset: u
 fn put_kind(out: &mut Line, offsets: Offsets, kind: OperandKind, expr: &Expr)
     requires room { array_vec_len out.old ≤ 300 }
     requires operand { IsOperand kind (expr_seen expr.now) }
-    ensures items { Extends out.old (kind_text (in_hex offsets) kind (expr_seen expr.now)) out.new }
-    ensures len { array_vec_len out.new ≤ array_vec_len out.old + 86 }
+    ensures text { Appends out.old (kind_text (in_hex offsets) kind
+        (expr_seen expr.now)) out.new 86 }
     ensures width { IsWordWide (expr_seen expr.now) }
 {
     match *expr {
@@ -45,8 +46,8 @@ fn put_kind(out: &mut Line, offsets: Offsets, kind: OperandKind, expr: &Expr)
 fn put_one(out: &mut Line, offsets: Offsets, row: Row, expr: &Expr)
     requires room { array_vec_len out.old ≤ 200 }
     requires written { AreOperands row (one (expr_seen expr.now)) }
-    ensures items { Extends out.old (in_row (in_hex offsets) row (one (expr_seen expr.now))) out.new }
-    ensures len { array_vec_len out.new ≤ array_vec_len out.old + 190 }
+    ensures text { Appends out.old (in_row (in_hex offsets) row
+        (one (expr_seen expr.now))) out.new 190 }
     ensures width { IsWordWide (expr_seen expr.now) }
 {
     let Row::One(pattern, kind) = row else {
@@ -88,9 +89,8 @@ fn put_one(out: &mut Line, offsets: Offsets, row: Row, expr: &Expr)
 fn put_two(out: &mut Line, offsets: Offsets, row: Row, first: &Expr, second: &Expr)
     requires room { array_vec_len out.old ≤ 200 }
     requires written { AreOperands row (two (expr_seen first.now) (expr_seen second.now)) }
-    ensures items { Extends out.old (in_row (in_hex offsets) row
-        (two (expr_seen first.now) (expr_seen second.now))) out.new }
-    ensures len { array_vec_len out.new ≤ array_vec_len out.old + 190 }
+    ensures text { Appends out.old (in_row (in_hex offsets) row
+        (two (expr_seen first.now) (expr_seen second.now))) out.new 190 }
     ensures width { AreWordWide (two (expr_seen first.now) (expr_seen second.now)) }
 {
     let Row::Two(tested, target) = row else {
@@ -105,8 +105,7 @@ fn put_two(out: &mut Line, offsets: Offsets, row: Row, first: &Expr, second: &Ex
 fn put_bare(out: &mut Line, row: Row)
     requires room { array_vec_len out.old ≤ 500 }
     requires written { AreOperands row none }
-    ensures items { Extends out.old (row_text row) out.new }
-    ensures len { array_vec_len out.new ≤ array_vec_len out.old + 1 }
+    ensures { Appends out.old (row_text row) out.new 1 }
 {
     match row {
         Row::Implied => {}
@@ -118,8 +117,7 @@ fn put_bare(out: &mut Line, row: Row)
 /// Appends the prefix that makes an operand absolute, if there is one.
 fn put_prefix(out: &mut Line, size: AddressSize)
     requires { array_vec_len out.old ≤ 500 }
-    ensures items { Extends out.old (prefix_text (is_absolute size)) out.new }
-    ensures len { array_vec_len out.new ≤ array_vec_len out.old + 2 }
+    ensures { Appends out.old (prefix_text (is_absolute size)) out.new 2 }
 {
     match size {
         AddressSize::Absolute => put(out, b"a:"),
@@ -139,9 +137,8 @@ pub(super) fn put_operands(
 )
     requires room { array_vec_len out.old ≤ 190 }
     requires written { IsWrittenIn mode (operands_seen operands.now) }
-    ensures items { Extends out.old (operand_text (in_hex offsets) mode (is_absolute size)
-        (operands_seen operands.now)) out.new }
-    ensures len { array_vec_len out.new ≤ array_vec_len out.old + 200 }
+    ensures text { Appends out.old (operand_text (in_hex offsets) mode (is_absolute size)
+        (operands_seen operands.now)) out.new 200 }
     ensures width { AreWordWide (operands_seen operands.now) }
 {
     put_prefix(out, size);

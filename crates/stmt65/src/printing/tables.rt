@@ -1,7 +1,7 @@
 //! The operands of tables: numbers, and bytes as text.
 
 ghost use Rattle.std.specs.Prelude.{◌*◌, ◌+◌, ◌<◌, ◌≡◌, ◌≤◌};
-ghost use Rattle.stmt65.specs.Words.{Extends, Lists, array_vec_len, cut_text, data_text, datum_text, digits2, entries, entry_len, entry_text, flat_map, is_plain, len_with, length, numbers_text, prefix_len, reverse};
+ghost use Rattle.stmt65.specs.Words.{Appends, AreBytes, Extends, Lists, array_vec_len, cut_text, data_text, datum_text, digits2, entries, entry_len, entry_text, flat_map, is_plain, len_with, length, numbers_text, prefix_len, reverse};
 
 use crate::directive::Directive;
 use crate::printing::digits::{put_digits2, put_hex2};
@@ -12,8 +12,8 @@ use isa65::ByteOrder;
 /// Appends the digits of bytes whose low one is first, the high one first.
 fn put_reversed(out: &mut Line, bytes: &[u8])
     requires room { len_with out.old 2 bytes.now ≤ 512 }
-    ensures items { Extends out.old (flat_map digits2 (reverse bytes.now)) out.new }
-    ensures len { array_vec_len out.new ≡ len_with out.old 2 bytes.now }
+    ensures { Appends out.old (flat_map digits2
+        (reverse bytes.now)) out.new (2 * length bytes.now) }
 {
     if let [low, rest @ ..] = bytes {
         put_reversed(out, rest);
@@ -24,8 +24,7 @@ fn put_reversed(out: &mut Line, bytes: &[u8])
 /// Appends the digits of bytes whose high one is first.
 fn put_all(out: &mut Line, bytes: &[u8])
     requires room { len_with out.old 2 bytes.now ≤ 512 }
-    ensures items { Extends out.old (flat_map digits2 bytes.now) out.new }
-    ensures len { array_vec_len out.new ≡ len_with out.old 2 bytes.now }
+    ensures { Appends out.old (flat_map digits2 bytes.now) out.new (2 * length bytes.now) }
 {
     for byte in bytes {
         put_digits2(out, *byte);
@@ -34,8 +33,7 @@ fn put_all(out: &mut Line, bytes: &[u8])
 
 fn put_entry(out: &mut Line, directive: Directive, bytes: &[u8])
     requires room { array_vec_len out.old + 1 + 2 * length bytes.now ≤ 512 }
-    ensures items { Extends out.old (entry_text directive bytes.now) out.new }
-    ensures len { array_vec_len out.new ≡ array_vec_len out.old + 1 + 2 * length bytes.now }
+    ensures { Appends out.old (entry_text directive bytes.now) out.new (1 + 2 * length bytes.now) }
 {
     out.push(b'$');
     match directive.order() {
@@ -63,8 +61,7 @@ fn put_first_entry<'a>(out: &mut Line, directive: Directive, bytes: &'a [u8]) ->
 pub(super) fn put_entries(out: &mut Line, directive: Directive, bytes: &[u8])
     requires some { entry_len directive ≤ length bytes.now }
     requires room { len_with out.old 3 bytes.now ≤ 512 }
-    ensures items { Extends out.old (numbers_text directive bytes.now) out.new }
-    ensures len { array_vec_len out.new ≤ len_with out.old 3 bytes.now }
+    ensures { Appends out.old (numbers_text directive bytes.now) out.new (3 * length bytes.now) }
 {
     let mut rest = put_first_entry(out, directive, bytes);
     'entries: while rest.len() >= directive.entry_len() {
@@ -111,11 +108,12 @@ fn put_first_datum<'a>(out: &mut Line, bytes: &'a [u8]) -> &'a [u8]
 }
 
 /// Appends the bytes as text.
+#[tactic(auto, using(crate::proofs::WidthLemmas::each_in_width))]
 pub(super) fn put_text(out: &mut Line, bytes: &[u8])
     requires some { 1 ≤ length bytes.now }
     requires room { len_with out.old 4 bytes.now ≤ 512 }
-    ensures items { Extends out.old (data_text (cut_text bytes.now)) out.new }
-    ensures len { array_vec_len out.new ≤ len_with out.old 4 bytes.now }
+    ensures text { Appends out.old (data_text (cut_text bytes.now)) out.new (4 * length bytes.now) }
+    ensures width { AreBytes bytes.now }
 {
     let mut rest = put_first_datum(out, bytes);
     'data: while !rest.is_empty() {

@@ -172,6 +172,7 @@ fn after_blanks(bytes: &[u8]) -> &[u8]
 }
 
 /// The part with which the bytes begin, and how many of them it has. They begin with no blank.
+#[inline(always)]
 #[tactic(auto, using(crate::proofs::PartLemmas::lexing))]
 pub fn part_here(language: Language, bytes: &[u8]) -> Option<(Part<'_>, usize)>
     requires stop { 0 < length bytes.now → is_blank (get_or bytes.now 0 0) ≡ false }

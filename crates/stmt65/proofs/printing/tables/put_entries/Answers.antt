@@ -11,5 +11,5 @@ entries-preserved c =
       len = omega arith;
     }
 
-pub returns-clause-items : goal.returns-clause-items
-returns-clause-items c = entries_end c.args.directive c.entries.rest.now c.entries.out.items _ (omega arith) c.entries.invariant.items
+pub returns : goal.returns
+returns c = record { items = entries_end c.args.directive c.entries.rest.now c.entries.out.items _ (omega arith) c.entries.invariant.items; len = omega arith }

@@ -11,7 +11,7 @@ data-preserved c =
       len = omega arith;
     }
 
-pub returns-clause-items : goal.returns-clause-items
-returns-clause-items c =
+pub returns-clause-text : goal.returns-clause-text
+returns-clause-text c =
     let none : length c.data.rest.now ≡ 0 = eqb-true (length c.data.rest.now) 0 (sym c.is_empty.ensures ∙ c.data-test.false) in
-    text_end c.data.rest.now c.data.out.items _ none c.data.invariant.items
+    record { items = text_end c.data.rest.now c.data.out.items _ none c.data.invariant.items; len = omega arith }
