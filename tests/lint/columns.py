@@ -11,7 +11,7 @@ CLAUSE = 100
 WIDER = {
     "isa65": 2,
     "text65": 1,
-    "stmt65": 13,
+    "stmt65": 8,
     "info65": 21,
     "map65": 3,
     "usage65": 1,

@@ -45,10 +45,6 @@ word_part : (b : ℕ) (w rest : List ℕ) → is_word_start b ≡ true → list_
 unfolding part_at
 word_part b w rest h g e = rw (h, prefix_stop is_word_byte w rest g e, take_at w rest (length w) refl) refl
 
-parts_word : (w rest : List ℕ) → IsWordText w → Ends rest → parts Listing (w ++ rest) ≡ Word w ∷ parts Listing rest
-parts_word [] rest h e = absurd h
-parts_word (b ∷ w) rest h e = grind (arith, word_begins, parts_part, word_part, drop_at)
-
 parts_blanks : (n : ℕ) (rest : List ℕ) → parts Listing (replicate n 32 ++ rest) ≡ parts Listing rest
 parts_blanks zero rest = refl
 parts_blanks (suc n) rest = parts_blank Listing 32 (replicate n 32 ++ rest) refl ∙ parts_blanks n rest
@@ -59,30 +55,11 @@ parts_blanks (suc n) rest = parts_blank Listing 32 (replicate n 32 ++ rest) refl
 abbrev pub begun : ℕ → List Bool
 begun b = is_blank b ∷ eqb b 59 ∷ is_word_start b ∷ is_ascii_digit b ∷ eqb b 36 ∷ eqb b 34 ∷ eqb b 58 ∷ eqb b 10 ∷ []
 
-parts_mark : (b : ℕ) (rest : List ℕ) → begun b ≡ replicate 8 false → parts Listing (b ∷ rest) ≡ Mark b ∷ parts Listing rest
-unfolding part_at
-parts_mark b rest h = grind (arith, parts_part)
-
--- `:=`
-parts_define : (rest : List ℕ) → parts Listing (58 ∷ 61 ∷ rest) ≡ Define ∷ parts Listing rest
-unfolding part_at
-parts_define rest = parts_part Listing 58 (61 ∷ rest) refl refl
-
--- the `:` of a label or of `a:`, where no `=` follows
-parts_colon : (rest : List ℕ) → begins_with 61 rest ≡ false → parts Listing (58 ∷ rest) ≡ Mark 58 ∷ parts Listing rest
-unfolding part_at
-parts_colon rest h = parts_part Listing 58 rest refl refl ∙ rw h refl
-
 -- ---- strings
 
 text_part : (t rest : List ℕ) → list_all is_text_byte t ≡ true → part_at Listing 34 (t ++ 34 ∷ rest) ≡ (Text t, length t + 1)
 unfolding part_at
 text_part t rest h = grind (arith, prefix_stop, take_at, drop_at)
-
-parts_text : (t rest : List ℕ) → list_all is_text_byte t ≡ true → parts Listing (34 ∷ (t ++ 34 ∷ rest)) ≡ Text t ∷ parts Listing rest
-parts_text t rest h =
-    let d : drop (length t + 1) (t ++ 34 ∷ rest) ≡ rest = sym (drop-drop 1 (length t) (t ++ 34 ∷ rest)) ∙ ap (drop 1) (drop_at t (34 ∷ rest) (length t) refl) in
-    parts_part Listing 34 (t ++ 34 ∷ rest) refl refl ∙ rw (text_part t rest h, d) refl
 
 -- ---- numbers
 
@@ -102,9 +79,6 @@ ends_hex (b ∷ rest) h = hex_is_word b h
 hex_part : (ds rest : List ℕ) → list_all is_ascii_hexdigit ds ≡ true → 0 < length ds → length ds ≤ 8 → Ends rest → part_at Listing 36 (ds ++ rest) ≡ (Number (36 ∷ ds), length ds)
 unfolding part_at
 hex_part ds rest h pos le e = grind (arith, prefix_stop, ends_hex, min, ltb, take_at)
-
-parts_hex : (ds rest : List ℕ) → list_all is_ascii_hexdigit ds ≡ true → 0 < length ds → length ds ≤ 8 → Ends rest → parts Listing (36 ∷ (ds ++ rest)) ≡ Number (36 ∷ ds) ∷ parts Listing rest
-parts_hex ds rest h pos le e = grind (arith, parts_part, hex_part, drop_at)
 
 is_digit : (d : ℕ) → digit_value d < 10 → is_ascii_digit d ≡ true
 is_digit d h = let r = digit_from_value d h in grind (arith, nat_tests)
@@ -177,31 +151,38 @@ start_in_line b h = grind (arith, nat_tests)
 
 pub lexes_word : {P : List Part → Type 0} (w rest : List ℕ) → IsWordText w → Ends rest → P (Word w ∷ []) → Lexes P w rest
 lexes_word [] rest i e h = absurd i
-lexes_word (b ∷ w) rest i e h = record { front = Word (b ∷ w) ∷ []; split = parts_word (b ∷ w) rest i e; is = h; in_line = rw (start_in_line b i.0) (all_as is_word_byte in_line (λ c k. grind (arith, nat_tests)) w i.1) }
+lexes_word (b ∷ w) rest i e h = record { front = Word (b ∷ w) ∷ []; split = grind (arith, word_begins, parts_part, word_part, drop_at); is = h; in_line = rw (start_in_line b i.0) (all_as is_word_byte in_line (λ c k. grind (arith, nat_tests)) w i.1) }
 
 pub lexes_text : {P : List Part → Type 0} (t rest : List ℕ) → list_all is_text_byte t ≡ true → P (Text t ∷ []) → Lexes P (quoted t) rest
-lexes_text t rest i h = record {
-  front = Text t ∷ [];
-  split = ap (λ (l : List ℕ). parts Listing (34 ∷ l)) (append_assoc t (34 ∷ []) rest) ∙ parts_text t rest i;
-  is = h;
-  in_line = in_line_both t (34 ∷ []) (all_as is_text_byte in_line (λ c k. grind (arith, nat_tests)) t i) refl;
-}
+lexes_text t rest i h =
+    let d : drop (length t + 1) (t ++ 34 ∷ rest) ≡ rest = sym (drop-drop 1 (length t) (t ++ 34 ∷ rest)) ∙ ap (drop 1) (drop_at t (34 ∷ rest) (length t) refl) in
+    record {
+      front = Text t ∷ [];
+      split = ap (λ (l : List ℕ). parts Listing (34 ∷ l)) (append_assoc t (34 ∷ []) rest) ∙ parts_part Listing 34 (t ++ 34 ∷ rest) refl refl ∙ rw (text_part t rest i, d) refl;
+      is = h;
+      in_line = in_line_both t (34 ∷ []) (all_as is_text_byte in_line (λ c k. grind (arith, nat_tests)) t i) refl;
+    }
 
+-- `:=`
 pub lexes_define : (rest : List ℕ) → Lexes (IsItem define) (codes ":=") rest
-lexes_define rest = record { front = Define ∷ []; split = parts_define rest; is = refl; in_line = refl }
+unfolding part_at
+lexes_define rest = record { front = Define ∷ []; split = parts_part Listing 58 (61 ∷ rest) refl refl; is = refl; in_line = refl }
 
+-- the `:` of a label or of `a:`, where no `=` follows
 pub lexes_colon : (rest : List ℕ) → begins_with 61 rest ≡ false → Lexes (IsItem (mark 58)) (codes ":") rest
-lexes_colon rest h = record { front = Mark 58 ∷ []; split = parts_colon rest h; is = refl; in_line = refl }
+unfolding part_at
+lexes_colon rest h = record { front = Mark 58 ∷ []; split = parts_part Listing 58 rest refl refl ∙ rw h refl; is = refl; in_line = refl }
 
 pub lexes_mark : (b : ℕ) (rest : List ℕ) → begun b ≡ replicate 8 false → Lexes (IsItem (mark b)) (b ∷ []) rest
-lexes_mark b rest h = record { front = Mark b ∷ []; split = parts_mark b rest h; is = refl; in_line = grind arith }
+unfolding part_at
+lexes_mark b rest h = record { front = Mark b ∷ []; split = grind (arith, parts_part); is = refl; in_line = grind arith }
 
 -- ---- numbers that are printed
 
 -- `$` and the digits of a number
 pub lexes_hex : (n : ℕ) (ds rest : List ℕ) → n ≡ digits_value 16 ds → list_all is_ascii_hexdigit ds ≡ true → 0 < length ds → length ds ≤ 8 → Ends rest → Lexes (IsNumber n) (36 ∷ ds) rest
 unfolding number_of
-lexes_hex n ds rest v h pos le e = record { front = Number (36 ∷ ds) ∷ []; split = parts_hex ds rest h pos le e; is = (36 ∷ ds, v, refl); in_line = all_as is_ascii_hexdigit in_line (λ c k. grind (arith, nat_tests)) ds h }
+lexes_hex n ds rest v h pos le e = record { front = Number (36 ∷ ds) ∷ []; split = grind (arith, parts_part, hex_part, drop_at); is = (36 ∷ ds, v, refl); in_line = all_as is_ascii_hexdigit in_line (λ c k. grind (arith, nat_tests)) ds h }
 
 pub below_16 : (n : ℕ) → n % 16 < 16
 below_16 n = omega arith

@@ -1,7 +1,7 @@
 -- The line of a statement is a spelling of that statement, so it reads as it.
 use Rattle.std.specs.Prelude.{◌%◌, ◌++◌, ◌-◌, ◌/◌, ◌<◌, ◌||◌, ◌∷◌, ◌≡◌}
 use Rattle.stmt65.proofs.Lemmas.{Bool, List, None, Option, [], and_parts, ap, append-nil, append_assoc, arith, bytes_eq-Decides, cpu_name, eqb, eqb-true, false, inl, inr, length, length-append, ltb, ltb-true, nat_tests, ne_eqb, refl, replicate, suc, sym, true, zero, ℕ, ◌∙◌}
-use Rattle.stmt65.specs.Words.{Adc, AreOperands, AreWordWide, Automatic, Code, Columns, Directive, Empty, ExprView, HasLabelName, HasName, HasNames, HasNamesIn, Imp, Instr, IsInWidth, IsItem, IsLong, IsOperand, IsPlus, IsPrintable, IsSome, IsValue, IsWordWide, IsWrittenIn, Item, Listing, Mark, MayBeForced, MayBeLabelled, Mnemonic, Mode, NameValue, Number, NumberDatum, NumberValue, One, OperandKind, OperandsView, Operation, Part, Pattern, PrintsAs, RemarksView, Row, Segment, SetCpu, Some, SourceLine, Spells, Statement, StatementView, TargetView, Value, Word, Zero, alone, begins_with, bytes_text, character, codes, cpu_text, cut_text, data_list, data_text, definition_fields, digits4, directive_text, distance_text, entries, entry_value, fields_of, filled, flat_map, form_items, has_bytes, has_name_form, hex4, hex_digit, instr_fields, is_ascii_alphabetic, is_name, is_text_byte, is_word_byte, is_word_start, kind_text, label_fields, level_fields, line_items, line_of, list_all, long_text, map, mark, named_text, number, numbers_text, offset_text, operand_text, operation_items, parts, plain_line, prefix_items, prefix_text, quoted, quoted_name, remark_fields, return_text, row_form, row_of, row_operands, sized, source_form, source_line, source_value, spaced_byte, str_to_ascii_lowercase, string, text_of, value, value_list, with_fields, with_label, with_operands, word, zero_page_row}
+use Rattle.stmt65.specs.Words.{Adc, AreOperands, AreWordWide, Automatic, Code, Columns, Directive, Empty, ExprView, HasLabelName, HasName, HasNames, HasNamesIn, Imp, Instr, IsInWidth, IsItem, IsLong, IsOperand, IsPlus, IsPrintable, IsSome, IsValue, IsWordWide, IsWrittenIn, Item, Listing, Mark, MayBeForced, MayBeLabelled, Mnemonic, Mode, NameValue, Number, NumberDatum, NumberValue, OperandKind, OperandsView, Operation, Part, PrintsAs, RemarksView, Row, Segment, SetCpu, Some, SourceLine, Spells, Statement, StatementView, TargetView, Value, Word, Zero, alone, begins_with, bytes_text, character, codes, cpu_text, cut_text, data_list, data_text, definition_fields, digits4, directive_text, distance_text, entries, entry_value, fields_of, filled, flat_map, form_items, has_bytes, has_name_form, hex4, hex_digit, instr_fields, is_ascii_alphabetic, is_name, is_text_byte, is_word_byte, is_word_start, kind_text, label_fields, level_fields, line_items, line_of, list_all, long_text, map, mark, named_text, number, numbers_text, offset_text, operand_text, operation_items, parts, plain_line, prefix_items, prefix_text, quoted, quoted_name, remark_fields, return_text, row_form, row_of, row_operands, source_form, source_line, source_value, spaced_byte, str_to_ascii_lowercase, string, text_of, value, value_list, with_fields, with_label, with_operands, word, zero_page_row}
 use Rattle.isa65.specs.declared.row.OperandKind.TheVariants as kind
 use Rattle.isa65.specs.declared.row.Pattern.TheVariants as pattern
 use Rattle.isa65.specs.declared.row.Row.TheVariants as row
@@ -29,25 +29,6 @@ worded : (w : List ℕ) (is : List Item) (text rest : List ℕ) → IsWordText w
 worded w is text rest i e h = lexes_item (word w) is w text rest (lexes_word w (text ++ rest) i e (own w)) h
 
 -- ---- expressions
-
--- a number of 16 bits, or a name that is not reserved
-abbrev pub IsRead : ExprView → Type 0
-IsRead (view.number n) = n < 65536
-IsRead (view.name name offset) = (is_name name ≡ true) × (offset < 65536)
-
-abbrev pub AreRead : OperandsView → Type 0
-AreRead view.none = Unit {0}
-AreRead (view.one e) = IsRead e
-AreRead (view.two e f) = IsRead e × IsRead f
-
-is_read : (e : ExprView) → HasName e → IsWordWide e → IsRead e
-is_read (view.number n) name wide = wide
-is_read (view.name name offset) named wide = (named, wide)
-
-pub are_read : (os : OperandsView) → HasNamesIn os → AreWordWide os → AreRead os
-are_read view.none names wide = tt
-are_read (view.one e) name wide = is_read e name wide
-are_read (view.two e f) names wide = (is_read e names.0 wide.0, is_read f names.1 wide.1)
 
 -- a name is a word
 pub name_word : (w : List ℕ) → is_name w ≡ true → IsWordText w
@@ -86,24 +67,24 @@ x_close rest = marked 44 _ (codes "x)") rest refl (worded (codes "x") _ (codes "
 
 -- ---- expressions and what stands around them
 
-kind_lexes : (h : Bool) (k : OperandKind) (e : ExprView) (rest : List ℕ) → IsOperand k e → IsRead e → Ends rest → Lexes (IsValue (source_value e)) (kind_text h k e) rest
-kind_lexes h kind.Byte (view.number n) rest s has e = lexes_hex2 n rest s e
-kind_lexes h kind.ZeroPage (view.number n) rest s has e = lexes_hex2 n rest s e
-kind_lexes h _ (view.number n) rest s has e = lexes_hex4 n rest has e
-kind_lexes h kind.Byte (view.name name offset) rest s has e = absurd s
-kind_lexes h _ (view.name name offset) rest s has e = named_lexes h name rest offset has.0 has.1 e
+kind_lexes : (h : Bool) (k : OperandKind) (e : ExprView) (rest : List ℕ) → IsOperand k e → HasName e → IsWordWide e → Ends rest → Lexes (IsValue (source_value e)) (kind_text h k e) rest
+kind_lexes h kind.Byte (view.number m) rest s n w e = lexes_hex2 m rest s e
+kind_lexes h kind.ZeroPage (view.number m) rest s n w e = lexes_hex2 m rest s e
+kind_lexes h _ (view.number m) rest s n w e = lexes_hex4 m rest w e
+kind_lexes h kind.Byte (view.name name offset) rest s n w e = absurd s
+kind_lexes h _ (view.name name offset) rest s n w e = named_lexes h name rest offset n w e
 
-kind_then : (h : Bool) (k : OperandKind) (e : ExprView) (is : List Item) (text rest : List ℕ) → IsOperand k e → IsRead e → Ends (text ++ rest) → Lexes (Spells is) text rest
+kind_then : (h : Bool) (k : OperandKind) (e : ExprView) (is : List Item) (text rest : List ℕ) → IsOperand k e → HasName e → IsWordWide e → Ends (text ++ rest) → Lexes (Spells is) text rest
     → Lexes (Spells (value (source_value e) ∷ is)) (kind_text h k e ++ text) rest
-kind_then h k e is text rest s has ends t = lexes_item (value (source_value e)) is (kind_text h k e) text rest (kind_lexes h k e (text ++ rest) s has ends) t
+kind_then h k e is text rest s n w ends t = lexes_item (value (source_value e)) is (kind_text h k e) text rest (kind_lexes h k e (text ++ rest) s n w ends) t
 
 word_no_equals : (b : ℕ) → is_word_start b ≡ true → eqb b 61 ≡ false
 word_no_equals b h = grind (arith, nat_tests)
 
 -- an expression does not begin with `=`
-no_equals : (h : Bool) (e : ExprView) (rest : List ℕ) → IsRead e → begins_with 61 (long_text h e ++ rest) ≡ false
+no_equals : (h : Bool) (e : ExprView) (rest : List ℕ) → HasName e → begins_with 61 (long_text h e ++ rest) ≡ false
 no_equals h (view.number n) rest has = refl
-no_equals h (view.name name offset) rest has = go name (name_word name has.0) (eqb offset 0) refl
+no_equals h (view.name name offset) rest has = go name (name_word name has) (eqb offset 0) refl
   where
     go : (w : List ℕ) → IsWordText w → (t : Bool) → eqb offset 0 ≡ t → begins_with 61 (named_text h w offset ++ rest) ≡ false
     go [] i t f = absurd i
@@ -111,39 +92,33 @@ no_equals h (view.name name offset) rest has = go name (name_word name has.0) (e
     go (b ∷ w) i false f = rw f (word_no_equals b i.0)
 
 -- an expression after `a:`
-forced : (h : Bool) (e : ExprView) (is : List Item) (text rest : List ℕ) → IsLong e → IsRead e → Ends (text ++ rest) → Lexes (Spells is) text rest
+forced : (h : Bool) (e : ExprView) (is : List Item) (text rest : List ℕ) → IsLong e → HasName e → IsWordWide e → Ends (text ++ rest) → Lexes (Spells is) text rest
     → Lexes (Spells (prefix_items true ++ value (source_value e) ∷ is)) (prefix_text true ++ (long_text h e ++ text)) rest
-forced h e is text rest s has ends t =
+forced h e is text rest s n w ends t =
     worded (codes "a") _ (58 ∷ (long_text h e ++ text)) rest (refl, refl) refl
-    (lexes_item (mark 58) _ (codes ":") (long_text h e ++ text) rest (lexes_colon ((long_text h e ++ text) ++ rest) (rw append_assoc (no_equals h e (text ++ rest) has))) (kind_then h kind.Word e is text rest s has ends t))
+    (lexes_item (mark 58) _ (codes ":") (long_text h e ++ text) rest (lexes_colon ((long_text h e ++ text) ++ rest) (rw append_assoc (no_equals h e (text ++ rest) n))) (kind_then h kind.Word e is text rest s n w ends t))
 
 -- ---- the operands of each row
 
-row_spelled : (h : Bool) (r : Row) (os : OperandsView) (rest : List ℕ) → AreOperands r os → AreRead os → Ends rest → Lexes (Spells (form_items (row_form r Automatic os))) (row_operands h r false os) rest
-row_spelled h row.Implied view.none rest w n ends = lexes_nothing rest
-row_spelled h row.Accumulator view.none rest w n ends = one_word 97 rest (refl, refl) ends
-row_spelled h (row.One pattern.Immediate k) (view.one e) rest w n ends = grind (arith, kind_then, marked, comma_x, comma_y, close, close_y, x_close, lexes_nothing)
-row_spelled h (row.One _ k) (view.one e) rest w n ends = grind (arith, kind_then, marked, comma_x, comma_y, close, close_y, x_close, lexes_nothing)
-row_spelled h (row.Two k l) (view.two e f) rest w n ends = grind (arith, kind_then, marked, lexes_nothing)
-row_spelled h _ _ rest w n ends = absurd w
+row_spelled : (h : Bool) (r : Row) (os : OperandsView) (rest : List ℕ) → AreOperands r os → HasNamesIn os → AreWordWide os → Ends rest → Lexes (Spells (form_items (row_form r Automatic os))) (row_operands h r false os) rest
+row_spelled h row.Implied view.none rest are n w ends = lexes_nothing rest
+row_spelled h row.Accumulator view.none rest are n w ends = one_word 97 rest (refl, refl) ends
+row_spelled h (row.One pattern.Immediate k) (view.one e) rest are n w ends = grind (arith, kind_then, marked, comma_x, comma_y, close, close_y, x_close, lexes_nothing)
+row_spelled h (row.One _ k) (view.one e) rest are n w ends = grind (arith, kind_then, marked, comma_x, comma_y, close, close_y, x_close, lexes_nothing)
+row_spelled h (row.Two k l) (view.two e f) rest are n w ends = grind (arith, kind_then, marked, lexes_nothing)
+row_spelled h _ _ rest are n w ends = absurd are
 
-forced_one : (h : Bool) (p : Pattern) (k : OperandKind) (e : ExprView) (rest : List ℕ) → IsOperand k e → IsRead e → IsSome (zero_page_row (row.One p k)) → Ends rest
-    → Lexes (Spells (form_items (One (sized Absolute p) (source_value e)))) (row_operands h (row.One p k) true (view.one e)) rest
-forced_one h pattern.Direct kind.Word e rest w n f ends = forced h e [] [] rest w n ends (lexes_nothing rest)
-forced_one h pattern.DirectX kind.Word e rest w n f ends = forced h e _ (codes ",x") rest w n refl (comma_x rest ends)
-forced_one h pattern.DirectY kind.Word e rest w n f ends = forced h e _ (codes ",y") rest w n refl (comma_y rest ends)
-forced_one h _ kind.Word e rest w n f ends = absurd cc
-forced_one h _ _ e rest w n f ends = absurd cc
+forced_spelled : (h : Bool) (r : Row) (os : OperandsView) (rest : List ℕ) → AreOperands r os → HasNamesIn os → AreWordWide os → IsSome (zero_page_row r) → Ends rest
+    → Lexes (Spells (form_items (row_form r Absolute os))) (row_operands h r true os) rest
+forced_spelled h (row.One pattern.Direct kind.Word) (view.one e) rest are n w f ends = forced h e [] [] rest are n w ends (lexes_nothing rest)
+forced_spelled h (row.One pattern.DirectX kind.Word) (view.one e) rest are n w f ends = forced h e _ (codes ",x") rest are n w refl (comma_x rest ends)
+forced_spelled h (row.One pattern.DirectY kind.Word) (view.one e) rest are n w f ends = forced h e _ (codes ",y") rest are n w refl (comma_y rest ends)
+forced_spelled h _ _ rest are n w f ends = grind arith
 
-forced_spelled : (h : Bool) (r : Row) (os : OperandsView) (rest : List ℕ) → AreOperands r os → AreRead os → IsSome (zero_page_row r) → Ends rest → Lexes (Spells (form_items (row_form r Absolute os))) (row_operands h r true os) rest
-forced_spelled h (row.One p k) (view.one e) rest w n f ends = forced_one h p k e rest w n f ends
-forced_spelled h (row.One p k) _ rest w n f ends = absurd w
-forced_spelled h _ _ rest w n f ends = absurd cc
-
-operand_spelled : (h : Bool) (m : Mode) (a : Bool) (os : OperandsView) (rest : List ℕ) → IsWrittenIn m os → MayBeForced m a → AreRead os → Ends rest → Lexes (Spells (form_items (source_form m a os))) (operand_text h m a os) rest
+operand_spelled : (h : Bool) (m : Mode) (a : Bool) (os : OperandsView) (rest : List ℕ) → IsWrittenIn m os → MayBeForced m a → HasNamesIn os → AreWordWide os → Ends rest → Lexes (Spells (form_items (source_form m a os))) (operand_text h m a os) rest
 unfolding operand_text source_form
-operand_spelled h m false os rest w f n ends = row_spelled h (row_of m) os rest w n ends
-operand_spelled h m true os rest w f n ends = forced_spelled h (row_of m) os rest w n (f refl) ends
+operand_spelled h m false os rest are f n w ends = row_spelled h (row_of m) os rest are n w ends
+operand_spelled h m true os rest are f n w ends = forced_spelled h (row_of m) os rest are n w (f refl) ends
 
 -- ---- data
 
@@ -251,12 +226,12 @@ unoperated : (label : Option (List ℕ)) (c : Columns) (w : List ℕ) (o : Opera
     → Says (with_label label (Statement None o)) (with_fields (with_fields [] (label_fields label)) (alone c w)) rest
 unoperated label c w o rest n e h ends = rw (labelled label o, e) (leads_start label n c.mnemonic (word w ∷ []) w rest (lexes_last (word w) w rest (lexes_word w rest h ends (own w))))
 
-instr_spelled : (label : Option (List ℕ)) (c : Columns) (h : Bool) (m : Mnemonic) (mode : Mode) (a : Bool) (os : OperandsView) (rest : List ℕ) → HasLabelName label → IsWrittenIn mode os → MayBeForced mode a → AreRead os → Ends rest
+instr_spelled : (label : Option (List ℕ)) (c : Columns) (h : Bool) (m : Mnemonic) (mode : Mode) (a : Bool) (os : OperandsView) (rest : List ℕ) → HasLabelName label → IsWrittenIn mode os → MayBeForced mode a → HasNamesIn os → AreWordWide os → Ends rest
     → Says (with_label label (Statement None (Instr m (source_form mode a os)))) (with_fields (with_fields [] (label_fields label)) (instr_fields c h (record { mnemonic = m; mode = mode }) a os)) rest
 unfolding source_form
-instr_spelled label c h m Imp a view.none rest l w f n ends = unoperated label c (text_of m) (Instr m Empty) rest l refl (mnemonic_word m) ends
-instr_spelled label c h m Imp a _ rest l w f n ends = absurd w
-instr_spelled label c h m mode a os rest l w f n ends = operated label c (text_of m) (operand_text h mode a os) (Instr m (source_form mode a os)) _ rest l refl (mnemonic_word m) (operand_spelled h mode a os rest w f n ends)
+instr_spelled label c h m Imp a view.none rest l are f n w ends = unoperated label c (text_of m) (Instr m Empty) rest l refl (mnemonic_word m) ends
+instr_spelled label c h m Imp a _ rest l are f n w ends = absurd are
+instr_spelled label c h m mode a os rest l are f n w ends = operated label c (text_of m) (operand_text h mode a os) (Instr m (source_form mode a os)) _ rest l refl (mnemonic_word m) (operand_spelled h mode a os rest are f n w ends)
 
 -- the only operand of a directive
 abbrev single : Value → List Item
@@ -291,7 +266,7 @@ remark_spelled text rest h none = record { front = []; split = parts_remark List
 spelled_back : (c : Columns) (h : Bool) (label : Option (List ℕ)) (s : StatementView) (rest : List ℕ) → IsPrintable s → IsInWidth s → HasNames s → MayBeLabelled c label s → HasLabelName label → IsTail rest
     → Says (with_label label (source_line s)) (with_fields (with_fields [] (label_fields label)) (fields_of c h s)) rest
 unfolding filled
-spelled_back c h label (view.instr op a os) rest p w n m l t = instr_spelled label c h op.mnemonic op.mode a os rest l p.0 p.1 (are_read os n w) t.ends
+spelled_back c h label (view.instr op a os) rest p w n m l t = instr_spelled label c h op.mnemonic op.mode a os rest l p.0 p.1 n w t.ends
 spelled_back c h label (view.bytes bs) rest p w n m l t = operated label c (codes ".byte") (bytes_text bs) _ _ rest l refl (refl, refl) (lexes_last (data_list (map NumberDatum bs)) _ rest (bytes_listed bs rest p.0 w t.ends))
 spelled_back c h label (view.text bs) rest p w n m l t = operated label c (codes ".byte") (data_text (cut_text bs)) _ _ rest l refl (refl, refl) (lexes_last (data_list (cut_text bs)) _ rest (text_listed bs rest p.0 w t.ends))
 spelled_back c h label (view.numbers d bs) rest p w n m l t = operated label c (directive_text d) (numbers_text d bs) _ _ rest l refl (directive_word d) (lexes_last (value_list (map (entry_value d) (entries d bs))) _ rest (numbers_listed d bs rest p.1.0 w t.ends))

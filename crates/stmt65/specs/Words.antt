@@ -1,5 +1,5 @@
 -- The words of clauses and proofs, here and in the crates above, from one place.
-pub use Rattle.stmt65.specs.Types.{ALL, Abs, Absindx, AbsoluteX, AbsoluteY, Absx, Absy, Acc, Addr, AddressSize, All, AllDigits, Asl, AsmFault, AsmFaultKind, Automatic, BigEndian, ByteOrder, Coded, Columns, Cpu, Dbyt, Decides, DefinedTwice, Direct, DirectX, DirectY, Directive, Dword, Err, Extends, Fit, High, IfSome, Imm, Immediate, Imp, Inc, Ind, Indirect, IndirectX, IndirectY, Indx, Indy, IsSome, Language, Late, List, Listing, LittleEndian, Low, M6502, MatchOption, Minus, Mnemonic, Mode, NoSuchForm, None, Ok, OnFalse, OnTrue, OperandKind, Option, OutOfRange, PastEnd, PastStart, Pattern, Plain, Rel, Repair, Result, Ror, Row, Some, Syntax, Undefined, UnknownCpu, Work, Zero, Zp, Zpind, Zprel, Zpx, Zpy, [], array_vec_len, bytes_eq, codes, cpu_text, decimal, digit_value, digits4, digits_value, digits_value_after, drop, encoded, false, filter, flat_map, get_or, hex_digit, is_ascii_alphabetic, is_ascii_digit, is_ascii_hexdigit, is_blank, is_some, is_word_byte, len_of, length, list_all, list_any, map, max, min, nat_lt, not, option_copied, option_map, prefix_len, replicate, reverse, row_of, row_text, slice_get, slice_index, str_to_ascii_lowercase, table_of, take, text_of, true, written, zero_page_of, zero_page_row}
+pub use Rattle.stmt65.specs.Types.{ALL, Abs, Absindx, AbsoluteX, AbsoluteY, Absx, Absy, Acc, Addr, AddressSize, All, AllDigits, Asl, AsmFault, AsmFaultKind, Automatic, BigEndian, ByteOrder, Coded, Columns, Cpu, Dbyt, Decides, DefinedTwice, Direct, DirectX, DirectY, Directive, Dword, Err, Extends, Fit, High, IfSome, Imm, Immediate, Imp, Inc, Ind, Indirect, IndirectX, IndirectY, Indx, Indy, IsSome, Language, Late, List, Listing, LittleEndian, Low, M6502, MatchOption, Minus, Mnemonic, Mode, NoSuchForm, None, Ok, OperandKind, Option, OutOfRange, PastEnd, PastStart, Pattern, Plain, Rel, Repair, Result, Ror, Row, Some, Syntax, Undefined, UnknownCpu, Work, Zero, Zp, Zpind, Zprel, Zpx, Zpy, [], array_vec_len, bytes_eq, codes, cpu_text, decimal, digit_value, digits4, digits_value, digits_value_after, drop, encoded, false, filter, flat_map, get_or, hex_digit, is_ascii_alphabetic, is_ascii_digit, is_ascii_hexdigit, is_blank, is_some, is_word_byte, len_of, length, list_all, list_any, map, max, min, nat_lt, not, option_copied, option_map, prefix_len, replicate, reverse, row_of, row_text, slice_get, str_to_ascii_lowercase, table_of, take, text_of, true, written, zero_page_of, zero_page_row}
 unfoldable pub use Rattle.stmt65.specs.Types.{cpu_named, has_name_form, is_reserved_word, mnemonic_named, text_lines}
 pub use Rattle.stmt65.specs.Answer.{Assembles, IsExplained, out_of_memory}
 pub use Rattle.stmt65.specs.Code.CodingViews.{Adds, AddsOne, Emits, IsFirstOf, IsFirstWay, Puts, PutsAll, coded_of, data_fragments, entry_fragments, fragment_of, instruction_of, operand_of}
@@ -38,7 +38,7 @@ unfoldable pub use Rattle.stmt65.specs.Meaning.{after, bytes_of, coded, cpu_afte
 pub use Rattle.stmt65.specs.ModeLaws.{EachWay, HasMode, IsModeOf, IsWay, LacksForm, ModesAreWays, NeedsMode, TakesMode, TakesModes, WaysAreModes, is_way, mode_fragments}
 pub use Rattle.stmt65.specs.Names.{same}
 unfoldable pub use Rattle.stmt65.specs.Names.{is_name}
-pub use Rattle.stmt65.specs.Operands.{in_pattern, in_row, kind_text, kind_texts, long_text, named_text, prefix_text, row_operands}
+pub use Rattle.stmt65.specs.Operands.{in_row, kind_text, long_text, named_text, prefix_text, row_operands}
 unfoldable pub use Rattle.stmt65.specs.Operands.{operand_text}
 pub use Rattle.stmt65.specs.Parts.{Define, Mark, Number, Part, Text, Word, begins_with}
 pub use Rattle.stmt65.specs.Places.{GoesOver, IsAmong, IsRemarkOf, ReadsAs, StandsIn, bytes_in, part_text, parts_left, value_alone}
@@ -53,7 +53,7 @@ pub use Rattle.stmt65.specs.Sources.{source_addresses, source_definitions, sourc
 pub use Rattle.stmt65.specs.Spacing.{IsDecimal, IsHex, IsSpacing, IsText, is_alone}
 pub use Rattle.stmt65.specs.Spelling.{IsDatum, IsItem, IsList, IsMinus, IsPlus, IsSpelling, IsValue, Item, data_list, define, form_items, line_items, mark, name, number, operation_items, prefix_items, quoted_name, string, unwritten, value, value_list, word}
 unfoldable pub use Rattle.stmt65.specs.Spelling.{Spells}
-pub use Rattle.stmt65.specs.Statements.{Field, alone, bytes_text, data_text, datum_text, definition_fields, distance_text, entry_text, fields_of, has_bytes, instr_fields, label_fields, next_text, numbers_text, quoted, remark_fields, return_text, with_operands}
+pub use Rattle.stmt65.specs.Statements.{alone, bytes_text, data_text, datum_text, definition_fields, distance_text, entry_text, fields_of, has_bytes, instr_fields, label_fields, next_text, numbers_text, quoted, remark_fields, return_text, with_operands}
 unfoldable pub use Rattle.stmt65.specs.Statements.{comma_list}
 pub use Rattle.stmt65.specs.Symbols.{Definition, address_of, apart, below, is_constant, is_small, lowered}
 unfoldable pub use Rattle.stmt65.specs.Symbols.{find_name, has_zero_page_size, is_known, value_in, word_in}

@@ -8,6 +8,7 @@ use Rattle.std.proofs.lemmas.List.{length-take-le}
 use Rattle.std.proofs.lemmas.List.Elements.{All-head, All-tail, All-take}
 use Rattle.isa65.specs.Words.{Table, len_of, row_of, size_of}
 use Rattle.da65.specs.Words.{IsGroupOf, ListingLine, Mode, AddressNames, OperandKind, RangeType, Row, Style, address_expr, begins, constant_base, expr_from, group_bytes, line_text, names_of, operand_expr, operands_of, statement_at, statement_for, zero_page_expr}
+use Rattle.da65.specs.Listing.{remarks_of}
 use Rattle.isa65.specs.declared.row.OperandKind.TheVariants as kind
 use Rattle.isa65.specs.declared.row.Row.TheVariants as row
 use Rattle.info65.specs.Words.{AreNames}
@@ -37,7 +38,7 @@ pub record CanPrint (t : Style) (l : ListingLine) : Type 0 where
 
 pub prints : (t : Style) (l : ListingLine) → CanPrint t l → PrintsAs (line_text t l) (with_label l.label (source_line l.statement))
 unfolding line_text
-prints t l h = grind (arith, prints_as)
+prints t l h = prints_as t.columns l.statement (remarks_of t l) h.statement.printable h.statement.width h.statement.names h.room h.label
 
 -- ---- bytes
 

@@ -32,7 +32,8 @@ fn less_one<'a>(
     plus: Numeral<'a>,
     parts: &mut Parts<'a>,
 ) -> Option<Value<'a>>
-    ensures { Reads value_of result (less_one language name.now (numeral_of plus.entry)) parts.old parts.new }
+    ensures { Reads value_of result (less_one language name.now (numeral_of plus.entry))
+        parts.old parts.new }
 {
     if !parts.eat(b'-') {
         return Some(Value::Name(name, plus, Minus::Zero));
@@ -61,7 +62,8 @@ fn number_at<'a>(
     number: Numeral<'a>,
     parts: &mut Parts<'a>,
 ) -> Option<Value<'a>>
-    ensures { Reads value_of result (number_at language (numeral_of number.entry)) parts.old parts.new }
+    ensures { Reads value_of result (number_at language (numeral_of number.entry))
+        parts.old parts.new }
 {
     if language == Language::Listing || !parts.eat(b'+') {
         return Some(Value::Number(number));

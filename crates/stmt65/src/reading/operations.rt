@@ -124,7 +124,8 @@ fn number_datum<'a>(
     number: Numeral<'a>,
     parts: &mut Parts<'a>,
 ) -> Option<Datum<'a>>
-    ensures { Reads datum_of result (number_datum language (numeral_of number.entry)) parts.old parts.new }
+    ensures { Reads datum_of result (number_datum language (numeral_of number.entry))
+        parts.old parts.new }
 {
     if language == Language::Listing || !parts.eat(b'+') {
         return Some(Datum::Number(number));
