@@ -1,6 +1,6 @@
 -- The texts of tables, from the front on.
-use Rattle.std.specs.Prelude.{◌++◌, ◌<◌, ◌∷◌, ◌≡◌, ◌≤◌}
-use Rattle.stmt65.proofs.Lemmas.{List, [], ap, append-nil, append_assoc, arith, drop, get_or, length, length-take-le, prefix_len-le-length, refl, sym, take, take-append-drop, ℕ, ◌∙◌}
+use Rattle.std.specs.Prelude.{◌++◌, ◌<◌, ◌==◌, ◌∷◌, ◌≡◌, ◌≤◌}
+use Rattle.stmt65.proofs.Lemmas.{List, [], ap, append-nil, append_assoc, arith, drop, eqb-true, false, get_or, length, length-take-le, prefix_len-le-length, refl, sym, take, take-append-drop, true, ℕ, ◌∙◌}
 use Rattle.stmt65.specs.Words.{Directive, comma_list, cut_text, data_text, datum_text, entries, entry_len, entry_text, flat_map, hex2, is_plain, next_text, numbers_text, prefix_len, quoted}
 use Rattle.stmt65.proofs.Cases.{by_test}
 use Rattle.stmt65.proofs.SpacingLemmas.{run_passes}
@@ -9,25 +9,21 @@ use Rattle.stmt65.proofs.TableLists.{cut_nil, cut_single, cut_case, cut_stretch,
 
 -- ---- numbers
 
-first_entry : (d : Directive) (bytes : List ℕ) → entry_len d ≤ length bytes → numbers_text d bytes ≡ entry_text d (take (entry_len d) bytes) ++ flat_map (next_text (entry_text d)) (entries d (drop (entry_len d) bytes))
-unfolding comma_list
-first_entry d bytes le = rw (entries_more d bytes le) refl
-
--- the first entry is put, and the others are left
-pub entry_put : (d : Directive) (bytes front rest old new : List ℕ) → entry_len d ≤ length bytes → front ≡ take (entry_len d) bytes → rest ≡ drop (entry_len d) bytes → new ≡ old ++ entry_text d front
-    → new ++ flat_map (next_text (entry_text d)) (entries d rest) ≡ old ++ numbers_text d bytes
-entry_put d bytes front rest old new le f r n = rw (n, r, f, first_entry d bytes le) (append_assoc old _ _)
-
 next_entries : (d : Directive) (bytes : List ℕ) → entry_len d ≤ length bytes → flat_map (next_text (entry_text d)) (entries d bytes) ≡ 44 ∷ numbers_text d bytes
 unfolding comma_list
 next_entries d bytes le = rw (entries_more d bytes le) refl
 
--- a comma is put, and the entries that are left
-pub entries_step : (d : Directive) (bytes out new text : List ℕ) → entry_len d ≤ length bytes → out ++ flat_map (next_text (entry_text d)) (entries d bytes) ≡ text → new ≡ (out ++ 44 ∷ []) ++ numbers_text d bytes → new ≡ text
-entries_step d bytes out new text le e n = n ∙ append_assoc out (44 ∷ []) (numbers_text d bytes) ∙ ap (λ (l : List ℕ). out ++ l) (sym (next_entries d bytes le)) ∙ e
+-- the first entry, and the others after a comma
+pub entries_next : (d : Directive) (bytes front rest : List ℕ) → entry_len d ≤ length bytes → front ≡ take (entry_len d) bytes → rest ≡ drop (entry_len d) bytes → entry_len d ≤ length rest → numbers_text d bytes ≡ entry_text d front ++ 44 ∷ numbers_text d rest
+unfolding comma_list
+entries_next d bytes front rest le f r more = rw (f, entries_more d bytes le, ← r) (ap (λ (l : List ℕ). entry_text d (take (entry_len d) bytes) ++ l) (next_entries d rest more))
 
-pub entries_end : (d : Directive) (bytes out text : List ℕ) → length bytes < entry_len d → out ++ flat_map (next_text (entry_text d)) (entries d bytes) ≡ text → out ≡ text
-entries_end d bytes out text lt e = rw (entries_none d bytes lt, append-nil) at e
+-- the last one
+pub entries_last : (d : Directive) (bytes front rest : List ℕ) → entry_len d ≤ length bytes → front ≡ take (entry_len d) bytes → rest ≡ drop (entry_len d) bytes → length rest < entry_len d → numbers_text d bytes ≡ entry_text d front
+unfolding comma_list
+entries_last d bytes front rest le f r less = rw (f, entries_more d bytes le, ← r, entries_none d rest less) (append-nil (entry_text d (take (entry_len d) bytes)))
+
+pub ruleset entries_put = (entries_next, entries_last, append_assoc)
 
 -- ---- text
 
@@ -55,15 +51,15 @@ pub stretch_put : (bytes front rest old new : List ℕ) (n : ℕ) → n ≡ pref
     → new ++ flat_map (next_text datum_text) (cut_text rest) ≡ old ++ data_text (cut_text bytes)
 stretch_put bytes front rest old new n e lt f r w = rw (w, f, r, e, first_stretch bytes (omega arith)) (simp append_assoc)
 
-next_texts : (bytes : List ℕ) → 1 ≤ length bytes → flat_map (next_text datum_text) (cut_text bytes) ≡ 44 ∷ data_text (cut_text bytes)
+next_texts : (bytes : List ℕ) → (length bytes == 0) ≡ false → flat_map (next_text datum_text) (cut_text bytes) ≡ 44 ∷ data_text (cut_text bytes)
 unfolding comma_list
-next_texts [] lt = absurd (omega arith)
-next_texts (b ∷ bs) lt = cut_case (λ ds. flat_map (next_text datum_text) ds ≡ 44 ∷ data_text ds) b bs (λ p. refl) (λ p ends. refl) (λ t ds p e. refl)
+next_texts [] more = absurd cc
+next_texts (b ∷ bs) more = cut_case (λ ds. flat_map (next_text datum_text) ds ≡ 44 ∷ data_text ds) b bs (λ p. refl) (λ p ends. refl) (λ t ds p e. refl)
 
 -- a comma is put, and the text that is left
-pub text_step : (bytes out new text : List ℕ) → 1 ≤ length bytes → out ++ flat_map (next_text datum_text) (cut_text bytes) ≡ text → new ≡ (out ++ 44 ∷ []) ++ data_text (cut_text bytes) → new ≡ text
-text_step bytes out new text lt e n = n ∙ append_assoc out (44 ∷ []) (data_text (cut_text bytes)) ∙ ap (λ (l : List ℕ). out ++ l) (sym (next_texts bytes lt)) ∙ e
+pub text_step : (bytes out new text : List ℕ) → (length bytes == 0) ≡ false → out ++ flat_map (next_text datum_text) (cut_text bytes) ≡ text → new ≡ (out ++ 44 ∷ []) ++ data_text (cut_text bytes) → new ≡ text
+text_step bytes out new text more e n = n ∙ append_assoc out (44 ∷ []) (data_text (cut_text bytes)) ∙ ap (λ (l : List ℕ). out ++ l) (sym (next_texts bytes more)) ∙ e
 
-pub text_end : (bytes out text : List ℕ) → length bytes ≡ 0 → out ++ flat_map (next_text datum_text) (cut_text bytes) ≡ text → out ≡ text
-text_end [] out text le e = rw (cut_nil, append-nil) at e
-text_end (b ∷ bs) out text le e = absurd (omega arith)
+pub text_end : (bytes out text : List ℕ) → (length bytes == 0) ≡ true → out ++ flat_map (next_text datum_text) (cut_text bytes) ≡ text → out ≡ text
+text_end [] out text none e = rw (cut_nil, append-nil) at e
+text_end (b ∷ bs) out text none e = absurd (omega (arith, eqb-true (length (b ∷ bs)) 0 none))

@@ -52,7 +52,7 @@ pub use Rattle.std.specs.List.{All, filter, find, flat_map, list_all, list_any, 
 pub use Rattle.std.specs.Char.{digit_value, is_ascii_alphabetic, is_ascii_digit, is_ascii_hexdigit}
 pub use Rattle.std.specs.Str.{bytes_eq, str_to_ascii_lowercase}
 pub use Rattle.std.specs.Option.{option_copied, option_map}
-pub use Rattle.std.specs.Bool.{Decides, OnFalse, OnTrue}
+pub use Rattle.std.specs.Bool.{Decides}
 pub use Rattle.std.specs.Str.Parse.{AllDigits, digits_value, digits_value_after}
 pub use Rattle.std.specs.Fmt.{decimal}
 pub use Rattle.arrayvec.specs.ArrayVec.{Extends, array_vec_len}

@@ -31,6 +31,7 @@ fn put_operation(out: &mut Line, columns: &Columns, operation: &[u8])
 }
 
 /// Appends an operation, and begins the field of its operands.
+#[inline(always)]
 fn start_operands(out: &mut Line, columns: &Columns, operation: &[u8])
     requires room { array_vec_len out.old ≤ 82 }
     requires short { length operation.now ≤ 8 }

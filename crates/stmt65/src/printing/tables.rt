@@ -42,31 +42,18 @@ fn put_entry(out: &mut Line, directive: Directive, bytes: &[u8])
     }
 }
 
-/// Appends the first entry, and returns the bytes after it.
-#[tactic(auto, using(crate::proofs::TableTexts::entry_put))]
-fn put_first_entry<'a>(out: &mut Line, directive: Directive, bytes: &'a [u8]) -> &'a [u8]
-    requires some { entry_len directive ≤ length bytes.now }
-    requires room { len_with out.old 3 bytes.now ≤ 512 }
-    ensures items { Lists (entry_text directive) out.old (entries directive bytes.now)
-        out.new (entries directive result.now) }
-    ensures len { len_with out.new 3 result.now < len_with out.old 3 bytes.now }
-    ensures fewer { length result.now < length bytes.now }
-{
-    let (entry, rest) = bytes.split_at(directive.entry_len());
-    put_entry(out, directive, entry);
-    rest
-}
-
 /// Appends the entries of the bytes, joined by commas.
+#[tactic(auto, using(crate::proofs::TableTexts::entries_put))]
 pub(super) fn put_entries(out: &mut Line, directive: Directive, bytes: &[u8])
     requires some { entry_len directive ≤ length bytes.now }
     requires room { len_with out.old 3 bytes.now ≤ 512 }
     ensures { Appends out.old (numbers_text directive bytes.now) out.new (3 * length bytes.now) }
 {
-    let mut rest = put_first_entry(out, directive, bytes);
-    'entries: while rest.len() >= directive.entry_len() {
+    let (entry, rest) = bytes.split_at(directive.entry_len());
+    put_entry(out, directive, entry);
+    if rest.len() >= directive.entry_len() {
         out.push(b',');
-        rest = put_first_entry(out, directive, rest);
+        put_entries(out, directive, rest);
     }
 }
 
@@ -115,9 +102,9 @@ pub(super) fn put_text(out: &mut Line, bytes: &[u8])
     ensures text { Appends out.old (data_text (cut_text bytes.now)) out.new (4 * length bytes.now) }
     ensures width { AreBytes bytes.now }
 {
-    let mut rest = put_first_datum(out, bytes);
-    'data: while !rest.is_empty() {
+    let rest = put_first_datum(out, bytes);
+    if !rest.is_empty() {
         out.push(b',');
-        rest = put_first_datum(out, rest);
+        put_text(out, rest);
     }
 }
