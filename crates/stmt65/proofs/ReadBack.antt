@@ -1,4 +1,4 @@
--- The line of a statement is a spelling of that statement, so it reads as it.
+-- The text of a statement is one line and a spelling of that statement, so it reads as it.
 use Rattle.std.specs.Prelude.{◌%◌, ◌++◌, ◌-◌, ◌/◌, ◌<◌, ◌||◌, ◌∷◌, ◌≡◌}
 use Rattle.stmt65.proofs.Lemmas.{Bool, List, None, Option, [], and_parts, ap, append-nil, append_assoc, arith, bytes_eq-Decides, cpu_name, eqb, eqb-true, false, inl, inr, length, length-append, ltb, ltb-true, nat_tests, ne_eqb, refl, replicate, suc, sym, true, zero, ℕ, ◌∙◌}
 use Rattle.stmt65.specs.Words.{Adc, AreOperands, AreWordWide, Automatic, Code, Columns, Directive, Empty, ExprView, HasLabelName, HasName, HasNames, HasNamesIn, Imp, Instr, IsInWidth, IsItem, IsLong, IsOperand, IsPlus, IsPrintable, IsSome, IsValue, IsWordWide, IsWrittenIn, Item, Listing, Mark, MayBeForced, MayBeLabelled, Mnemonic, Mode, NameValue, Number, NumberDatum, NumberValue, OperandKind, OperandsView, Operation, Part, PrintsAs, RemarksView, Row, Segment, SetCpu, Some, SourceLine, Spells, Statement, StatementView, TargetView, Value, Word, Zero, alone, begins_with, bytes_text, character, codes, cpu_text, cut_text, data_list, data_text, definition_fields, digits4, directive_text, distance_text, entries, entry_value, fields_of, filled, flat_map, form_items, has_bytes, has_name_form, hex4, hex_digit, instr_fields, is_ascii_alphabetic, is_name, is_text_byte, is_word_byte, is_word_start, kind_text, label_fields, level_fields, line_items, line_of, list_all, long_text, map, mark, named_text, number, numbers_text, offset_text, operand_text, operation_items, parts, plain_line, prefix_items, prefix_text, quoted, quoted_name, remark_fields, return_text, row_form, row_of, row_operands, source_form, source_line, source_value, spaced_byte, str_to_ascii_lowercase, string, text_of, value, value_list, with_fields, with_label, with_operands, word, zero_page_row}
@@ -84,12 +84,8 @@ word_no_equals b h = grind (arith, nat_tests)
 -- an expression does not begin with `=`
 no_equals : (h : Bool) (e : ExprView) (rest : List ℕ) → HasName e → begins_with 61 (long_text h e ++ rest) ≡ false
 no_equals h (view.number n) rest has = refl
-no_equals h (view.name name offset) rest has = go name (name_word name has) (eqb offset 0) refl
-  where
-    go : (w : List ℕ) → IsWordText w → (t : Bool) → eqb offset 0 ≡ t → begins_with 61 (named_text h w offset ++ rest) ≡ false
-    go [] i t f = absurd i
-    go (b ∷ w) i true f = rw f (word_no_equals b i.0)
-    go (b ∷ w) i false f = rw f (word_no_equals b i.0)
+no_equals h (view.name [] offset) rest has = absurd (name_word [] has)
+no_equals h (view.name (b ∷ w) offset) rest has = let no = word_no_equals b (name_word (b ∷ w) has).0 in by_test (eqb offset 0) (λ f. rw f no) (λ f. rw f no)
 
 -- an expression after `a:`
 forced : (h : Bool) (e : ExprView) (is : List Item) (text rest : List ℕ) → IsLong e → HasName e → IsWordWide e → Ends (text ++ rest) → Lexes (Spells is) text rest
@@ -120,13 +116,7 @@ unfolding operand_text source_form
 operand_spelled h m false os rest are f n w ends = row_spelled h (row_of m) os rest are n w ends
 operand_spelled h m true os rest are f n w ends = forced_spelled h (row_of m) os rest are n w (f refl) ends
 
--- ---- data
-
-directive_word : (d : Directive) → IsWordText (directive_text d)
-directive_word directive.Word = (refl, refl)
-directive_word _ = (refl, refl)
-
--- ---- the names of segments and CPUs
+-- ---- names between quotes
 
 -- a name is a text between quotes, reserved or not
 word_quotes : (b : ℕ) → is_word_byte b ≡ true → is_text_byte b ≡ true
@@ -156,13 +146,17 @@ blank_between (b ∷ bs) column lt =
     record { count = column - 2 - suc (length bs); blanks = rw (e, k) refl })
     (λ e. record { count = 0; blanks = rw (e, ne_eqb (suc (length bs)) 0 (λ z. absurd (omega arith))) refl })
 
+filled_is : (line : List ℕ) (column : ℕ) → (n : ℕ) × (filled line column ≡ line ++ replicate n 32)
+unfolding filled
+filled_is [] column = by_test (ltb 0 (column - 1)) (λ e. rw e (column - 1 - 0, refl)) (λ e. rw e (0, refl))
+filled_is (b ∷ bs) column = let f = blank_between (b ∷ bs) column (omega arith) in (suc f.count, f.blanks)
+
 -- the line has these items, and a field that follows it has its own
 abbrev Leads : List ℕ → List Item → Type 0
 Leads line before = (column : ℕ) (is : List Item) (text rest : List ℕ) → Lexes (Spells is) text rest → Lexes (Spells (before ++ is)) (filled line column ++ text) rest
 
 leads_nothing : Leads [] []
-unfolding filled
-leads_nothing column is text rest h = by_test (ltb 0 (column - 1)) (λ e. rw e (lexes_blanks (column - 1 - 0) text rest h)) (λ e. rw e h)
+leads_nothing column is text rest h = let f = filled_is [] column in rw f.1 (lexes_blanks f.0 text rest h)
 
 -- a blank follows a line that is not empty
 leads_by_blank : (line : List ℕ) (before : List Item) → 0 < length line → ((is : List Item) (text rest : List ℕ) → Lexes (Spells is) text rest → Lexes (Spells (before ++ is)) (line ++ 32 ∷ text) rest) → Leads line before
@@ -210,6 +204,10 @@ labelled (Some name) o = refl
 -- the text is a spelling of a line
 abbrev Says : SourceLine → List ℕ → List ℕ → Type 0
 Says r text rest = Lexes (Spells (line_items r)) text rest
+
+directive_word : (d : Directive) → IsWordText (directive_text d)
+directive_word directive.Word = (refl, refl)
+directive_word _ = (refl, refl)
 
 mnemonic_word : (m : Mnemonic) → IsWordText (text_of m)
 mnemonic_word Adc = (refl, refl)
@@ -299,11 +297,6 @@ record GoesOn (line text : List ℕ) : Type 0 where
   tail : List ℕ
   split : text ≡ line ++ tail
   is : IsTail tail
-
-filled_is : (line : List ℕ) (column : ℕ) → (n : ℕ) × (filled line column ≡ line ++ replicate n 32)
-unfolding filled
-filled_is [] column = by_test (ltb 0 (column - 1)) (λ e. rw e (column - 1 - 0, refl)) (λ e. rw e (0, refl))
-filled_is (b ∷ bs) column = let f = blank_between (b ∷ bs) column (omega arith) in (suc f.count, f.blanks)
 
 -- a remark at a column
 remark_after : (line : List ℕ) (column : ℕ) (text : List ℕ) → InLine text → GoesOn line (filled line column ++ 59 ∷ text)

@@ -1,7 +1,6 @@
 -- The definitions at lines of listings.
 use Rattle.std.proofs.Common.{◌≡◌, ℕ, Bool, true, false, List, [], ◌∷◌, ◌++◌, Option, Some, None, refl}
-use Rattle.stmt65.specs.Words.{Abs, Absindx, Absx, Absy, Acc, Addr, Asl, Bbr0, Bne, Dbyt, Dword, ExprView, Imm, Imp, Ind, Indx, Indy, Jmp, Lda, Ldx, M6502, Mnemonic, Mode, OperandsView, Rel, RemarksView, Rts, Sta, StatementView, Zp, Zpind, Zprel, Zpx, Zpy, codes, comma_list, cut_text, decimal, default_columns, directive_text, entries, filled, line_of, map, numbers_text, offset_text, operand_text, pieces, replicate}
-use Rattle.stmt65.specs.declared.directive.Directive.TheVariants.{Word}
+use Rattle.stmt65.specs.Words.{Abs, Absindx, Absx, Absy, Acc, Asl, Bbr0, Bne, ExprView, Imm, Imp, Ind, Indx, Indy, Jmp, Lda, Ldx, M6502, Mnemonic, Mode, OperandsView, Rel, RemarksView, Rts, Sta, StatementView, Zp, Zpind, Zprel, Zpx, Zpy, codes, comma_list, cut_text, decimal, default_columns, entries, filled, line_of, map, offset_text, operand_text, pieces, replicate}
 use Rattle.stmt65.specs.Views as view
 
 -- remarks of level 0, with this label
@@ -75,7 +74,6 @@ rows =
     (comma_list (offset_text true) (1 ∷ 0xFF ∷ 0x100 ∷ 0xFFFF ∷ []), codes "$01,$FF,$0100,$FFFF") ∷
     (shown (view.instr (record { mnemonic = Lda; mode = Abs }) true (view.one (view.number 0x12))), codes "        lda     a:$0012") ∷
     (shown (view.instr (record { mnemonic = Sta; mode = Absy }) false (view.one (view.number 0x12))), codes "        sta     $0012,y") ∷
-    (shown (view.set_cpu M6502), codes "        .setcpu \"6502\"") ∷
     (shown (view.label (codes "longname")), codes "longname:") ∷
     (labelled (codes "chrout7") (view.instr (record { mnemonic = Lda; mode = Imm }) false (view.one (view.number 1))), codes "chrout7: lda    #$01") ∷
     (shown (view.forward (codes "L1001") 1), codes "L1001           := * + " ++ decimal 1) ∷
@@ -85,8 +83,6 @@ rows =
     (at_level 4, codes "        lda     #$41                            ; 1000 A9 41                    .A") ∷
     -- a statement without bytes, at the last level
     (line_of default_columns view.code (record { level = 4; hexoffs = false; address = 0x1000; bytes = 0xEA ∷ []; label = None }), codes "        .code") ∷
-    (comma_list directive_text (Word ∷ Dbyt ∷ Addr ∷ Dword ∷ []), codes ".word,.dbyt,.addr,.dword") ∷
-    (numbers_text Dword (0x01 ∷ 0x02 ∷ 0x03 ∷ 0x04 ∷ 0 ∷ 0 ∷ 0 ∷ 0x80 ∷ []), codes "$04030201,$80000000") ∷
     -- each mode; an absolute operand has four digits, below $100 too
     (instruction Rts Imp view.none, codes "        rts") ∷
     (instruction Asl Acc view.none, codes "        asl     a") ∷
@@ -111,12 +107,10 @@ rows =
     (loads false Abs (codes "buf") 65535, codes "        lda     buf+" ++ decimal 65535 ++ []) ∷
     (loads true Abs (codes "buf") 0x100, codes "        lda     buf+$0100") ∷
     (loads true Zp (codes "buf") 0, codes "        lda     buf") ∷
-    -- bytes, an empty line and a remark
+    -- bytes, and a remark
     (shown (view.bytes (0xD0 ∷ 0x7F ∷ [])), codes "        .byte   $D0,$7F") ∷
-    (shown view.blank, []) ∷
     (shown (view.remark (codes "da65 listing")), codes "; da65 listing") ∷
     -- columns of the mnemonic and of its operand
-    (load_at 1 120, codes "lda" ++ blanks 116 ++ codes "#$01") ∷
     (load_at 1 1, codes "lda #$01") ∷
     (load_at 9 2, codes "        lda #$01") ∷
     (load_at 5 8, codes "    lda #$01") ∷
