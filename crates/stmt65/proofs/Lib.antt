@@ -8,10 +8,8 @@ mod SpacingLemmas
 mod ReadIsSpelled
 mod SpelledIsRead
 mod LineLemmas
-mod TableLists
 mod EntryLaws
 mod TableTexts
-mod WidthLemmas
 mod Rows
 mod TextRows
 mod ReadRows

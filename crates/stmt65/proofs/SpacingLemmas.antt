@@ -68,10 +68,6 @@ record IsBest (found : Part × ℕ) (q : Part) (n : ℕ) : Type 0 where
   bound : n ≤ found.1 + 1
   same : n ≡ found.1 + 1 → q ≡ found.0
 
-best_word : (b : ℕ) (w more : List ℕ) → is_word_start b ≡ true → list_all is_word_byte w ≡ true → IsBest (part_at Listing b (w ++ more)) (Word (b ∷ w)) (suc (length w))
-unfolding part_at
-best_word b w more h g = rw h (record { bound = omega (arith, at_least is_word_byte w more g); same = λ e. let k : prefix_len is_word_byte (w ++ more) ≡ length w = omega arith in rw (k, take_at w more (length w) refl) refl })
-
 best_decimal : (b : ℕ) (ds more : List ℕ) → is_ascii_digit b ≡ true → list_all is_ascii_digit ds ≡ true → IsBest (part_at Listing b (ds ++ more)) (Number (b ∷ ds)) (suc (length ds))
 unfolding part_at
 best_decimal b ds more h g = rw (digit_no_word b h, h) (record { bound = omega (arith, at_least is_ascii_digit ds more g); same = λ e. let k : prefix_len is_ascii_digit (ds ++ more) ≡ length ds = omega arith in rw (k, take_at ds more (length ds) refl) refl })
@@ -80,20 +76,8 @@ best_hex : (ds more : List ℕ) → list_all is_ascii_hexdigit ds ≡ true → 0
 unfolding part_at
 best_hex ds more g pos le = grind (arith, at_least, take_at)
 
-best_text : (t more : List ℕ) → list_all is_text_byte t ≡ true → IsBest (part_at Listing 34 (t ++ 34 ∷ more)) (Text t) (suc (length t + 1))
-unfolding part_at
-best_text t more g = rw (prefix_stop is_text_byte t (34 ∷ more) g refl, drop_at t (34 ∷ more) (length t) refl, take_at t (34 ∷ more) (length t) refl) (record { bound = omega arith; same = λ e. refl })
-
-best_define : (more : List ℕ) → IsBest (part_at Listing 58 (61 ∷ more)) Define 2
-unfolding part_at
-best_define more = record { bound = omega arith; same = λ e. refl }
-
 alone_begins : (b : ℕ) → is_alone b ≡ true → (is_word_start b ≡ false) × (is_ascii_digit b ≡ false)
 alone_begins b h = let n = or_parts (eqb b 59) _ (or_parts (is_blank b) _ (not-true (is_blank b || (eqb b 59 || (is_word_start b || is_ascii_digit b))) h)).1 in or_parts (is_word_start b) _ n.1
-
-best_mark : (b : ℕ) (bs : List ℕ) → is_alone b ≡ true → IsBest (part_at Listing b bs) (Mark b) 1
-unfolding part_at
-best_mark b bs h = grind (arith, alone_begins, by_test, eqb)
 
 abbrev IsBestOf : List ℕ → Part → ℕ → Type 0
 IsBestOf [] q n = Unit {0}
@@ -105,12 +89,15 @@ best_number (b ∷ t) more (inl d) = let e = and_parts (is_ascii_digit b) (list_
 best_number t more (inr x) = subst (λ (u : List ℕ). IsBestOf (u ++ more) (Number u) (length u)) (sym x.1) (best_hex x.0 more x.4 x.2 x.3)
 
 best_of : (q : Part) (text more : List ℕ) → IsText q text → IsBestOf (text ++ more) q (length text)
+unfolding part_at
 best_of (Word []) text more h = absurd h.1
-best_of (Word (c ∷ w)) text more h = rw h.0 (best_word c w more h.1.0 h.1.1)
+best_of (Word (c ∷ w)) text more h =
+    rw (h.0, h.1.0) (record { bound = omega (arith, at_least is_word_byte w more h.1.1); same = λ e. let k : prefix_len is_word_byte (w ++ more) ≡ length w = omega arith in rw (k, take_at w more (length w) refl) refl })
 best_of (Number t) text more h = rw h.0 (best_number t more h.1)
-best_of (Text t) text more h = rw h.0 (rw (append_assoc t (34 ∷ []) more, length-append t (34 ∷ [])) (best_text t more h.1))
-best_of Define text more h = rw h (best_define more)
-best_of (Mark b) text more h = rw h.0 (best_mark b more h.1)
+best_of (Text t) text more h =
+    rw (h.0, append_assoc t (34 ∷ []) more, length-append t (34 ∷ []), prefix_stop is_text_byte t (34 ∷ more) h.1 refl, drop_at t (34 ∷ more) (length t) refl, take_at t (34 ∷ more) (length t) refl) (record { bound = omega arith; same = λ e. refl })
+best_of Define text more h = rw h (record { bound = omega arith; same = λ e. refl })
+best_of (Mark b) text more h = rw h.0 (grind (arith, alone_begins, by_test, eqb))
 
 -- a part in front of these bytes
 best : (b : ℕ) (bs : List ℕ) (q : Part) (text more : List ℕ) → b ∷ bs ≡ text ++ more → IsText q text → IsBest (part_at Listing b bs) q (length text)

@@ -5,7 +5,7 @@ use Rattle.stmt65.specs.Words.{AreBytes, BigEndian, ByteOrder, Datum, Directive,
 use Rattle.stmt65.specs.declared.directive.Directive.TheVariants.{Word}
 use Rattle.stmt65.proofs.Lexed.{Ends, Lexes, below_16, hex_is_digit, hex_value, lexes_both, lexes_hex, lexes_hex2, lexes_mark, lexes_text}
 use Rattle.stmt65.proofs.EntryLaws.{in_order-length, entries_more}
-use Rattle.stmt65.proofs.TableLists.{cut_nil, cut_case}
+use Rattle.stmt65.proofs.CutLemmas.{cut_nil, cut_case}
 
 -- ---- lists joined by commas
 

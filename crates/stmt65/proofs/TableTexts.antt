@@ -1,11 +1,16 @@
 -- The texts of tables, from the front on.
 use Rattle.std.specs.Prelude.{◌++◌, ◌<◌, ◌==◌, ◌∷◌, ◌≡◌, ◌≤◌}
-use Rattle.stmt65.proofs.Lemmas.{List, [], ap, append-nil, append_assoc, arith, drop, eqb-true, false, get_or, length, length-take-le, prefix_len-le-length, refl, sym, take, take-append-drop, true, ℕ, ◌∙◌}
-use Rattle.stmt65.specs.Words.{Directive, comma_list, cut_text, data_text, datum_text, entries, entry_len, entry_text, flat_map, hex2, is_plain, next_text, numbers_text, prefix_len, quoted}
+use Rattle.stmt65.proofs.Lemmas.{List, [], ap, append-nil, append_assoc, arith, drop, eqb-true, false, get_or, length, length-take-le, lt-ltb, prefix_len-le-length, refl, suc, sym, take, take-append-drop, true, ℕ, ◌∙◌}
+use Rattle.stmt65.specs.Words.{AreBytes, Directive, comma_list, cut_text, data_text, datum_text, entries, entry_len, entry_text, flat_map, hex2, is_plain, next_text, numbers_text, prefix_len, quoted}
 use Rattle.stmt65.proofs.Cases.{by_test}
 use Rattle.stmt65.proofs.SpacingLemmas.{run_passes}
 use Rattle.stmt65.proofs.EntryLaws.{entries_none, entries_more}
-use Rattle.stmt65.proofs.TableLists.{cut_nil, cut_single, cut_case, cut_stretch, run_ends}
+use Rattle.stmt65.proofs.CutLemmas.{cut_nil, cut_single, cut_case, cut_stretch, run_ends}
+
+-- the bytes of a slice have 8 bits
+pub each_in_width : (xs : List ℕ) → ((i : ℕ) → get_or xs i 0 < 256) → AreBytes xs
+each_in_width [] h = refl
+each_in_width (x ∷ xs) h = rw (lt-ltb x 256 (h 0), each_in_width xs (λ i. h (suc i))) refl
 
 -- ---- numbers
 

@@ -80,7 +80,7 @@ fn put_instr(
     }
 }
 
-#[tactic(auto, using(crate::proofs::WidthLemmas::each_in_width), unfolding(crate::specs::Statements::comma_list))]
+#[tactic(auto, using(crate::proofs::TableTexts::each_in_width), unfolding(crate::specs::Statements::comma_list))]
 fn put_bytes(out: &mut Line, bytes: &[u8])
     requires some { 1 ≤ length bytes.now }
     requires room { len_with out.old 4 bytes.now ≤ 512 }
@@ -97,7 +97,7 @@ fn put_bytes(out: &mut Line, bytes: &[u8])
     }
 }
 
-#[tactic(auto, using(crate::proofs::WidthLemmas::each_in_width))]
+#[tactic(auto, using(crate::proofs::TableTexts::each_in_width))]
 fn put_numbers(out: &mut Line, columns: &Columns, directive: Directive, bytes: &[u8])
     requires room { array_vec_len out.old ≤ 82 }
     requires table { IsTable directive bytes.now }

@@ -101,19 +101,6 @@ fn put_two(out: &mut Line, offsets: Offsets, row: Row, first: &Expr, second: &Ex
     put_kind(out, offsets, target, second);
 }
 
-/// Appends the operand of a row that writes no expression.
-fn put_bare(out: &mut Line, row: Row)
-    requires room { array_vec_len out.old ≤ 500 }
-    requires written { AreOperands row none }
-    ensures { Appends out.old (row_text row) out.new 1 }
-{
-    match row {
-        Row::Implied => {}
-        Row::Accumulator => out.push(b'a'),
-        Row::One(_, _) | Row::Two(_, _) => unreachable!(),
-    }
-}
-
 /// Appends the prefix that makes an operand absolute, if there is one.
 fn put_prefix(out: &mut Line, size: AddressSize)
     requires { array_vec_len out.old ≤ 500 }
@@ -144,7 +131,11 @@ pub(super) fn put_operands(
     put_prefix(out, size);
     let row = mode.row();
     match operands {
-        Operands::None => put_bare(out, row),
+        Operands::None => {
+            if matches!(row, Row::Accumulator) {
+                out.push(b'a');
+            }
+        }
         Operands::One(expr) => put_one(out, offsets, row, expr),
         Operands::Two(first, second) => put_two(out, offsets, row, first, second),
     }

@@ -95,7 +95,7 @@ fn put_first_datum<'a>(out: &mut Line, bytes: &'a [u8]) -> &'a [u8]
 }
 
 /// Appends the bytes as text.
-#[tactic(auto, using(crate::proofs::WidthLemmas::each_in_width))]
+#[tactic(auto, using(crate::proofs::TableTexts::each_in_width))]
 pub(super) fn put_text(out: &mut Line, bytes: &[u8])
     requires some { 1 ≤ length bytes.now }
     requires room { len_with out.old 4 bytes.now ≤ 512 }
