@@ -90,9 +90,6 @@ digits_pass (d ∷ ds) h = rw (is_digit d h.0, digits_pass ds h.1) refl
 pub digit_no_word : (d : ℕ) → is_ascii_digit d ≡ true → is_word_start d ≡ false
 digit_no_word d h = grind (arith, nat_tests)
 
-digit_no_sign : (b : ℕ) → is_ascii_digit b ≡ true → (eqb b 36 ≡ false) × (eqb b 37 ≡ false) × (eqb b 39 ≡ false)
-digit_no_sign b h = (grind (arith, nat_tests), grind (arith, nat_tests), grind (arith, nat_tests))
-
 decimal_part : (d : ℕ) (ds rest : List ℕ) → list_all is_ascii_digit (d ∷ ds) ≡ true → Ends rest → part_at Listing d (ds ++ rest) ≡ (Number (d ∷ ds), length ds)
 unfolding part_at
 decimal_part d ds rest h e = grind (arith, and_parts, digit_no_word, prefix_stop, take_at)
@@ -103,7 +100,7 @@ parts_digits (d ∷ ds) rest lt h e = grind (arith, digit_begins, and_parts, par
 
 no_sign : (ds : List ℕ) → list_all is_ascii_digit ds ≡ true → (begins_with 36 ds ≡ false) × (begins_with 37 ds ≡ false) × (begins_with 39 ds ≡ false)
 no_sign [] h = (refl, refl, refl)
-no_sign (d ∷ ds) h = digit_no_sign d (and_parts (is_ascii_digit d) (list_all is_ascii_digit ds) h).0
+no_sign (d ∷ ds) h = let is = (and_parts (is_ascii_digit d) (list_all is_ascii_digit ds) h).0 in (grind (arith, nat_tests), grind (arith, nat_tests), grind (arith, nat_tests))
 
 -- ---- texts that are printed
 

@@ -36,23 +36,14 @@ after_blank : (b : ℕ) (bs : List ℕ) → is_blank b ≡ true → drop (prefix
 after_blank b bs e = rw e (one_more b (prefix_len is_blank bs) bs)
 
 -- blanks at the beginning are no parts
-parts_begin : (l : Language) (bs : List ℕ) → parts l (drop (prefix_len is_blank bs) bs) ≡ parts l bs
+pub parts_begin : (l : Language) (bs : List ℕ) → parts l (drop (prefix_len is_blank bs) bs) ≡ parts l bs
 parts_begin l [] = refl
 parts_begin l (b ∷ bs) = by_test (is_blank b) (λ e. ap (parts l) (after_blank b bs e) ∙ parts_begin l bs ∙ sym (parts_blank l b bs e)) (λ e. rw e refl)
 
 -- what follows them is none
-no_blank : (bs : List ℕ) → 0 < length (drop (prefix_len is_blank bs) bs) → is_blank (get_or (drop (prefix_len is_blank bs) bs) 0 0) ≡ false
+pub no_blank : (bs : List ℕ) → 0 < length (drop (prefix_len is_blank bs) bs) → is_blank (get_or (drop (prefix_len is_blank bs) bs) 0 0) ≡ false
 no_blank [] lt = absurd (omega arith)
 no_blank (b ∷ bs) lt = by_test (is_blank b) (λ e. let f = after_blank b bs e in rw f (no_blank bs (rw f at lt))) (λ e. rw e e)
-
--- the same of a slice
-pub slice_parts : (l : Language) (bytes : List ℕ) (n : ℕ) → n ≡ prefix_len is_blank bytes → parts l (take (length bytes - n) (drop n bytes)) ≡ parts l bytes
-slice_parts l bytes n e = rw (take_rest, e) (parts_begin l bytes)
-
-pub slice_stop : (bytes : List ℕ) (n : ℕ) → n ≡ prefix_len is_blank bytes → 0 < length (take (length bytes - n) (drop n bytes)) → is_blank (get_or (take (length bytes - n) (drop n bytes)) 0 0) ≡ false
-slice_stop bytes n e some = let some' = rw take_rest at some in rw (take_rest, e) (no_blank bytes (rw e at some'))
-
-pub ruleset after_blanks = (slice_parts, slice_stop)
 
 -- ---- what a part is written with
 
@@ -145,39 +136,21 @@ hex_part l bytes n lt h e pos =
 rest_after : (line : List ℕ) (at n : ℕ) → drop (at + n) line ≡ drop n (drop at line)
 rest_after line at n = sym (drop-drop n at line)
 
-pub begin_parts : (l : Language) (line : List ℕ) (at n : ℕ) → n ≡ prefix_len is_blank (take (length line - at) (drop at line)) → parts l (drop (at + n) line) ≡ parts l (drop at line)
-begin_parts l line at n e = let e' = rw take_rest at e in rw (rest_after line at n, e') (parts_begin l (drop at line))
+pub begin_parts : (l : Language) (line left : List ℕ) (at n : ℕ) → left ≡ drop at line → n ≡ prefix_len is_blank left → parts l (drop (at + n) line) ≡ parts l (drop at line)
+begin_parts l line left at n r e = rw (rest_after line at n, e, r) (parts_begin l (drop at line))
 
-pub begin_stop : (line : List ℕ) (at n : ℕ) → n ≡ prefix_len is_blank (take (length line - at) (drop at line)) → at + n < length line → is_blank (get_or (drop (at + n) line) 0 0) ≡ false
-begin_stop line at n e lt =
-    let e' = rw take_rest at e in
-    let same : drop (at + n) line ≡ drop (prefix_len is_blank (drop at line)) (drop at line) = rest_after line at n ∙ ap (λ (k : ℕ). drop k (drop at line)) e' in
-    let some : 0 < length (drop (at + n) line) = omega (arith, length-drop (at + n) line, lt) in
-    rw same (no_blank (drop at line) (rw same at some))
+pub begin_stop : (line left : List ℕ) (at n : ℕ) → left ≡ drop at line → n ≡ prefix_len is_blank left → at + n < length line → is_blank (get_or (drop (at + n) line) 0 0) ≡ false
+begin_stop line left at n r e lt =
+    let same : drop (at + n) line ≡ drop (prefix_len is_blank left) left = rest_after line at n ∙ rw (e, r) refl in
+    rw same (no_blank left (omega (arith, ap length same, length-drop (at + n) line)))
 
 pub ruleset begins = (begin_parts, begin_stop)
 
 -- the place of a part that begins at a place of a line
-pub place_text : (line : List ℕ) (from len : ℕ) (text : List ℕ) → text ≡ take len (take (length line - from) (drop from line)) → take ((from + len) - from) (drop from line) ≡ text
-place_text line from len text e =
-    let e' = rw take_rest at e in
-    let same : (from + len) - from ≡ len = omega arith in
-    rw (same, e') refl
+pub place_text : (line left : List ℕ) (from len : ℕ) (text : List ℕ) → left ≡ drop from line → text ≡ take len left → take ((from + len) - from) (drop from line) ≡ text
+place_text line left from len text r e = let same : (from + len) - from ≡ len = omega arith in rw (same, e, r) refl
 
-pub place_next : (l : Language) (line : List ℕ) (from len : ℕ) (p : Part) (old : List Part) → parts l (drop from line) ≡ old
-    → parts l (take (length line - from) (drop from line)) ≡ p ∷ parts l (drop len (take (length line - from) (drop from line))) → old ≡ p ∷ parts l (drop (from + len) line)
-place_next l line from len p old e h =
-    let h' = rw take_rest at h in
-    sym e ∙ h' ∙ rw (rest_after line from len) refl
+pub place_next : (l : Language) (line left : List ℕ) (from len : ℕ) (p : Part) → left ≡ drop from line → parts l left ≡ p ∷ parts l (drop len left) → parts l (drop from line) ≡ p ∷ parts l (drop (from + len) line)
+place_next l line left from len p r h = rw (rest_after line from len, ← r) h
 
-pub place_end : (l : Language) (line : List ℕ) (from : ℕ) (old : List Part) → parts l (drop from line) ≡ old → parts l (take (length line - from) (drop from line)) ≡ [] → old ≡ []
-place_end l line from old e h =
-    let h' = rw take_rest at h in
-    sym e ∙ h'
-
-pub place_stop : (line : List ℕ) (from : ℕ) → (from < length line → is_blank (get_or (drop from line) 0 0) ≡ false) → 0 < length (take (length line - from) (drop from line)) → is_blank (get_or (take (length line - from) (drop from line)) 0 0) ≡ false
-place_stop line from stop some =
-    let some' = rw take_rest at some in
-    rw take_rest (stop (omega (arith, length-drop from line, some')))
-
-pub ruleset places = (place_text, place_next, place_end, place_stop)
+pub ruleset places = (place_text, place_next)

@@ -71,13 +71,9 @@ ordered_bytes : (o : ByteOrder) (bs : List ℕ) → AreBytes bs → AreBytes (in
 ordered_bytes LittleEndian bs h = h
 ordered_bytes BigEndian bs h = reverse_bytes bs h
 
-entry_some : (d : Directive) → 0 < entry_len d
-entry_some Word = omega arith
-entry_some _ = omega arith
-
-entry_short : (d : Directive) → 2 * entry_len d ≤ 8
-entry_short Word = omega arith
-entry_short _ = omega arith
+entry_size : (d : Directive) → (0 < entry_len d) × (2 * entry_len d ≤ 8)
+entry_size Word = (omega arith, omega arith)
+entry_size _ = (omega arith, omega arith)
 
 each_entry : (d : Directive) (bytes : List ℕ) → is_entry d bytes ≡ true → (rest : List ℕ) → Ends rest → Lexes (IsValue (entry_value d bytes)) (entry_text d bytes) rest
 each_entry d bytes h rest e =
@@ -86,7 +82,7 @@ each_entry d bytes h rest e =
     let low = in_order (order_of d) bytes in
     let digits = flat_map digits2 (reverse low) in
     let count : length digits ≡ 2 * entry_len d = digits_len (reverse low) ∙ rw (length-reverse low, in_order-length (order_of d) bytes, long) refl in
-    lexes_hex (entry_number d bytes) digits rest (sym (digits_count low (ordered_bytes (order_of d) bytes is.1))) (digits_pass (reverse low)) (omega (arith, count, entry_some d)) (omega (arith, count, entry_short d)) e
+    lexes_hex (entry_number d bytes) digits rest (sym (digits_count low (ordered_bytes (order_of d) bytes is.1))) (digits_pass (reverse low)) (omega (arith, count, (entry_size d).0)) (omega (arith, count, (entry_size d).1)) e
 
 split_bytes : (n : ℕ) (bs : List ℕ) → AreBytes bs → AreBytes (take n bs) × AreBytes (drop n bs)
 split_bytes n bs h =

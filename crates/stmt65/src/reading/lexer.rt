@@ -163,12 +163,12 @@ pub fn blank_len(bytes: &[u8]) -> usize
 }
 
 /// The bytes from the first on that is no blank.
-#[tactic(auto, using(crate::proofs::PartLemmas::after_blanks))]
+#[tactic(auto, using(crate::proofs::PartLemmas::parts_begin, crate::proofs::PartLemmas::no_blank))]
 fn after_blanks(bytes: &[u8]) -> &[u8]
     ensures parts { (language : Language) → parts language result.now ≡ parts language bytes.now }
     ensures stop { 0 < length result.now → is_blank (get_or result.now 0 0) ≡ false }
 {
-    &bytes[blank_len(bytes)..]
+    bytes.split_at(blank_len(bytes)).1
 }
 
 /// The part with which the bytes begin, and how many of them it has. They begin with no blank.

@@ -106,7 +106,8 @@ impl<'a> Places<'a> {
         ensures on { self.now.at ≤ result }
         ensures fits { result ≤ length self.now.line }
     {
-        self.at + blank_len(&self.line[self.at..])
+        let (_, left) = self.line.split_at(self.at);
+        self.at + blank_len(left)
     }
 
     /// The next part, and where it stands. At the end the answer is `None`, again and again.
@@ -121,7 +122,8 @@ impl<'a> Places<'a> {
         ensures among { IfSome result (λ p. IsAmong p.span self.old self.new) }
     {
         let from = self.begin();
-        let (part, len) = part_here(self.language, &self.line[from..])?;
+        let (_, left) = self.line.split_at(from);
+        let (part, len) = part_here(self.language, left)?;
         self.at = from + len;
         let span = Span { from, to: self.at };
         Some(PlacedPart { part, span })
