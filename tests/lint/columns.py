@@ -12,7 +12,6 @@ WIDER = {
     "isa65": 2,
     "text65": 1,
     "stmt65": 8,
-    "stmt65": 8,
     "info65": 21,
     "map65": 3,
     "usage65": 1,

@@ -63,11 +63,11 @@ text_part t rest h = grind (arith, prefix_stop, take_at, drop_at)
 
 -- ---- numbers
 
-pub hex_is_digit : (d : ℕ) → d < 16 → is_ascii_hexdigit (hex_digit d) ≡ true
-hex_is_digit d lt = grind (arith, nat_tests)
+pub hex_is_digit : (n : ℕ) → is_ascii_hexdigit (hex_digit (n % 16)) ≡ true
+hex_is_digit n = grind (arith, nat_tests)
 
-pub hex_value : (d : ℕ) → d < 16 → digit_value (hex_digit d) ≡ d
-hex_value d lt = grind (arith, nat_tests)
+pub hex_value : (n : ℕ) → digit_value (hex_digit (n % 16)) ≡ n % 16
+hex_value n = grind (arith, nat_tests)
 
 hex_is_word : (b : ℕ) → is_word_byte b ≡ false → is_ascii_hexdigit b ≡ false
 hex_is_word b h = grind (arith, nat_tests)
@@ -181,18 +181,15 @@ pub lexes_hex : (n : ℕ) (ds rest : List ℕ) → n ≡ digits_value 16 ds → 
 unfolding number_of
 lexes_hex n ds rest v h pos le e = record { front = Number (36 ∷ ds) ∷ []; split = grind (arith, parts_part, hex_part, drop_at); is = (36 ∷ ds, v, refl); in_line = all_as is_ascii_hexdigit in_line (λ c k. grind (arith, nat_tests)) ds h }
 
-pub below_16 : (n : ℕ) → n % 16 < 16
-below_16 n = omega arith
-
 pub lexes_hex2 : (n : ℕ) (rest : List ℕ) → n < 256 → Ends rest → Lexes (IsNumber n) (hex2 n) rest
 lexes_hex2 n rest lt e =
-    lexes_hex n (digits2 n) rest (rw (hex_value (n / 16 % 16) (below_16 (n / 16)), hex_value (n % 16) (below_16 n)) (omega arith)) (rw (hex_is_digit (n / 16 % 16) (below_16 (n / 16)), hex_is_digit (n % 16) (below_16 n)) refl)
+    lexes_hex n (digits2 n) rest (rw (hex_value (n / 16), hex_value n) (omega arith)) (rw (hex_is_digit (n / 16), hex_is_digit n) refl)
     (omega arith) (omega arith) e
 
 pub lexes_hex4 : (n : ℕ) (rest : List ℕ) → n < 65536 → Ends rest → Lexes (IsNumber n) (hex4 n) rest
 lexes_hex4 n rest lt e =
-    lexes_hex n (digits4 n) rest (rw (hex_value (n / 4096 % 16) (below_16 (n / 4096)), hex_value (n / 256 % 16) (below_16 (n / 256)), hex_value (n / 16 % 16) (below_16 (n / 16)), hex_value (n % 16) (below_16 n)) (omega arith))
-    (rw (hex_is_digit (n / 4096 % 16) (below_16 (n / 4096)), hex_is_digit (n / 256 % 16) (below_16 (n / 256)), hex_is_digit (n / 16 % 16) (below_16 (n / 16)), hex_is_digit (n % 16) (below_16 n)) refl) (omega arith) (omega arith) e
+    lexes_hex n (digits4 n) rest (rw (hex_value (n / 4096), hex_value (n / 256), hex_value (n / 16), hex_value n) (omega arith))
+    (rw (hex_is_digit (n / 4096), hex_is_digit (n / 256), hex_is_digit (n / 16), hex_is_digit n) refl) (omega arith) (omega arith) e
 
 pub lexes_digits : {P : List Part → Type 0} (ds rest : List ℕ) → 0 < length ds → list_all is_ascii_digit ds ≡ true → Ends rest → P (Number ds ∷ []) → Lexes P ds rest
 lexes_digits ds rest lt h e is = record { front = Number ds ∷ []; split = parts_digits ds rest lt h e; is = is; in_line = all_as is_ascii_digit in_line (λ c k. grind (arith, nat_tests)) ds h }

@@ -3,7 +3,7 @@ use Rattle.std.specs.Prelude.{◌%◌, ◌&&◌, ◌*◌, ◌++◌, ◌+◌, ◌
 use Rattle.stmt65.proofs.Lemmas.{Bool, List, [], and_parts, ap, append-nil, append_assoc, arith, digits_value_push, drop, eq-eqb, eqb-true, false, flat_map-append, length, length-drop, length-reverse, length-take-le, list_all-append, ltb, ltb-true, map-id, nat_tests, refl, reverse, reverse-append, subst, suc, suc-mul, sym, take, take-append-drop, true, zero, ℕ, ◌∙◌}
 use Rattle.stmt65.specs.Words.{AreBytes, BigEndian, ByteOrder, Datum, Directive, IsDatum, IsList, IsValue, LittleEndian, Mark, NumberDatum, Part, StringDatum, bytes_text, comma_list, cut_text, data_text, datum_text, digits2, digits_value, entries, entry_len, entry_number, entry_text, entry_value, flat_map, hex2, hex_digit, in_order, is_ascii_hexdigit, is_plain, is_text_byte, list_all, low_number, map, nat_lt, next_text, numbers_text, order_of, pieces}
 use Rattle.stmt65.specs.declared.directive.Directive.TheVariants.{Word}
-use Rattle.stmt65.proofs.Lexed.{Ends, Lexes, below_16, hex_is_digit, hex_value, lexes_both, lexes_hex, lexes_hex2, lexes_mark, lexes_text}
+use Rattle.stmt65.proofs.Lexed.{Ends, Lexes, hex_is_digit, hex_value, lexes_both, lexes_hex, lexes_hex2, lexes_mark, lexes_text}
 use Rattle.stmt65.proofs.EntryLaws.{in_order-length, entries_more}
 use Rattle.stmt65.proofs.CutLemmas.{cut_nil, cut_case}
 
@@ -34,7 +34,7 @@ bytes_listed (b ∷ bs) rest lt h e = listed NumberDatum IsDatum hex2 (λ b. ltb
 
 digits_pass : (bs : List ℕ) → list_all is_ascii_hexdigit (flat_map digits2 bs) ≡ true
 digits_pass [] = refl
-digits_pass (b ∷ bs) = rw (hex_is_digit (b / 16 % 16) (below_16 (b / 16)), hex_is_digit (b % 16) (below_16 b), digits_pass bs) refl
+digits_pass (b ∷ bs) = rw (hex_is_digit (b / 16), hex_is_digit b, digits_pass bs) refl
 
 digits_len : (bs : List ℕ) → length (flat_map digits2 bs) ≡ 2 * length bs
 digits_len [] = refl
@@ -53,8 +53,8 @@ digits_count (b ∷ bs) h =
     ap (flat_map digits2) (reverse-append (b ∷ []) bs) ∙ flat_map-append digits2 (reverse bs) (b ∷ []) ∙ sym (append_assoc front (hex_digit (b / 16 % 16) ∷ []) (hex_digit (b % 16) ∷ [])) in
     let last = digits_value_push 16 (front ++ hex_digit (b / 16 % 16) ∷ []) (hex_digit (b % 16)) in
     let before = digits_value_push 16 front (hex_digit (b / 16 % 16)) in
-    let high = hex_value (b / 16 % 16) (below_16 (b / 16)) in
-    let low = hex_value (b % 16) (below_16 b) in
+    let high = hex_value (b / 16) in
+    let low = hex_value b in
     ap (digits_value 16) split ∙ last ∙ rw (before, high, low, ih) (omega arith)
 
 -- the bytes of one entry

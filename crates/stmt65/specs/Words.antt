@@ -45,7 +45,7 @@ pub use Rattle.stmt65.specs.Places.{GoesOver, IsAmong, IsRemarkOf, ReadsAs, Stan
 pub use Rattle.stmt65.specs.Printable.{AreOperands, IsLong, IsNameLong, IsOperand, IsPrintable, IsTable, IsWrittenIn, MayBeForced, MayBeLabelled, TakesLabel}
 pub use Rattle.stmt65.specs.Printed.{HasLabelName, HasName, HasNames, HasNamesIn, PrintsAs, ReadsBack, address_size, entry_value, row_form, source_line, source_value, with_label}
 unfoldable pub use Rattle.stmt65.specs.Printed.{source_form}
-pub use Rattle.stmt65.specs.Reading.{bracketed_in, data_of, half_datum, half_form, is_define, is_difference, is_equals, is_mark, is_nil, is_number_here, is_word_here, less_at, list_of, next_address, number_at, number_datum, number_in, number_of_name, operand_in, reserve_of, segment_of, set_cpu_of, takes_accumulator, values_of, whole, ◌>>=◌}
+pub use Rattle.stmt65.specs.Reading.{bracketed_in, data_of, half_datum, half_form, is_define, is_difference, is_equals, is_mark, is_nil, is_number_here, is_word_here, less_at, list_of, next_address, number_at, number_datum, number_in, number_of_name, operand_in, reserve_of, segment_of, set_cpu_of, stated, takes_accumulator, values_of, whole, ◌>>=◌}
 unfoldable pub use Rattle.stmt65.specs.Reading.{constant_of, further_at, halved_in, immediate_of, inner_at, joined, less_one, line_at, mark_datum, named_at, next_datum, next_half, next_value, operation_at, other_at, reading_of, tail_at, text_in, word_datum}
 pub use Rattle.stmt65.specs.ReadingLaws.{ReadsLines, ReadsSpellings, SpellsOne, TakesParts}
 pub use Rattle.stmt65.specs.SourceLine.{Accumulator, Assignment, Code, Data, Datum, DifferenceValue, Empty, Form, HalfDatum, Instr, LessValue, NameValue, Nothing, NumberDatum, NumberValue, One, Operation, PlaceAssignment, Reserve, Segment, SetCpu, SourceLine, Statement, StringDatum, Two, Value, ValueDatum, Values, is_absolute}

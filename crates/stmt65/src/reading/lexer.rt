@@ -162,15 +162,6 @@ pub fn blank_len(bytes: &[u8]) -> usize
     bytes.iter().take_while(|byte| is_blank(**byte)).count()
 }
 
-/// The bytes from the first on that is no blank.
-#[tactic(auto, using(crate::proofs::PartLemmas::parts_begin, crate::proofs::PartLemmas::no_blank))]
-fn after_blanks(bytes: &[u8]) -> &[u8]
-    ensures parts { (language : Language) → parts language result.now ≡ parts language bytes.now }
-    ensures stop { 0 < length result.now → is_blank (get_or result.now 0 0) ≡ false }
-{
-    bytes.split_at(blank_len(bytes)).1
-}
-
 /// The part with which the bytes begin, and how many of them it has. They begin with no blank.
 #[inline(always)]
 #[tactic(auto, using(crate::proofs::PartLemmas::lexing))]
@@ -194,11 +185,12 @@ pub fn part_here(language: Language, bytes: &[u8]) -> Option<(Part<'_>, usize)>
 }
 
 /// The first part of the line, and the bytes after it.
+#[tactic(auto, using(crate::proofs::PartLemmas::parts_begin, crate::proofs::PartLemmas::no_blank))]
 pub fn first_part(language: Language, bytes: &[u8]) -> Option<(Part<'_>, &[u8])>
     ensures { MatchOption result (parts language bytes.now ≡ [])
         (λ found. parts language bytes.now ≡ part_of found.0 ∷ parts language found.1.now) }
 {
-    let bytes = after_blanks(bytes);
-    let (part, len) = part_here(language, bytes)?;
-    Some((part, &bytes[len..]))
+    let (_, left) = bytes.split_at(blank_len(bytes));
+    let (part, len) = part_here(language, left)?;
+    Some((part, left.split_at(len).1))
 }

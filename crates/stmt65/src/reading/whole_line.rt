@@ -1,7 +1,8 @@
 //! What a line says.
 
 ghost use Rattle.std.specs.Prelude.{◌≡◌};
-ghost use Rattle.stmt65.specs.Words.{Gives, GivesIfOk, constant_of, line_at, number_of_name, parts, reading_of, source_of};
+ghost use Rattle.stmt65.specs.Words.{Gives, GivesIfOk, None, Some, constant_of, line_at, number_of_name, operation_at, option_copied, option_map, parts, reading_of, source_of, stated};
+ghost use Rattle.stmt65.specs.Code.SourceLineViews.{operation_of};
 
 use crate::language::Language;
 use crate::reading::lexer::Part;
@@ -41,6 +42,17 @@ fn constant_of<'a, A: Allocator>(name: &'a [u8], parts: &mut Parts<'a>) -> Optio
     number_of_name(name, parts)
 }
 
+/// The operation, if there is one, after the optional label.
+fn stated<'a, A: Allocator>(
+    label: Option<&'a [u8]>,
+    operation: Option<Operation<'a, A>>,
+) -> Option<SourceLine<'a, A>>
+    ensures { Gives source_of result (stated (option_copied label.entry) (option_map operation_of operation.entry)) }
+{
+    let operation = operation?;
+    Some(SourceLine::Statement { label, operation })
+}
+
 /// A line that begins with the word. In a repair `=` is as good as `:=` before a number.
 #[tactic(auto, unfolding(crate::specs::Reading::line_at))]
 fn line_at<'a, A: Allocator>(
@@ -55,11 +67,7 @@ fn line_at<'a, A: Allocator>(
         if !is_name(word) {
             return Ok(None);
         }
-        let operation = operation_of(alloc, language, parts)?;
-        return Ok(operation.map(|operation| SourceLine::Statement {
-            label: Some(word),
-            operation,
-        }));
+        return Ok(stated(Some(word), operation_of(alloc, language, parts)?));
     }
     if parts.eat_define() {
         return Ok(if is_name(word) {
@@ -75,18 +83,32 @@ fn line_at<'a, A: Allocator>(
             None
         });
     }
-    let operation = operation_at(alloc, language, word, parts)?;
-    Ok(operation.map(|operation| SourceLine::Statement {
-        label: None,
-        operation,
-    }))
+    Ok(stated(None, operation_at(alloc, language, word, parts)?))
+}
+
+/// What the parts say.
+#[tactic(auto, unfolding(crate::specs::Reading::reading_of))]
+fn read_parts<'a, A: Allocator>(
+    alloc: A,
+    language: Language,
+    parts: &mut Parts<'a>,
+) -> Result<Option<SourceLine<'a, A>>, AllocError>
+    ensures { GivesIfOk source_of result (reading_of language parts.old) }
+{
+    match parts.next() {
+        None => Ok(Some(SourceLine::Statement {
+            label: None,
+            operation: Operation::Nothing,
+        })),
+        Some(Part::Word(word)) => line_at(alloc, language, word, parts),
+        Some(_) => Ok(None),
+    }
 }
 
 /// What a line, without its line feed, says in a language; `None` if it is no line of it. The
 /// names and strings of the answer are borrowed from the line.
 ///
 /// Fails if an allocation for a list of operands is refused.
-#[tactic(auto, unfolding(crate::specs::Reading::reading_of))]
 pub fn read_line<'a, A: Allocator>(
     alloc: A,
     language: Language,
@@ -97,12 +119,5 @@ pub fn read_line<'a, A: Allocator>(
     ensures { GivesIfOk source_of result (reading_of language (parts language line.now)) }
 {
     let mut parts = Parts::new(language, line);
-    match parts.next() {
-        None => Ok(Some(SourceLine::Statement {
-            label: None,
-            operation: Operation::Nothing,
-        })),
-        Some(Part::Word(word)) => line_at(alloc, language, word, &mut parts),
-        Some(_) => Ok(None),
-    }
+    read_parts(alloc, language, &mut parts)
 }
