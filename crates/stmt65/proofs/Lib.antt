@@ -28,4 +28,5 @@ mod TextLemmas
 mod AddressLemmas
 mod RepairLaw
 mod ModeLemmas
+mod FaultLemmas
 pub mod Public

@@ -31,6 +31,7 @@ pub mod Answer
 pub mod TextLaws
 pub mod LineAddresses
 pub mod ModeLaws
+pub mod FaultLaws
 pub mod Sources
 pub mod Code
 pub mod Types

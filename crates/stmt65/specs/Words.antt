@@ -1,5 +1,5 @@
 -- The words of clauses and proofs, here and in the crates above, from one place.
-pub use Rattle.stmt65.specs.Types.{ALL, Abs, Absindx, AbsoluteX, AbsoluteY, Absx, Absy, Acc, Addr, AddressSize, All, AllDigits, Asl, AsmFault, AsmFaultKind, Automatic, BigEndian, ByteOrder, Coded, Columns, Cpu, Dbyt, Decides, DefinedTwice, Direct, DirectX, DirectY, Directive, Dword, Err, Extends, Fit, High, IfSome, Imm, Immediate, Imp, Inc, Ind, Indirect, IndirectX, IndirectY, Indx, Indy, IsSome, Language, Late, List, Listing, LittleEndian, Low, M6502, MatchOption, Minus, Mnemonic, Mode, NoSuchForm, None, Ok, OperandKind, Option, OutOfRange, PastEnd, PastStart, Plain, Rel, Repair, Result, Ror, Row, Some, Syntax, Undefined, UnknownCpu, Work, Zero, Zp, Zpind, Zprel, Zpx, Zpy, [], array_vec_len, bytes_eq, codes, cpu_text, decimal, digit_value, digits4, digits_value, digits_value_after, drop, encoded, false, filter, flat_map, get_or, hex_digit, is_ascii_alphabetic, is_ascii_digit, is_ascii_hexdigit, is_blank, is_some, is_word_byte, len_of, length, list_all, list_any, map, max, min, nat_lt, not, option_copied, option_map, prefix_len, replicate, reverse, row_of, row_text, slice_get, str_to_ascii_lowercase, table_of, take, text_of, true, written, zero_page_of, zero_page_row}
+pub use Rattle.stmt65.specs.Types.{ALL, Abs, Absindx, AbsoluteX, AbsoluteY, Absx, Absy, Acc, Addr, AddressSize, All, AllDigits, Asl, AsmFault, AsmFaultKind, Automatic, BigEndian, ByteOrder, Coded, Columns, Cpu, Dbyt, Decides, DefinedTwice, Direct, DirectX, DirectY, Directive, Dword, Err, Extends, Fit, High, IfSome, Imm, Immediate, Imp, Inc, Ind, Indirect, IndirectX, IndirectY, Indx, Indy, IsSome, Language, Late, List, Listing, LittleEndian, Low, M6502, MatchOption, Memory, Minus, Mnemonic, Mode, NoSuchForm, None, Ok, OperandKind, Option, OutOfRange, PastEnd, PastStart, Plain, Rel, Repair, Result, Ror, Row, Some, Syntax, Undefined, UnknownCpu, Work, Zero, Zp, Zpind, Zprel, Zpx, Zpy, [], array_vec_len, bytes_eq, codes, cpu_text, decimal, digit_value, digits4, digits_value, digits_value_after, drop, encoded, false, filter, flat_map, get_or, hex_digit, is_ascii_alphabetic, is_ascii_digit, is_ascii_hexdigit, is_blank, is_some, is_word_byte, len_of, length, list_all, list_any, map, max, min, nat_lt, not, option_copied, option_map, prefix_len, replicate, reverse, row_of, row_text, slice_get, str_to_ascii_lowercase, table_of, take, text_of, true, written, zero_page_of, zero_page_row}
 unfoldable pub use Rattle.stmt65.specs.Types.{cpu_named, has_name_form, is_reserved_word, mnemonic_named, text_lines}
 pub use Rattle.stmt65.specs.Answer.{Assembles, IsExplained, out_of_memory}
 pub use Rattle.stmt65.specs.Code.CodingViews.{Adds, AddsOne, Emits, IsFirstOf, IsFirstWay, Puts, PutsAll, coded_of, data_fragments, entry_fragments, fragment_of, instruction_of, operand_of}
@@ -17,14 +17,14 @@ pub use Rattle.stmt65.specs.Code.StatementViews.{expr_seen, in_hex, operands_see
 pub use Rattle.stmt65.specs.Code.SymbolViews.{definition_of}
 unfoldable pub use Rattle.stmt65.specs.Code.SymbolViews.{first_at}
 pub use Rattle.stmt65.specs.Code.Widths.{AreBytes, AreWordWide, IsInWidth, IsWordWide}
-pub use Rattle.stmt65.specs.Coding.{Distance, Entry, Fill, Fixed, Fragment, Oversized, Single, State, Way, ZeroPage, byte_fragment, datum_fragments, distance, entry_bytes, entry_limit, first_way, fragment_len, gap, half_of, is_fragment_known, is_near, is_short, kind_fragment, low, modes_in, or_zero, way_in, word_operand, zero_page}
+pub use Rattle.stmt65.specs.Coding.{Distance, Entry, Fill, Fixed, Fragment, HalfOf, Oversized, Single, State, Way, ZeroPage, byte_fragment, datum_fragments, distance, entry_bytes, entry_limit, first_way, fragment_len, gap, half_of, is_fragment_known, is_near, is_short, kind_fragment, low, modes_in, or_zero, way_in, word_operand, zero_page}
 unfoldable pub use Rattle.stmt65.specs.Coding.{coding, coding_len, entry_in, fragment_bytes, fragment_fits, ways}
 pub use Rattle.stmt65.specs.Columns.{default_columns, fits_label}
 unfoldable pub use Rattle.stmt65.specs.Definitions.{definitions_of}
 pub use Rattle.stmt65.specs.Digits.{digits2, hex2, hex4, offset_text}
 pub use Rattle.stmt65.specs.Directives.{directive_text, first_directive_named}
 unfoldable pub use Rattle.stmt65.specs.Directives.{directive_named}
-pub use Rattle.stmt65.specs.Forms.{form_text, has_prefix, sized}
+pub use Rattle.stmt65.specs.Forms.{form_text, form_values, has_prefix, sized}
 pub use Rattle.stmt65.specs.Layout.{Layout, free, is_before, start_of, with_start}
 pub use Rattle.stmt65.specs.Levels.{character, fields_after, level_fields, spaced_byte}
 pub use Rattle.stmt65.specs.Lexing.{alone_at, hex_len, is_binary_digit, is_character, is_text_byte, is_word_start, parts}
@@ -33,7 +33,7 @@ pub use Rattle.stmt65.specs.Line.{plain_line, with_fields}
 unfoldable pub use Rattle.stmt65.specs.Line.{filled, line_of}
 pub use Rattle.stmt65.specs.LineAddresses.{FindsLine, GivesByte, address_after, line_past}
 unfoldable pub use Rattle.stmt65.specs.LineAddresses.{line_addresses}
-pub use Rattle.stmt65.specs.Meaning.{first_of, has_large, initial, meaning, operation_in, readings, unless, with_front}
+pub use Rattle.stmt65.specs.Meaning.{Test, first_of, has_large, initial, meaning, operation_in, readings, tests_of, unless, with_front}
 unfoldable pub use Rattle.stmt65.specs.Meaning.{after, bytes_of, coded, cpu_after, defined_by, fault_of, final, fragments_of, has_no_form, has_unknown_cpu, is_out_of_range, is_past_end, is_past_start, is_twice, is_undefined, meaning_in, meaning_of, next_of}
 pub use Rattle.stmt65.specs.ModeLaws.{EachWay, HasMode, IsModeOf, IsWay, LacksForm, ModesAreWays, NeedsMode, TakesMode, TakesModes, WaysAreModes, is_way, mode_fragments}
 pub use Rattle.stmt65.specs.Names.{same}
@@ -66,3 +66,4 @@ pub use Rattle.stmt65.specs.Views.{ExprView, OperandsView, RemarksView, Statemen
 pub use Rattle.stmt65.specs.declared.assembling.assembler.Pass.{Pass}
 pub use Rattle.stmt65.specs.declared.assembling.assembler.Source.{Source}
 pub use Rattle.isa65.specs.declared.mnemonic.Mnemonic.TheVariants.{Adc, Bbr0, Bne, Bra, Cmp, Jmp, Lda, Ldx, Nop, Rts, Smb0, Sta, Stx}
+pub use Rattle.stmt65.specs.FaultLaws.{EntersPast, FindsLowest, FindsNone, HasFault, HasNoMode, HasRoom, IsUnknown, LineHasFault, NamesNoCpu, datum_values, operation_values, rank}

@@ -39,7 +39,8 @@ pub use assembling::symbols::{Definition, Symbols};
 pub use directive::Directive;
 pub use language::Language;
 pub use laws::meaning_laws::{
-    codes_alike, keeps_listings, means_first_fault, means_its_lines, takes_modes,
+    codes_alike, finds_lowest_fault, keeps_listings, means_first_fault, means_its_lines,
+    takes_modes,
 };
 pub use laws::reading_laws::{cuts_texts, reads_lines, reads_spellings, spells_one, takes_parts};
 pub use printing::columns::{Column, Columns, LabelBreak, Level, LimitError, Within};

@@ -1,7 +1,7 @@
-//! What a text means, in the words of the manual: which mode an instruction has, and what the lines of a text make of
-//! it.
+//! What a text means, in the words of the manual: which mode an instruction has, which faults a line has, and what the
+//! lines of a text make of it.
 
-ghost use Rattle.stmt65.specs.Words.{FindsLine, KeepsListings, MeansBytes, MeansFault, ModesAreWays, NeedsMode, StandsAtItsBytes, TakesModes, WaysAreModes};
+ghost use Rattle.stmt65.specs.Words.{FindsLine, FindsLowest, FindsNone, KeepsListings, MeansBytes, MeansFault, ModesAreWays, NeedsMode, StandsAtItsBytes, TakesModes, WaysAreModes};
 
 #[tactic(auto, using(crate::proofs::ModeLemmas::ways_are_modes, crate::proofs::ModeLemmas::modes_are_ways))]
 pub fn codes_alike()
@@ -18,6 +18,14 @@ pub fn takes_modes()
     /// has none of these modes.
     ensures takes { TakesModes }
     ensures needs { NeedsMode }
+{}
+
+#[tactic(auto, using(crate::proofs::FaultLemmas::finds_none))]
+pub fn finds_lowest_fault()
+    /// Each kind of fault has one rule. The fault of a line is the lowest kind whose rule holds; it has none
+    /// exactly when no rule holds.
+    ensures lowest { FindsLowest }
+    ensures none { FindsNone }
 {}
 
 #[tactic(auto, using(crate::proofs::TextLemmas::stands_at_its_bytes, crate::proofs::AddressLemmas::finds_line))]
