@@ -4,7 +4,7 @@
 -- bytes lie in the image. It leads to the address after it, but for `jmp`, `bra`, `rts`, `rti` and `brk`, and to the
 -- target of a relative mode, of `jmp` or of `jsr` to an absolute address; to each of them only inside the image. A call
 -- that text follows leads to the address after the text.
-use Rattle.std.specs.Prelude.{◌≡◌, ◌⊎◌, ℕ, ◌+◌, ◌||◌, nat_le, Bool, false, List, if◌then◌else◌, Option, Some, None, option_and_then}
+use Rattle.std.specs.Prelude.{◌≡◌, ◌⊎◌, ℕ, ◌+◌, ◌||◌, nat_le, Bool, List, if◌then◌else◌, Option, Some, None, option_and_then}
 use denote.Enum.Bare.{sameb}
 use Rattle.isa65.specs.Words.{decoded, len_of, row_of}
 use Rattle.isa65.specs.contracts.mnemonic.Mnemonic as mnemonic

@@ -67,9 +67,8 @@ pub record WorkedCode : Type 0 where
   pub entry : next_at (with_groups (record (inline 0x1007 None) { kind = kind.Entry } ∷ []) a_text) 0x1000 ≡ Some 0x1003
   -- a text of a routine outside the image, without a zero byte; one byte of it; more bytes than there are
   pub endless : map (λ s. next_at (with_groups (inline 0x2000 s ∷ []) (0x20 ∷ 0x00 ∷ 0x20 ∷ 0x48 ∷ 0x49 ∷ [])) 0x1000) (None ∷ Some 1 ∷ Some 2 ∷ []) ≡ None ∷ Some 0x1004 ∷ None ∷ []
-  -- the target of a jump is reached, and what it passes over is not
+  -- the target of a jump is reached
   pub jump : Reached (flow (bytes a_jump)) (0x1000 ∷ []) 0x1004
-  pub passed_over : (Reached (flow (bytes a_jump)) (0x1000 ∷ []) 0x1003 → ⊥)
   -- nothing is reached from an entry outside the image
   pub outside : (Reached (flow (bytes a_call)) (0x2000 ∷ []) 0x2000 → ⊥)
   -- the bytes of the call and of rts, if nop is not reached

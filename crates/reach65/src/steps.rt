@@ -108,7 +108,11 @@ fn steps_of(alloc: Global, flow: &Flow<'_, '_>) -> Result<Vec<Option<Step>>, All
     let (start, len) = start_and_len(flow.map().image());
     let mut steps = Vec::with_capacity(alloc, len)?;
     'image: for k in 0..len {
-        steps.push(step_at(flow, (start + k) as u16))?;
+        // What is none is stored quicker by itself.
+        match step_at(flow, (start + k) as u16) {
+            Some(step) => steps.push(Some(step))?,
+            None => steps.push(None)?,
+        }
     }
     Ok(steps)
 }

@@ -82,15 +82,7 @@ pub fn given_entries(alloc: Global, given: &[u16], tags: &[Tag]) -> Result<Vec<u
 /// Returns all entries: where reading begins, with those that are given, and, unless no more than the entries are to be
 /// followed, those that join them. Fails only if an allocation failed.
 pub fn followed(steps: &Steps<'_>, given: &[u16], plain: bool) -> Result<Followed, AllocError> {
-    let entries = entries_of(steps, given, plain)?;
-    if plain {
-        return Ok(Followed {
-            entries,
-            obstacles: Vec::new(steps.alloc()),
-            calls: Vec::new(steps.alloc()),
-        });
-    }
-    follow(steps, &entries)
+    follow(steps, &entries_of(steps, given, plain)?, plain)
 }
 
 /// The places of the bytes that groups HALVES and NUMBER of the information file have.
@@ -147,7 +139,10 @@ impl<'a> Advice<'a> {
     pub fn of(steps: &'a Steps<'a>, reach: Reach<'a>) -> Result<Advice<'a>, AllocError> {
         let survey = Survey::of(steps, reach.reached, reach.code)?;
         let said = said_places(steps.alloc(), steps.tags())?;
-        let tables = survey.readers.tables(steps, reach.reached, reach.code)?;
+        let tables = reach
+            .followed
+            .readers
+            .tables(steps, reach.reached, reach.code)?;
         let declared = declared_of(steps, &tables)?;
         let (mut ground, splits) = ground_of(&survey, reach, &said, &tables)?;
         let words = words_of(&ground, &survey)?;

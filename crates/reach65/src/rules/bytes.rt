@@ -1,7 +1,8 @@
 //! Bytes and words of an image by their addresses, which may lie outside it.
 
+ghost use Rattle.std.specs.Prelude.{◌≤◌};
+
 use map65::{ADDRESSES, Image};
-use std::ops::RangeInclusive;
 
 /// Returns the byte at the address, if that lies in the image.
 pub fn byte(image: &Image, at: usize) -> Option<u8> {
@@ -26,16 +27,12 @@ pub fn bytes_at(image: &Image, at: usize, most: usize) -> &[u8] {
 }
 
 /// Returns the first address of the image, and the first one after it.
-pub fn ends(image: &Image) -> (usize, usize) {
+pub fn ends(image: &Image) -> (usize, usize)
+    ensures { result.1 ≤ 65536 }
+{
     let start = usize::from(image.start());
     let end = start.saturating_add(image.bytes().len());
     (start, end.min(ADDRESSES))
-}
-
-/// Returns the addresses of the image, in order.
-pub fn addresses(image: &Image) -> RangeInclusive<u16> {
-    let (_, end) = ends(image);
-    image.start()..=end.saturating_sub(1).min(0xFFFF) as u16
 }
 
 /// Returns the address, if it is at most $FFFF.

@@ -1,7 +1,7 @@
 //! Where reading begins.
 
 use crate::rules::Steps;
-use crate::rules::bytes::{addresses, ends, word};
+use crate::rules::bytes::{ends, word};
 use crate::rules::growth::LEAST;
 use crate::rules::sound::reads_on;
 use info65::{Entry, RangeType};
@@ -36,8 +36,9 @@ pub fn pointers_of(steps: &Steps<'_>) -> Result<Vec<u16>, AllocError> {
     if map.info().ranges().is_empty() {
         return Ok(found);
     }
-    for at in addresses(map.image()) {
-        if let Some(address) = pointer_at(map, at) {
+    let (start, end) = ends(map.image());
+    for at in start..end {
+        if let Some(address) = pointer_at(map, at as u16) {
             found.push(address)?;
         }
     }

@@ -1,6 +1,6 @@
 //! The addresses of an image that nothing speaks for, and the words among them that are addresses.
 
-use crate::rules::bytes::{addresses, word};
+use crate::rules::bytes::{ends, word};
 use crate::rules::entries::has_vectors;
 use map65::{ADDRESSES, Image, Marks, is_inside};
 use std::alloc::{AllocError, Global};
@@ -41,9 +41,10 @@ impl<'i> Ground<'i> {
         texts: Marks,
     ) -> Result<Ground<'i>, AllocError> {
         let mut plain = Marks::none(alloc)?;
-        for at in addresses(image) {
-            if !taken.get(at) && !numbers.get(at) {
-                plain.set(at);
+        let (start, end) = ends(image);
+        for at in start..end {
+            if !taken.get_at(at) && !numbers.get_at(at) {
+                plain.set(at as u16);
             }
         }
         Ok(Ground {

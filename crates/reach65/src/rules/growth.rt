@@ -6,7 +6,7 @@ use crate::rules::declared::{addresses_of, declared_of};
 use crate::rules::entries::pointers_of;
 use crate::rules::halves::{may_begin, pairs_at};
 use crate::rules::obstacles::{Obstacle, worst_of};
-use crate::rules::readers::Table;
+use crate::rules::readers::{Readers, Table};
 use crate::rules::search::{Least, Search};
 use crate::rules::words::DataWords;
 use map65::ADDRESSES;
@@ -186,47 +186,65 @@ impl Search<'_> {
         }
         Ok(())
     }
+
+    /// Lets all sound beginnings join.
+    fn join_all(&mut self) -> Result<(), AllocError> {
+        let steps = self.steps;
+        for &address in &pointers_of(steps)? {
+            self.join(address, Least::Count(1))?;
+        }
+        let info = steps.map().info();
+        for k in 0..info.given_count() {
+            self.join(info.given(k).address, Least::Count(LEAST))?;
+        }
+        self.grow()?;
+        let words = DataWords::of(self)?;
+        for _scan in 0..SCANS {
+            self.join_tables()?;
+            words.join_rows(self)?;
+            self.join_jumps()?;
+            self.join_candidates(&mut words.behind_rows(self)?)?;
+            if self.looked == self.joined.len() {
+                break;
+            }
+            self.grow()?;
+        }
+        Ok(())
+    }
 }
 
-/// The entries with those that join, and what kept others from joining.
+/// The entries with those that join, which tables the code reads that is reached from them, and what kept others from
+/// joining.
 #[derive(Drop)]
 pub struct Followed {
     pub entries: Vec<u16>,
+    pub readers: Readers,
     /// The three worst obstacles.
     pub obstacles: Vec<Obstacle>,
     /// The calls that were read in trials that failed, once for each.
     pub calls: Vec<u16>,
 }
 
-/// Returns the entries, and then those that join: the sound beginnings among what the tables of the information file
-/// refer to, those right behind a reached instruction and its text, those whose address reached code has in halves,
-/// those to which tables that it reads lead, and those among the words of rows and in rows of jumps. The time grows
-/// with the number of addresses that are reached. Fails only if an allocation failed.
-pub fn follow(steps: &Steps<'_>, entries: &[u16]) -> Result<Followed, AllocError> {
+/// Returns the entries, and then, unless no more than these are to be followed, those that join: the sound beginnings
+/// among what the tables of the information file refer to, those right behind a reached instruction and its text, those
+/// whose address reached code has in halves, those to which tables that it reads lead, and those among the words of rows
+/// and in rows of jumps. The time grows with the number of addresses that are reached. Fails only if an allocation
+/// failed.
+pub fn follow(steps: &Steps<'_>, entries: &[u16], plain: bool) -> Result<Followed, AllocError> {
     let mut search = Search::from(steps, entries)?;
-    for &address in &pointers_of(steps)? {
-        search.join(address, Least::Count(1))?;
-    }
-    let info = steps.map().info();
-    for k in 0..info.given_count() {
-        search.join(info.given(k).address, Least::Count(LEAST))?;
-    }
-    search.grow()?;
-    let words = DataWords::of(&search)?;
-    for _scan in 0..SCANS {
-        search.join_tables()?;
-        words.join_rows(&mut search)?;
-        search.join_jumps()?;
-        search.join_candidates(&mut words.behind_rows(&search)?)?;
-        if search.looked == search.joined.len() {
-            break;
-        }
-        search.grow()?;
+    if !plain {
+        search.join_all()?;
     }
     let obstacles = worst_of(&search)?;
-    let Search { entries, calls, .. } = search;
+    let Search {
+        entries,
+        readers,
+        calls,
+        ..
+    } = search;
     Ok(Followed {
         entries,
+        readers,
         obstacles,
         calls,
     })

@@ -1,7 +1,7 @@
 //! Which instructions are listed as such.
 
 use crate::rules::Steps;
-use crate::rules::bytes::{address, addresses};
+use crate::rules::bytes::{address, ends};
 use map65::{Map, Marks};
 use std::alloc::AllocError;
 
@@ -22,11 +22,12 @@ pub fn items_of(steps: &Steps<'_>, taken: &Marks) -> Result<Marks, AllocError> {
     borders.sort()?;
     let mut items = Marks::none(alloc)?;
     let mut next = 0;
-    for first in addresses(steps.image()) {
-        let at = usize::from(first);
-        if at < next || !taken.get(first) {
+    let (start, end) = ends(steps.image());
+    for at in start..end {
+        if at < next || !taken.get_at(at) {
             continue;
         }
+        let first = at as u16;
         let after = at.saturating_add(steps.len_at(first));
         if at < after
             && (at.saturating_add(1)..after).all(|inner| {

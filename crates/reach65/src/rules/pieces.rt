@@ -24,8 +24,8 @@ enum Begins {
 #[derive(Drop)]
 pub struct Pieces<'a> {
     ground: &'a Ground<'a>,
-    start: usize,
     end: usize,
+    /// What begins at each byte, from the last one to the first.
     begins: Vec<Begins>,
 }
 
@@ -48,17 +48,14 @@ fn longest_with(tails: &mut [Chars; 3], byte: u8) -> u32 {
 
 /// What begins at each byte of the image, from the last one to the first.
 fn begins_backward(alloc: Global, ground: &Ground<'_>) -> Result<Vec<Begins>, AllocError> {
-    let (start, end) = ends(ground.image);
-    let mut found = Vec::new(alloc);
+    let (start, _) = ends(ground.image);
+    let bytes = ground.image.bytes();
+    let mut found = Vec::with_capacity(alloc, bytes.len())?;
     let mut tails = [Chars::none(); 3];
     let mut after = None;
     let mut run = 0u32;
-    for at in (start..end).rev() {
-        let here = if ground.is_plain(at) {
-            byte(ground.image, at)
-        } else {
-            None
-        };
+    for (index, &byte) in bytes.iter().enumerate().rev() {
+        let here = ground.is_plain(start.saturating_add(index)).then_some(byte);
         run = if here.is_some() && here == after {
             run.saturating_add(1)
         } else {
@@ -80,7 +77,6 @@ fn begins_backward(alloc: Global, ground: &Ground<'_>) -> Result<Vec<Begins>, Al
             count => Begins::Text(count),
         })?;
     }
-    found.reverse();
     Ok(found)
 }
 
@@ -88,10 +84,9 @@ impl<'a> Pieces<'a> {
     /// Looks at the addresses that nothing speaks for. The time grows with the size of the image.
     /// Fails only if an allocation failed.
     pub fn of(alloc: Global, ground: &'a Ground<'a>) -> Result<Pieces<'a>, AllocError> {
-        let (start, end) = ends(ground.image);
+        let (_, end) = ends(ground.image);
         Ok(Pieces {
             ground,
-            start,
             end,
             begins: begins_backward(alloc, ground)?,
         })
@@ -99,7 +94,9 @@ impl<'a> Pieces<'a> {
 
     /// What begins at the address.
     fn begins_at(&self, at: usize) -> Begins {
-        let begins = self.begins.get(at.saturating_sub(self.start));
+        let begins = self
+            .begins
+            .get(self.end.saturating_sub(at.saturating_add(1)));
         begins.copied().unwrap_or(Begins::Nothing)
     }
 

@@ -1,9 +1,9 @@
 //! Rows of words that are addresses of texts.
 
-use crate::rules::bytes::{byte, bytes_at, ends};
+use crate::rules::bytes::{bytes_at, ends};
 use crate::rules::ground::Ground;
 use crate::rules::texts::ALPHABETS;
-use map65::Marks;
+use map65::{Image, Marks};
 use std::alloc::{AllocError, Global};
 
 /// How many words a row has at least.
@@ -15,16 +15,13 @@ const APART: usize = 8;
 /// How many characters of a text are looked at.
 const LOOKED: usize = 16;
 
-/// Whether a text begins at the address: it is one up to the 16th character, and no character stands before it.
-fn begins_text(ground: &Ground<'_>, at: usize) -> bool {
-    let image = ground.image;
-    let bytes = bytes_at(image, at, LOOKED);
-    // No alphabet has a byte 0.
-    let before = byte(image, at.saturating_sub(1)).unwrap_or(0);
-    bytes.first().is_some_and(|&here| {
-        ALPHABETS.iter().any(|alphabet| {
-            alphabet.is_char(here) && !alphabet.is_char(before) && 0 < alphabet.text_len(bytes)
-        })
+/// Whether a text begins at the address with this byte: it is one up to the 16th character, and no character stands
+/// before it.
+fn begins_text(image: &Image, at: usize, before: u8, here: u8) -> bool {
+    ALPHABETS.iter().any(|alphabet| {
+        alphabet.is_char(here)
+            && !alphabet.is_char(before)
+            && 0 < alphabet.text_len(bytes_at(image, at, LOOKED))
     })
 }
 
@@ -32,12 +29,16 @@ fn begins_text(ground: &Ground<'_>, at: usize) -> bool {
 fn text_marks(alloc: Global, ground: &Ground<'_>) -> Result<(Marks, bool), AllocError> {
     let mut texts = Marks::none(alloc)?;
     let mut has_any = false;
-    let (start, end) = ends(ground.image);
-    for at in start..end {
-        if ground.is_plain(at) && begins_text(ground, at) {
+    // No alphabet has a byte 0.
+    let mut before = 0u8;
+    let (start, _) = ends(ground.image);
+    for (index, &here) in ground.image.bytes().iter().enumerate() {
+        let at = start.saturating_add(index);
+        if here != before && ground.is_plain(at) && begins_text(ground.image, at, before, here) {
             texts.set_span(at, at.saturating_add(1));
             has_any = true;
         }
+        before = here;
     }
     Ok((texts, has_any))
 }

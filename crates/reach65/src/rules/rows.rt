@@ -1,6 +1,6 @@
 //! Rows of words that are addresses of routines.
 
-use crate::rules::bytes::{addresses, ends};
+use crate::rules::bytes::ends;
 use crate::rules::ground::Ground;
 use crate::rules::survey::Survey;
 use crate::rules::words::ROW;
@@ -41,13 +41,14 @@ pub fn words_of(ground: &Ground<'_>, survey: &Survey<'_>) -> Result<Vec<u16>, Al
         named.set(info.given(k).address);
     }
     let mut found = Vec::new(alloc);
-    for at in addresses(ground.image) {
-        if let Some(word) = ground.word(usize::from(at))
+    let (start, end) = ends(ground.image);
+    for at in start..end {
+        if let Some(word) = ground.word(at)
             && (named.get(word)
                 || survey.is_routine(usize::from(word))
                 || survey.is_routine(usize::from(word).saturating_add(1)))
         {
-            found.push(at)?;
+            found.push(at as u16)?;
         }
     }
     Ok(found)

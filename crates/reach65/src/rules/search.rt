@@ -64,12 +64,10 @@ pub struct Search<'a> {
 /// Marks the addresses that instructions store to, if the bytes of the image are instructions.
 fn stored_marks(alloc: Global, image: &Image) -> Result<Marks, AllocError> {
     let mut marks = Marks::none(alloc)?;
-    let bytes = image.bytes();
-    for last in 2..bytes.len() {
-        let (low, high) = (bytes[last - 1], bytes[last]);
-        match bytes[last - 2] {
-            0x84..=0x86 => marks.set(u16::from(low)),
-            0x8C..=0x8E => marks.set(u16::from_le_bytes([low, high])),
+    for bytes in image.bytes().windows(3) {
+        match *bytes {
+            [0x84..=0x86, low, _] => marks.set(u16::from(low)),
+            [0x8C..=0x8E, low, high] => marks.set(u16::from_le_bytes([low, high])),
             _ => {}
         }
     }
@@ -160,10 +158,12 @@ impl<'a> Search<'a> {
         };
         enough
             && !self.is_filled_jump()
-            && self
-                .added
-                .iter()
-                .all(|&address| is_apart(self.steps, &self.marks, address))
+            && self.added.iter().all(|&address| is_apart(
+                self.steps,
+                &self.marks,
+                &self.code,
+                address,
+            ))
     }
 
     /// Whether what was added has so many bytes at least.

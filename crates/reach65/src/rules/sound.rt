@@ -84,17 +84,21 @@ fn hides(steps: &Steps<'_>, outer: u16, inner: u16) -> bool {
 /// is marked, and not hidden in a `bit`.
 fn clashes(steps: &Steps<'_>, marks: &Marks, outer: u16, distance: u16) -> bool {
     let inner = outer.saturating_add(distance);
-    usize::from(distance) < steps.len_at(outer)
-        && marks.get(inner)
+    marks.get(inner)
+        && usize::from(distance) < steps.len_at(outer)
         && !(distance == 1 && hides(steps, outer, inner))
 }
 
-/// Returns whether the instruction of the address, which is marked, shares no byte with another one,
-/// but for one in the operand of a `bit`.
-pub fn is_apart(steps: &Steps<'_>, marks: &Marks, address: u16) -> bool {
+/// Returns whether the instruction of the address, which is marked, shares no byte with another one, but for one in the
+/// operand of a `bit`: with none that begins behind it, and with none of those before it that have `code`.
+pub fn is_apart(steps: &Steps<'_>, marks: &Marks, code: &Marks, address: u16) -> bool {
+    let is_code = code.get(address);
     [1u16, 2].iter().all(|&distance| {
         let outer = address.wrapping_sub(distance);
         !clashes(steps, marks, address, distance)
-            && !(outer < address && marks.get(outer) && clashes(steps, marks, outer, distance))
+            && !(is_code
+                && outer < address
+                && marks.get(outer)
+                && clashes(steps, marks, outer, distance))
     })
 }

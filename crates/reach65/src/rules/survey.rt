@@ -1,8 +1,7 @@
 //! What reached code does with addresses.
 
-use crate::rules::bytes::addresses;
+use crate::rules::bytes::ends;
 use crate::rules::halves::may_begin;
-use crate::rules::readers::Readers;
 use crate::rules::{Placed, Steps};
 use isa65::Mnemonic::{self, Asl, Dec, Inc, Jsr, Lsr, Rol, Ror, Sta, Stx, Sty, Stz, Trb, Tsb};
 use map65::{Marks, is_jump};
@@ -34,8 +33,6 @@ pub struct Survey<'a> {
     pub users: Vec<u16>,
     /// Where calls begin.
     pub calls: Vec<u16>,
-    /// Those that read tables.
-    pub readers: Readers,
 }
 
 /// Returns whether an instruction stores to its operand, or changes it.
@@ -74,10 +71,10 @@ impl<'a> Survey<'a> {
             firsts: Vec::new(alloc),
             users: Vec::new(alloc),
             calls: Vec::new(alloc),
-            readers: Readers::none(alloc)?,
         };
-        for at in addresses(steps.image()) {
-            if let Some(placed) = steps.marked(reached, at) {
+        let (start, end) = ends(steps.image());
+        for at in start..end {
+            if let Some(placed) = steps.marked(reached, at as u16) {
                 survey.put(placed)?;
             }
         }
@@ -87,7 +84,6 @@ impl<'a> Survey<'a> {
     /// Marks what the instruction does.
     fn put(&mut self, placed: Placed<'_>) -> Result<(), AllocError> {
         let Placed { at, step } = placed;
-        self.readers.put(placed)?;
         if may_begin(step.op) {
             self.firsts.push(at)?;
         }

@@ -1,7 +1,7 @@
 //! Words that stand in rows and lead to code.
 
 use crate::flow::is_last;
-use crate::rules::bytes::{address, addresses, ends, word};
+use crate::rules::bytes::{address, ends, word};
 use crate::rules::growth::{Candidate, IN_TABLE};
 use crate::rules::search::{Least, Search};
 use crate::rules::{Step, Steps};
@@ -22,15 +22,16 @@ pub struct DataWords<'i> {
     worth: Vec<u16>,
 }
 
-/// Whether the word at the address and the one behind it differ, and both may lead to code, themselves or as one less.
-fn is_worth(image: &Image, hopeful: &Marks, at: usize) -> bool {
-    let (Some(one), Some(two)) = (word(image, at), word(image, at.saturating_add(2))) else {
+/// Whether the bytes are two words that differ, and both may lead to code, themselves or as one less.
+fn is_worth(hopeful: &Marks, bytes: &[u8]) -> bool {
+    let &[low, high, second_low, second_high] = bytes else {
         return false;
     };
-    let (to, then) = (usize::from(one), usize::from(two));
+    let one = usize::from(u16::from_le_bytes([low, high]));
+    let two = usize::from(u16::from_le_bytes([second_low, second_high]));
     one != two
-        && (hopeful.get_at(to) && hopeful.get_at(then)
-            || hopeful.get_at(to + 1) && hopeful.get_at(then + 1))
+        && (hopeful.get_at(one) && hopeful.get_at(two)
+            || hopeful.get_at(one + 1) && hopeful.get_at(two + 1))
 }
 
 /// Whether code may go on at a later address, if there is one: an earlier one is not known yet.
@@ -82,21 +83,23 @@ impl<'i> DataWords<'i> {
             given.set_span(usize::from(range.first), usize::from(range.last) + 1);
         }
         let mut hopeful = Marks::none(alloc)?;
-        for at in addresses(image).rev() {
-            if reached.get(at)
-                || !search.code.get(at)
+        let (start, end) = ends(image);
+        for at in (start..end).rev() {
+            let here = at as u16;
+            if reached.get(here)
+                || !search.code.get(here)
                     && steps
-                        .at(at)
-                        .is_some_and(|step| is_hopeful(&hopeful, at, step))
+                        .at(here)
+                        .is_some_and(|step| is_hopeful(&hopeful, here, step))
             {
-                hopeful.set(at);
+                hopeful.set(here);
             }
         }
         let mut worth = Vec::new(alloc);
-        for at in addresses(image) {
-            if !reached.get(at)
-                && !search.code.get(at)
-                && is_worth(image, &hopeful, usize::from(at))
+        for (index, words) in image.bytes().windows(4).enumerate() {
+            if is_worth(&hopeful, words)
+                && let Some(at) = address(start.saturating_add(index))
+                && search.is_open(at)
             {
                 worth.push(at)?;
             }

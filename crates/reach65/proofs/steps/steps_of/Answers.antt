@@ -6,4 +6,4 @@ pub image-init : goal.image-init
 image-init c = steps_first _ _ (search rules)
 
 pub image-preserved : goal.image-preserved
-image-preserved c = steps_more _ _ _ _ _ _ (grind arith) c.in_ok-push.ensures.items c.step_at.ensures c.image.invariant
+image-preserved c = steps_more _ _ _ _ _ _ (grind arith) (grind arith) c.step_at.ensures c.image.invariant
