@@ -18,7 +18,7 @@ zero_word marks a is = ap (λ word. bit_at word (a % 64) == 1) is ∙ ap (λ bit
 pub marked_past : (marks : MarksView) (a : ℕ) → length marks.words ≤ a / 64 → is_marked marks a ≡ false
 marked_past marks a past = zero_word marks a (get_or_past marks.words (a / 64) 0 past)
 
-blank_word : (n k : ℕ) → get_or {A = ℕ} (replicate n 0) k 0 ≡ 0
+pub blank_word : (n k : ℕ) → get_or {A = ℕ} (replicate n 0) k 0 ≡ 0
 blank_word n k =
     elim (cases_lt k n) [
       | inl below ↦ get_or-replicate n k 0 0 below

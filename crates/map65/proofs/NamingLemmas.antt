@@ -1,5 +1,5 @@
 -- Names that are marked in cells.
-use Rattle.std.proofs.Common.{◌≡◌, ◌∙◌, ℕ, ◌+◌, ◌/◌, ◌%◌, ◌<◌, ◌≤◌, ◌&&◌, ◌||◌, ◌==◌, Bool, true, false, List, Option, Some, None, is_some, length, get_or, max, nat_le, nat_lt, refl, ap, sym, subst, arith, ⊎_elim, if◌then◌else◌}
+use Rattle.std.proofs.Common.{◌≡◌, ◌∙◌, ℕ, ◌+◌, ◌/◌, ◌%◌, ◌<◌, ◌≤◌, ◌&&◌, ◌||◌, ◌==◌, Bool, true, false, zero, suc, List, [], ◌∷◌, ◌++◌, Option, Some, None, is_some, length, get_or, max, nat_le, nat_lt, refl, ap, sym, subst, arith, ⊎_elim, if◌then◌else◌}
 use Rattle.std.specs.List.{list_any}
 use Rattle.std.proofs.Math.Bool.{or-false}
 use Rattle.std.proofs.lemmas.Bool.{and_from, and_parts, both_ways, cases_Bool, cases_eq, cases_lt, cond-false, cond-true, cond_both, eqb-true, false≢true, le-leb, leb-true, lt-ltb, or_left, or_right}
@@ -224,6 +224,12 @@ address-at n k a d below = get_or-range_with_len a n k d below
 pub address-count : (n a : ℕ) → length (addresses n a) ≡ n
 unfolding addresses
 address-count n a = length-range_with_len a n
+
+-- one address more
+pub addresses_more : (n a : ℕ) → addresses (n + 1) a ≡ addresses n a ++ (a + n) ∷ []
+unfolding addresses
+addresses_more zero a = let none : a + 0 ≡ a = omega arith in rw none (λ i. a ∷ [])
+addresses_more (suc n) a = grind (arith, (addresses_more n (a + 1)))
 
 -- the target of one item more
 pub referenced_next : (m : MapView) (k item : ℕ) (old mid new : List ℕ) → k < length m.image.bytes → item ≡ m.image.start + k → Changes with_name (is_referenced_below m k) old mid → Changes with_name (λ a. refers m a item) mid new → Changes with_name (is_referenced_below m (k + 1)) old new

@@ -1,9 +1,9 @@
 -- Tables by which the texts after calls are found.
-use Rattle.std.proofs.Common.{◌≡◌, ◌∙◌, ℕ, ◌+◌, ◌-◌, ◌<◌, ◌≤◌, ◌==◌, false, List, [], ◌∷◌, length, get_or, set, drop, replicate, refl, sym, ap, arith, if◌then◌else◌, inl, inr, Some, None}
+use Rattle.std.proofs.Common.{◌≡◌, ◌∙◌, ℕ, ◌+◌, ◌-◌, ◌<◌, ◌≤◌, ◌==◌, false, List, [], ◌∷◌, length, get_or, set, drop, refl, sym, ap, arith, if◌then◌else◌, inl, inr, Some, None}
 use Rattle.std.specs.List.{list_any, slice_get}
 use Rattle.std.proofs.lemmas.Bool.{cases_eq, cases_lt}
 use Rattle.std.proofs.lemmas.Bool.Decides.{nat_tests}
-use Rattle.std.proofs.lemmas.List.{drop_all, drop_more, get_or-replicate, get_or-set_other, get_or-set_same, get_or_past, length-replicate}
+use Rattle.std.proofs.lemmas.List.{drop_all, drop_more, get_or-set_other, get_or-set_same, get_or_past}
 use Rattle.std.proofs.lemmas.Option.{get_or_from_slice_get, slice_get_within}
 use Rattle.map65.specs.Words.{ImageView, byte_at, end_of}
 use Rattle.reach65.specs.Words.{AreEnds, AreFirsts, Enters, Tag, coded, inline_of, is_inline, is_text, text_end, zero_end}
@@ -14,13 +14,6 @@ no_inline : (tags : List Tag) (a : ℕ) → list_any is_text tags ≡ false → 
 unfolding inline_of is_inline
 no_inline [] a none = refl
 no_inline (t ∷ tags) a none = grind (arith, (no_inline tags a))
-
-pub blank_at : (n k : ℕ) → get_or {A = ℕ} (replicate n 0) k 0 ≡ 0
-blank_at n k =
-    elim (cases_lt k n) [
-      | inl below ↦ get_or-replicate n k 0 0 below
-      | inr past ↦ get_or_past (replicate n 0) k 0 (omega (arith, length-replicate {A = ℕ} n 0))
-    ]
 
 -- without groups there is no table
 pub firsts_none : (tags : List Tag) (firsts : List ℕ) → list_any is_text tags ≡ false → firsts ≡ [] → AreFirsts tags [] firsts

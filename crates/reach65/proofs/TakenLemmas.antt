@@ -1,10 +1,11 @@
 -- Marks of taken addresses, one instruction or range after the other.
-use Rattle.std.proofs.Common.{◌≡◌, ◌+◌, ◌≤◌, ◌<◌, ◌&&◌, ◌||◌, nat_le, nat_lt, ℕ, zero, suc, Bool, false, List, [], ◌∷◌, ◌++◌, length, get_or, take, arith, refl}
+use Rattle.std.proofs.Common.{◌≡◌, ◌+◌, ◌≤◌, ◌<◌, ◌&&◌, ◌||◌, nat_le, nat_lt, ℕ, Bool, false, List, length, get_or, take, arith, refl}
 use Rattle.std.proofs.lemmas.Bool.Decides.{nat_tests}
 use Rattle.std.specs.List.{list_any}
 use Rattle.std.proofs.lemmas.List.Folds.{list_any-append, list_any_more}
 use Rattle.info65.specs.Words.{has_address}
 use Rattle.map65.specs.Words.{MapView, addresses, is_between}
+use Rattle.map65.proofs.Public.{addresses_more}
 use Rattle.reach65.specs.Words.{RangeSpec, is_code, is_code_of}
 
 -- a span is what lies from its first address to before its last one
@@ -14,12 +15,6 @@ in_span from to a low = grind (arith, nat_tests)
 -- so it is for the addresses of a range
 pub in_range : (r : RangeSpec) (a : ℕ) → r.last < 65536 → is_between r.first (r.last + 1) a ≡ has_address r a
 in_range r a low = grind (arith, nat_tests)
-
--- one address of the image more
-addresses_more : (k a : ℕ) → addresses (k + 1) a ≡ addresses k a ++ (a + k) ∷ []
-unfolding addresses
-addresses_more zero a = let none : a + 0 ≡ a = omega arith in rw none (λ i. a ∷ [])
-addresses_more (suc k) a = grind (arith, (addresses_more k (a + 1)))
 
 -- the instruction of one of the first k addresses has the address, and is reached
 pub code_in : MapView → (ℕ → Bool) → ℕ → ℕ → Bool

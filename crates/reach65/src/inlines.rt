@@ -26,7 +26,7 @@ fn has_text(tags: &[Tag]) -> bool
 }
 
 /// That many zeros.
-#[tactic(auto, using(crate::proofs::TableLemmas::blank_at))]
+#[tactic(auto, using(map65::proofs::Public::blank_word))]
 fn zeros(alloc: Global, count: usize) -> Result<Vec<usize>, AllocError>
     ensures len { IfOk result (λ zeros. length zeros.items ≡ count) }
     ensures blank { IfOk result (λ zeros. (k : ℕ) → slice_index zeros.items k ≡ 0) }

@@ -2,7 +2,8 @@
 //!
 //! Each module is one rule. A rule may be wrong: what comes of it is checked before it is written, and programs whose
 //! truth is known (`tests/corpus`) say how often it is. `search` tries entries, `growth` lets sound ones join by the
-//! other rules. `survey` has what reached code does with addresses, and the rest says what the other bytes are.
+//! other rules. `survey` has what reached code does with addresses, and the rest says what the other bytes are. A rule
+//! fails only if an allocation failed.
 
 pub use crate::steps::{Placed, Step};
 

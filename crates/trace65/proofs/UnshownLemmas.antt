@@ -4,11 +4,7 @@ use Rattle.std.specs.List.{filter}
 use Rattle.std.proofs.lemmas.List.{append-nil}
 use Rattle.std.proofs.lemmas.List.Elements.{filter-append}
 use Rattle.map65.specs.Words.{addresses}
-
-addresses_more : (k a : ℕ) → addresses (k + 1) a ≡ addresses k a ++ (a + k) ∷ []
-unfolding addresses
-addresses_more zero a = let none : a + 0 ≡ a = omega arith in rw none (λ i. a ∷ [])
-addresses_more (suc k) a = grind (arith, (addresses_more k (a + 1)))
+use Rattle.map65.proofs.Public.{addresses_more}
 
 no-addresses : (p : ℕ → Bool) (a : ℕ) → filter p (addresses 0 a) ≡ []
 unfolding addresses

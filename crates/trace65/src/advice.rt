@@ -1,4 +1,4 @@
-//! What guides: which entries join, and what the bytes may be that no code has.
+//! What guides: which entries join, and what the bytes may be that no code has. A call fails only if an allocation fails.
 
 use info65::{Tag, TagKind};
 use map65::Marks;
@@ -41,10 +41,7 @@ pub struct Reach<'a> {
 #[derive(Drop)]
 pub struct Advice<'a> {
     pub steps: &'a Steps<'a>,
-    /// What the ranges of the information file and reached instructions have.
-    pub taken: &'a Marks,
-    /// What keeps bytes from being code.
-    pub followed: &'a Followed,
+    pub reach: Reach<'a>,
     /// What reached instructions do with addresses.
     pub survey: Survey<'a>,
     /// What nothing speaks for, with the words among it.
@@ -67,8 +64,7 @@ pub struct Advice<'a> {
     pub labels: Vec<u16>,
 }
 
-/// Returns the entries that are given: those of the command line, and then those of the groups
-/// ENTRY. Fails only if an allocation failed.
+/// Returns the entries that are given: those of the command line, and then those of the groups ENTRY.
 pub fn given_entries(alloc: Global, given: &[u16], tags: &[Tag]) -> Result<Vec<u16>, AllocError> {
     let mut entries = Vec::from_slice(alloc, given)?;
     for tag in tags {
@@ -80,7 +76,7 @@ pub fn given_entries(alloc: Global, given: &[u16], tags: &[Tag]) -> Result<Vec<u
 }
 
 /// Returns all entries: where reading begins, with those that are given, and, unless no more than the entries are to be
-/// followed, those that join them. Fails only if an allocation failed.
+/// followed, those that join them.
 pub fn followed(steps: &Steps<'_>, given: &[u16], plain: bool) -> Result<Followed, AllocError> {
     follow(steps, &entries_of(steps, given, plain)?, plain)
 }
@@ -135,14 +131,12 @@ fn pairs_of(
 }
 
 impl<'a> Advice<'a> {
-    /// Looks at an image of which this is reached. Fails only if an allocation failed.
+    /// Looks at an image of which this is reached.
     pub fn of(steps: &'a Steps<'a>, reach: Reach<'a>) -> Result<Advice<'a>, AllocError> {
         let survey = Survey::of(steps, reach.reached, reach.code)?;
         let said = said_places(steps.alloc(), steps.tags())?;
-        let tables = reach
-            .followed
-            .readers
-            .tables(steps, reach.reached, reach.code)?;
+        let readers = &reach.followed.readers;
+        let tables = readers.tables(steps, reach.reached, reach.code)?;
         let declared = declared_of(steps, &tables)?;
         let (mut ground, splits) = ground_of(&survey, reach, &said, &tables)?;
         let words = words_of(&ground, &survey)?;
@@ -159,8 +153,7 @@ impl<'a> Advice<'a> {
         let labels = labels_of(&survey, &pairs, &variables, &bases, [&splits, &declared])?;
         Ok(Advice {
             steps,
-            taken: reach.taken,
-            followed: reach.followed,
+            reach,
             survey,
             ground,
             words,

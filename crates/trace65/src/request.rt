@@ -2,15 +2,13 @@
 
 ghost use Rattle.std.specs.Prelude.{◌≡◌};
 ghost use Rattle.clap.specs.Words.{found_of, rows_of};
-ghost use Rattle.info65.specs.Words.{name_seen};
 ghost use Rattle.usage65.specs.Requests.{Gives};
-ghost use Rattle.usage65.specs.Words.{asked, asked_of, text_seen, texts_seen};
-ghost use Rattle.trace65.specs.Words.{is_twice, options_with, this_program, traced_in, tracing_of};
+ghost use Rattle.usage65.specs.Words.{asked, asked_of, texts_seen};
+ghost use Rattle.trace65.specs.Words.{this_program, traced_in, tracing_of};
 
 use crate::command::this_program;
 use clap::ArgMatches;
 use info65::Options;
-use isa65::Cpu;
 use std::alloc::Global;
 use usage65::{
     Request, RequestFault, address_of, addresses_of, cpu_of, info_named, is_set, is_taken,
@@ -53,33 +51,6 @@ pub fn request_of(alloc: Global, words: &[String]) -> Result<Request<Tracing>, R
     }
 }
 
-/// The options of da65 that have these values, and no others.
-fn options_with(
-    info: Option<String>,
-    input: Option<String>,
-    start: Option<u16>,
-    cpu: Option<Cpu>,
-) -> Options
-    ensures { result ≡ options_with (name_seen info) (name_seen input) start cpu }
-{
-    let mut options = Options::none();
-    options.info = info;
-    options.input = input;
-    options.start = start;
-    options.cpu = cpu;
-    options
-}
-
-/// Whether standard input would have to be the image and the information file.
-fn is_twice(info: Option<&str>, image: Option<&str>) -> bool
-    ensures { result ≡ is_twice (text_seen info.entry) (text_seen image.entry) }
-{
-    match image {
-        Some(image) => is_taken(info, image),
-        None => false,
-    }
-}
-
 /// The image that is to be traced.
 #[tactic(auto, unfolding(crate::specs::Request::traced_in))]
 fn traced_in(alloc: Global, matches: &ArgMatches) -> Result<Tracing, RequestFault>
@@ -90,18 +61,21 @@ fn traced_in(alloc: Global, matches: &ArgMatches) -> Result<Tracing, RequestFaul
     let entries = addresses_of(alloc, matches, "entry")?;
     let info = info_named(text_of(matches, "info"));
     let image = info_named(text_of(matches, "image"));
-    if is_twice(info, image) {
+    if let Some(image) = image
+        && is_taken(info, image)
+    {
         return Err(RequestFault::StandardTwice);
     }
-    let output = output_named(text_of(matches, "output"));
-    let info = owned(alloc, info)?;
-    let input = owned(alloc, image)?;
-    let output = owned(alloc, output)?;
+    let mut options = Options::none();
+    options.info = owned(alloc, info)?;
+    options.input = owned(alloc, image)?;
+    options.start = start;
+    options.cpu = cpu;
     Ok(Tracing {
-        options: options_with(info, input, start, cpu),
+        options,
         entries,
         plain: is_set(matches, "plain"),
         whole: is_set(matches, "whole"),
-        output,
+        output: owned(alloc, output_named(text_of(matches, "output")))?,
     })
 }

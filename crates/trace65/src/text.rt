@@ -84,8 +84,7 @@ impl<'a> Text<'a> {
     }
 }
 
-/// Returns the text of what is found, with these entries given, and these ranges
-/// proposed. Fails only if an allocation failed.
+/// Returns the text of what is found, with these entries given, and these ranges proposed.
 pub fn text_of(
     advice: &Advice<'_>,
     given: &[u16],

@@ -2,7 +2,7 @@
 
 ghost use Rattle.std.specs.Prelude.{◌≡◌, IfOk};
 ghost use Rattle.info65.specs.Words.{Adds};
-ghost use Rattle.trace65.specs.Words.{is_unshown, unshown_in, unshown_item, unshown_items, unshown_lines};
+ghost use Rattle.trace65.specs.Words.{is_unshown, unshown_in, unshown_items, unshown_lines};
 
 use files65::put_address;
 use map65::{Map, Marks};
@@ -48,20 +48,13 @@ pub fn unshown_of(
     Ok(found)
 }
 
-/// Adds one of these addresses to the comment.
-#[tactic(auto, unfolding(crate::specs::Unshown::unshown_item))]
-fn put_item(out: &mut Vec<u8>, address: u16) -> Result<(), AllocError>
-    ensures { Adds result out.old out.new (unshown_item address) }
-{
-    put_address(out, b" $", usize::from(address))
-}
-
 /// Adds these addresses to the comment.
+#[tactic(auto, unfolding(crate::specs::Unshown::unshown_item))]
 fn put_items(out: &mut Vec<u8>, addresses: &[u16]) -> Result<(), AllocError>
     ensures { Adds result out.old out.new (unshown_items addresses.now) }
 {
     'addresses: for &address in addresses {
-        put_item(out, address)?;
+        put_address(out, b" $", usize::from(address))?;
     }
     Ok(())
 }

@@ -37,8 +37,7 @@ fn base_of(survey: &Survey<'_>, reader: u16, step: &Step) -> Option<Base> {
     })
 }
 
-/// Returns the operands with an index that are likely counted from a table behind them, but for those of groups
-/// BASE. Fails only if an allocation failed.
+/// Returns the operands with an index that are likely counted from a table behind them, but for those of groups BASE.
 pub fn bases_of(survey: &Survey<'_>) -> Result<Vec<Base>, AllocError> {
     let steps = survey.steps;
     let mut found = Vec::new(steps.alloc());

@@ -28,7 +28,7 @@ fn table_of(steps: &Steps<'_>, tables: &[Table], low: u16, high: u16) -> Table {
 }
 
 /// Returns the halves of the groups HALVES without ADDR: as code reads them, if they are one of these tables, else as
-/// addresses of code. Fails only if an allocation failed.
+/// addresses of code.
 pub fn declared_of(steps: &Steps<'_>, tables: &[Table]) -> Result<Vec<Split>, AllocError> {
     let alloc = steps.alloc();
     let mut tables = Vec::from_slice(alloc, tables)?;
@@ -49,7 +49,7 @@ pub fn declared_of(steps: &Steps<'_>, tables: &[Table]) -> Result<Vec<Split>, Al
     Ok(found)
 }
 
-/// Returns the addresses in these tables, each once. Fails only if an allocation failed.
+/// Returns the addresses in these tables, each once.
 pub fn addresses_of(steps: &Steps<'_>, splits: &[Split]) -> Result<Vec<u16>, AllocError> {
     let mut marks = Marks::none(steps.alloc())?;
     let mut found = Vec::new(steps.alloc());

@@ -28,8 +28,7 @@ fn pointer_at(map: &Map<'_>, address: u16) -> Option<u16> {
     }
 }
 
-/// Returns what the tables of addresses and of returns of the information file refer to, in the order of their
-/// entries. Fails only if an allocation failed.
+/// Returns what the tables of addresses and of returns of the information file refer to, in the order of their entries.
 pub fn pointers_of(steps: &Steps<'_>) -> Result<Vec<u16>, AllocError> {
     let map = steps.map();
     let mut found = Vec::new(steps.alloc());
@@ -47,7 +46,7 @@ pub fn pointers_of(steps: &Steps<'_>) -> Result<Vec<u16>, AllocError> {
 
 /// Returns where reading begins: what the tables of the information file refer to, if these are followed; the first
 /// address of each range of code; the vectors, if the image has them; without any of these the first address of the
-/// image, but one that reads as no code if addresses are given; and these. Fails only if an allocation failed.
+/// image, but one that reads as no code if addresses are given; and these.
 pub fn entries_of(
     steps: &Steps<'_>,
     given: &[u16],

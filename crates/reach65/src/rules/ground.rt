@@ -32,7 +32,6 @@ fn clear_span(marks: &mut Marks, from: usize, to: usize) {
 
 impl<'i> Ground<'i> {
     /// Returns an image without words, of which these bytes are halves of addresses, and texts are known to begin here.
-    /// Fails only if an allocation failed.
     pub fn of(
         alloc: Global,
         image: &'i Image,

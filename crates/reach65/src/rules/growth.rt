@@ -227,9 +227,8 @@ pub struct Followed {
 
 /// Returns the entries, and then, unless no more than these are to be followed, those that join: the sound beginnings
 /// among what the tables of the information file refer to, those right behind a reached instruction and its text, those
-/// whose address reached code has in halves, those to which tables that it reads lead, and those among the words of rows
-/// and in rows of jumps. The time grows with the number of addresses that are reached. Fails only if an allocation
-/// failed.
+/// whose address reached code has in halves, those to which tables that it reads lead, and those among the words of
+/// rows and in rows of jumps. The time grows with the number of addresses that are reached.
 pub fn follow(steps: &Steps<'_>, entries: &[u16], plain: bool) -> Result<Followed, AllocError> {
     let mut search = Search::from(steps, entries)?;
     if !plain {

@@ -269,7 +269,7 @@ pub struct Halves {
 /// Returns each pair of immediates in reached code that is an address, by the places of their low bytes: no reached
 /// instruction has that address, or a routine begins there; it lies in the image, or behind it before `limit`; each
 /// byte is in one pair, of two the likelier; and none is at a place that `said` has. A pair that is not sure, or not in
-/// `items`, which are listed, is only likely. Fails only if an allocation failed.
+/// `items`, which are listed, is only likely.
 pub fn halves_of(
     survey: &Survey<'_>,
     items: &Marks,

@@ -2,16 +2,11 @@
 
 use crate::rules::Steps;
 use crate::rules::bytes::{address, ends};
-use map65::{Map, Marks};
+use map65::Marks;
 use std::alloc::AllocError;
 
-/// Whether the address is listed as code, once ranges have what neither the information file nor reached code has.
-fn is_code(map: &Map<'_>, taken: &Marks, at: usize) -> bool {
-    address(at).is_some_and(|address| taken.get(address) && map.is_code(address))
-}
-
 /// Returns marks of where the instructions begin that are listed: each begins where the one before it ends, and neither
-/// a range nor a border of a segment cuts it. Fails only if an allocation failed.
+/// a range nor a border of a segment cuts it. Ranges will have what neither the information file nor reached code has.
 pub fn items_of(steps: &Steps<'_>, taken: &Marks) -> Result<Marks, AllocError> {
     let (alloc, map) = (steps.alloc(), steps.map());
     let mut borders = Vec::new(alloc);
@@ -31,7 +26,9 @@ pub fn items_of(steps: &Steps<'_>, taken: &Marks) -> Result<Marks, AllocError> {
         let after = at.saturating_add(steps.len_at(first));
         if at < after
             && (at.saturating_add(1)..after).all(|inner| {
-                is_code(map, taken, inner) && borders.binary_search(&inner).is_err()
+                taken.get_at(inner)
+                    && address(inner).is_some_and(|address| map.is_code(address))
+                    && borders.binary_search(&inner).is_err()
             })
         {
             items.set(first);

@@ -43,7 +43,6 @@ impl Search<'_> {
     }
 
     /// Lets the jumps of rows join, three at least one behind the other, of which three quarters lead to code.
-    /// Fails only if an allocation failed.
     pub fn join_jumps(&mut self) -> Result<(), AllocError> {
         let image = self.steps.image();
         let (start, end) = ends(image);

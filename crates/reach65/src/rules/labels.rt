@@ -20,7 +20,7 @@ fn meant(survey: &Survey<'_>, address: u16) -> u16 {
 
 /// Returns the addresses that get labels, in order: of the pairs and the variables, of the tables from which operands
 /// are counted, in tables of halves, and those that groups HALVES and BASE give by themselves, but for those that a
-/// name of the file covers. Fails only if an allocation failed.
+/// name of the file covers.
 pub fn labels_of(
     survey: &Survey<'_>,
     pairs: &[Pair],

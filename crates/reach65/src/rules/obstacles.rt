@@ -40,7 +40,7 @@ pub fn obstacle_of(steps: &Steps<'_>, address: u16) -> u16 {
 }
 
 /// Returns those of the obstacles of a search that keep the most bytes from being code, three at most, from the worst
-/// on. Fails only if an allocation failed.
+/// on.
 pub fn worst_of(search: &Search<'_>) -> Result<Vec<Obstacle>, AllocError> {
     let alloc = search.steps.alloc();
     let mut sorted = Vec::from_slice(alloc, &search.obstacles)?;

@@ -41,7 +41,7 @@ fn is_unled(survey: &Survey<'_>, address: u16) -> bool {
 }
 
 /// Marks the words of data that are the address of a reached routine to which nothing else refers, where two words at
-/// most are it. `words` has where such words may begin. Fails only if an allocation failed.
+/// most are it. `words` has where such words may begin.
 pub fn mark_orphans(
     ground: &mut Ground<'_>,
     survey: &Survey<'_>,

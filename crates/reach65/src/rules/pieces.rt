@@ -82,7 +82,6 @@ fn begins_backward(alloc: Global, ground: &Ground<'_>) -> Result<Vec<Begins>, Al
 
 impl<'a> Pieces<'a> {
     /// Looks at the addresses that nothing speaks for. The time grows with the size of the image.
-    /// Fails only if an allocation failed.
     pub fn of(alloc: Global, ground: &'a Ground<'a>) -> Result<Pieces<'a>, AllocError> {
         let (_, end) = ends(ground.image);
         Ok(Pieces {

@@ -49,7 +49,7 @@ fn leads(ground: &Ground<'_>, texts: &Marks, at: usize) -> bool {
 }
 
 /// Marks the words that are where texts begin, in rows of three at least that stand at the same distance from each
-/// other, each of another text than the one before. Fails only if an allocation failed.
+/// other, each of another text than the one before.
 pub fn mark_pointers(alloc: Global, ground: &mut Ground<'_>) -> Result<(), AllocError> {
     let (texts, has_any) = text_marks(alloc, ground)?;
     if !has_any {

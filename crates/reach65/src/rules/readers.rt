@@ -113,7 +113,7 @@ pub struct Readers {
 }
 
 impl Readers {
-    /// Returns none. Fails only if an allocation failed.
+    /// Returns none.
     pub fn none(alloc: Global) -> Result<Readers, AllocError> {
         Ok(Readers {
             readers: Vec::new(alloc),
@@ -122,7 +122,7 @@ impl Readers {
         })
     }
 
-    /// Adds what a reached instruction does. Fails only if an allocation failed.
+    /// Adds what a reached instruction does.
     pub fn put(&mut self, placed: Placed<'_>) -> Result<(), AllocError> {
         let Placed { at, step } = placed;
         if matches!(step.op.mode, Mode::Absx | Mode::Absy | Mode::Absindx) {
@@ -171,7 +171,6 @@ impl Readers {
     }
 
     /// Returns the tables that reached code reads, which has these bytes, in the order of the instructions.
-    /// Fails only if an allocation failed.
     pub fn tables(
         &self,
         steps: &Steps<'_>,

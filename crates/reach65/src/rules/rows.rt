@@ -32,8 +32,7 @@ fn row_len(ground: &Ground<'_>, survey: &Survey<'_>, less: u16, from: usize, end
     if ROW <= count { count } else { 0 }
 }
 
-/// Returns where words begin that may be an address of a routine, or less one, or that of a
-/// name. Fails only if an allocation failed.
+/// Returns where words begin that may be an address of a routine, or less one, or that of a name.
 pub fn words_of(ground: &Ground<'_>, survey: &Survey<'_>) -> Result<Vec<u16>, AllocError> {
     let (alloc, info) = (survey.steps.alloc(), survey.steps.map().info());
     let mut named = Marks::none(alloc)?;

@@ -75,7 +75,7 @@ fn stored_marks(alloc: Global, image: &Image) -> Result<Marks, AllocError> {
 }
 
 impl<'a> Search<'a> {
-    /// Returns the search of all that is reached from the entries. Fails only if an allocation failed.
+    /// Returns the search of all that is reached from the entries.
     pub fn from(steps: &'a Steps<'a>, entries: &[u16]) -> Result<Search<'a>, AllocError> {
         let alloc = steps.alloc();
         let mut search = Search {

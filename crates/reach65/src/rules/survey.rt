@@ -51,7 +51,7 @@ fn set_some(marks: &mut Marks, address: Option<u16>) {
 }
 
 impl<'a> Survey<'a> {
-    /// Looks at the reached instructions. Fails only if an allocation failed.
+    /// Looks at the reached instructions.
     pub fn of(
         steps: &'a Steps<'a>,
         reached: &'a Marks,

@@ -43,8 +43,7 @@ fn entry_count(ground: &Ground<'_>, survey: &Survey<'_>, table: Table) -> usize 
     count
 }
 
-/// Marks the words of the tables, and returns the tables of halves whose entries are
-/// addresses. Fails only if an allocation failed.
+/// Marks the words of the tables, and returns the tables of halves whose entries are addresses.
 pub fn mark_tables(
     ground: &mut Ground<'_>,
     survey: &Survey<'_>,

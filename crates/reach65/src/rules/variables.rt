@@ -27,7 +27,7 @@ fn first_named(info: &Info, from: usize) -> usize {
 
 /// Returns the variables right after the image: from its end on the operands, each at most 4,096 bytes after the one
 /// before, up to where a name of the information file covers one, and before $D000. An image that ends in the zero page
-/// has none, and one that writes to none of them has none. Fails only if an allocation failed.
+/// has none, and one that writes to none of them has none.
 pub fn variables_of(survey: &Survey<'_>) -> Result<Vec<u16>, AllocError> {
     let map = survey.steps.map();
     let mut found = Vec::new(survey.steps.alloc());

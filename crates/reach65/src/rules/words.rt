@@ -171,7 +171,7 @@ impl<'i> DataWords<'i> {
         Ok(())
     }
 
-    /// Lets the sound beginnings among the words of rows join. Fails only if an allocation failed.
+    /// Lets the sound beginnings among the words of rows join.
     pub fn join_rows(&self, search: &mut Search<'_>) -> Result<(), AllocError> {
         for less in [0u16, 1] {
             let mut rows = Marks::none(search.steps.alloc())?;
@@ -191,7 +191,7 @@ impl<'i> DataWords<'i> {
             .is_some_and(|to| search.marks.get(to) && is_entered(search, less, to))
     }
 
-    /// Returns the addresses right behind rows of words that lead to reached code. Fails only if an allocation failed.
+    /// Returns the addresses right behind rows of words that lead to reached code.
     pub fn behind_rows(&self, search: &Search<'_>) -> Result<Vec<Candidate>, AllocError> {
         let mut found = Vec::new(search.steps.alloc());
         for &first in &self.worth {

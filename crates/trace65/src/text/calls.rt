@@ -24,7 +24,8 @@ fn call_at(advice: &Advice<'_>, at: u16) -> Option<(u16, u16, bool)> {
 /// The calls that are reached, and those that were read in trials that failed; by routine.
 fn calls_of(advice: &Advice<'_>) -> Result<Vec<(u16, u16, bool)>, AllocError> {
     let mut calls = Vec::new(advice.steps.alloc());
-    for &at in advice.survey.calls.iter().chain(&advice.followed.calls) {
+    let followed = advice.reach.followed;
+    for &at in advice.survey.calls.iter().chain(&followed.calls) {
         if let Some(call) = call_at(advice, at) {
             calls.push(call)?;
         }
@@ -71,9 +72,10 @@ impl Text<'_> {
 
     /// Adds a comment for each of the obstacles that keep the most bytes from being code.
     pub fn put_stops(&mut self) -> Result<(), AllocError> {
-        for obstacle in &self.advice.followed.obstacles {
+        let advice = self.advice;
+        for obstacle in &advice.reach.followed.obstacles {
             self.put(b"# the ")?;
-            self.put(name_of(self.advice, obstacle.address).as_bytes())?;
+            self.put(name_of(advice, obstacle.address).as_bytes())?;
             self.put_address(b" at $", obstacle.address)?;
             self.put_decimal(b" keeps ", obstacle.bytes)?;
             self.put(b" bytes from being code\n")?;

@@ -43,7 +43,7 @@ impl Text<'_> {
                 let next = end.min(cell.saturating_add(CELL));
                 let (mut code, mut taken) = (0usize, 0usize);
                 for at in cell..next {
-                    if advice.taken.get_at(at) {
+                    if advice.reach.taken.get_at(at) {
                         taken = taken.saturating_add(1);
                         code = code.saturating_add(usize::from(advice.survey.code.get_at(at)));
                     }
