@@ -6,7 +6,7 @@ use Rattle.std.proofs.lemmas.Bool.Decides.{nat_tests}
 use Rattle.std.proofs.lemmas.List.{drop_all, drop_more, get_or-set_other, get_or-set_same, get_or_past}
 use Rattle.std.proofs.lemmas.Option.{get_or_from_slice_get, slice_get_within}
 use Rattle.map65.specs.Words.{ImageView, byte_at, end_of}
-use Rattle.reach65.specs.Words.{AreEnds, AreFirsts, Enters, Tag, coded, inline_of, is_inline, is_text, text_end, zero_end}
+use Rattle.reach65.specs.Words.{AreEnds, AreFirsts, Enters, HasText, Tag, coded, inline_of, is_inline, is_text, text_end, zero_end}
 
 -- ---- groups
 
@@ -14,6 +14,12 @@ no_inline : (tags : List Tag) (a : ℕ) → list_any is_text tags ≡ false → 
 unfolding inline_of is_inline
 no_inline [] a none = refl
 no_inline (t ∷ tags) a none = grind (arith, (no_inline tags a))
+
+-- where a group is found there is one
+pub has_text : (tags : List Tag) (a : ℕ) (t : Tag) → inline_of tags a ≡ Some t → HasText tags
+unfolding inline_of is_inline
+has_text [] a t is = cc
+has_text (u ∷ tags) a t is = grind (arith, (has_text tags a t))
 
 -- without groups there is no table
 pub firsts_none : (tags : List Tag) (firsts : List ℕ) → list_any is_text tags ≡ false → firsts ≡ [] → AreFirsts tags [] firsts

@@ -1,5 +1,6 @@
 -- Tables by which the texts after calls are found: numbers of groups by address, and ends of texts by their first byte.
-use Rattle.std.specs.Prelude.{◌≡◌, ℕ, ◌+◌, ◌-◌, ◌≤◌, ◌==◌, ◌&&◌, Bool, List, [], if◌then◌else◌, Option, Some, None, slice_get, slice_index}
+use Rattle.std.specs.Prelude.{◌≡◌, ℕ, ◌+◌, ◌-◌, ◌≤◌, ◌==◌, ◌&&◌, Bool, true, List, [], if◌then◌else◌, Option, Some, None, slice_get, slice_index}
+use Rattle.std.specs.List.{list_any}
 use Rattle.map65.specs.Words.{ImageView}
 use Rattle.reach65.specs.Types.{Tag}
 use Rattle.reach65.specs.Inlines.{inline_of, is_inline, is_kind, text_end}
@@ -29,7 +30,11 @@ coded (Some a) = a + 1
 pub record AreEnds (image : ImageView) (from : ℕ) (ends : List ℕ) : Type 0 where
   pub found : (a : ℕ) → from ≤ a → slice_index ends (a - image.start) ≡ coded (text_end image None a)
 
--- both tables
+-- some group says that text follows calls
+abbrev pub HasText : List Tag → Type 0
+HasText tags = list_any is_text tags ≡ true
+
+-- both tables; the second one is needed only if there is such a group
 pub record AreTables (image : ImageView) (tags : List Tag) (firsts ends : List ℕ) : Type 0 where
   pub groups : AreFirsts tags [] firsts
-  pub zero_ends : AreEnds image image.start ends
+  pub zero_ends : HasText tags → AreEnds image image.start ends

@@ -6,7 +6,7 @@ unfoldable pub use Rattle.reach65.specs.Inlines.{inline_of, is_inline, text_end,
 pub use Rattle.reach65.specs.Ranges.{AreInOrder, HaveAllFree, LieIn, LiesIn, is_free}
 pub use Rattle.reach65.specs.Reached.{AreReached, Reached, entry, leads_of, led}
 pub use Rattle.reach65.specs.Steps.{AreSteps, IsStep}
-pub use Rattle.reach65.specs.Tables.{AreEnds, AreFirsts, Enters, coded, is_text}
+pub use Rattle.reach65.specs.Tables.{AreEnds, AreFirsts, Enters, HasText, coded, is_text}
 pub use Rattle.reach65.specs.Taken.{Adds, AreMarkedBy, is_code_of}
 unfoldable pub use Rattle.reach65.specs.Taken.{has_byte, is_code, is_given, is_taken}
 pub use Rattle.reach65.specs.Worked.{WorkedCode}

@@ -3,7 +3,7 @@
 ghost use Rattle.std.specs.Prelude.{◌≡◌, ◌+◌, ◌≤◌, ◌<◌, length, IfOk, IfSome, None};
 ghost use Rattle.isa65.specs.Words.{len_of, row_len};
 ghost use Rattle.map65.specs.Words.{bytes_from, end_of};
-ghost use Rattle.reach65.specs.Words.{end_by, goal_of, inline_of, instruction_at, is_last, row_goal, text_by, text_end};
+ghost use Rattle.reach65.specs.Words.{HasText, end_by, goal_of, inline_of, instruction_at, is_last, row_goal, text_by, text_end};
 
 use crate::inlines::{ends_of, firsts_of};
 use info65::{RangeType, Tag};
@@ -94,7 +94,7 @@ impl<'a, 'm> Flow<'a, 'm> {
         ensures { IfOk result (λ f. f ≡ record { map = map.now; tags = tags.now }) }
     {
         let firsts = firsts_of(alloc, tags)?;
-        let ends = ends_of(alloc, map.image())?;
+        let ends = ends_of(alloc, map.image(), tags)?;
         Ok(Flow {
             map,
             opcodes: DecodeTable::new(map.info().settings().cpu),
@@ -152,7 +152,8 @@ impl<'a, 'm> Flow<'a, 'm> {
     /// The address after the first zero byte of the image from an address on.
     #[tactic(auto, using(crate::proofs::TableLemmas::text_inside))]
     fn zero_end(&self, address: usize) -> Option<usize>
-        requires { self.now.map.image.start ≤ address }
+        requires some { HasText self.now.tags }
+        requires low { self.now.map.image.start ≤ address }
         ensures value { result ≡ text_end self.now.map.image None address }
         ensures below { IfSome result (λ _. address < 65536) }
     {
@@ -166,8 +167,10 @@ impl<'a, 'm> Flow<'a, 'm> {
 
     /// Returns what the information file says of the text behind an instruction that
     /// goes to this address by its operand.
+    #[tactic(auto, using(crate::proofs::TableLemmas::has_text))]
     pub fn text_by(&self, mnemonic: Mnemonic, to: Option<u16>) -> Option<Tag>
-        ensures { result ≡ text_by self.now.tags mnemonic to }
+        ensures value { result ≡ text_by self.now.tags mnemonic to }
+        ensures some { IfSome result (λ _. HasText self.now.tags) }
     {
         if mnemonic != Mnemonic::Jsr {
             return None;
@@ -180,6 +183,7 @@ impl<'a, 'm> Flow<'a, 'm> {
     pub fn end_by(&self, address: usize, text: Option<Tag>) -> Option<usize>
         requires low { self.now.map.image.start ≤ address }
         requires high { address ≤ 65536 }
+        requires some { IfSome text (λ _. HasText self.now.tags) }
         ensures { result ≡ end_by self.now.map.image address text }
     {
         match text {

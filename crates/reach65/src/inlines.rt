@@ -2,14 +2,11 @@
 
 ghost use Rattle.std.specs.Prelude.{◌≡◌, ℕ, IfOk, [], length, slice_index};
 ghost use Rattle.std.specs.List.{list_any};
-ghost use Rattle.reach65.specs.Words.{AreEnds, AreFirsts, Enters, is_text};
+ghost use Rattle.reach65.specs.Words.{AreEnds, AreFirsts, Enters, HasText, is_text};
 
 use info65::{Tag, TagKind};
-use map65::Image;
+use map65::{ADDRESSES, Image};
 use std::alloc::{AllocError, Global};
-
-/// The number of addresses.
-const ADDRESSES: usize = 65_536;
 
 /// Whether the group says that text follows each call of an address.
 fn is_text(tag: Tag) -> bool
@@ -91,10 +88,14 @@ fn enter_ends(ends: &mut [u32], image: &Image)
     }
 }
 
-/// For each byte of the image the address after the next zero byte, and one more, or 0 if there is none.
-pub fn ends_of(alloc: Global, image: &Image) -> Result<Vec<u32>, AllocError>
-    ensures { IfOk result (λ ends. AreEnds image.now image.now.start ends.items) }
+/// For each byte of the image the address after the next zero byte, and one more, or 0 if there is none. Empty if no
+/// group says that text follows calls.
+pub fn ends_of(alloc: Global, image: &Image, tags: &[Tag]) -> Result<Vec<u32>, AllocError>
+    ensures { IfOk result (λ ends. HasText tags.now → AreEnds image.now image.now.start ends.items) }
 {
+    if !has_text(tags) {
+        return Ok(Vec::new(alloc));
+    }
     let mut ends = vec![in alloc; 0u32; image.bytes().len()]?;
     enter_ends(ends.as_mut_slice(), image);
     Ok(ends)

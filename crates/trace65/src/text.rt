@@ -10,7 +10,7 @@ mod tables;
 
 use crate::advice::Advice;
 use info65::RangeSpec;
-use reach65::rules::bytes::{bytes_at, ends};
+use reach65::rules::bytes::bytes_at;
 use std::alloc::AllocError;
 
 /// The text, and what it is about.
@@ -51,11 +51,6 @@ impl<'a> Text<'a> {
             0 => Ok(()),
             offset => self.put_decimal(b"+", usize::from(offset)),
         }
-    }
-
-    /// The first address of the image, and the first one after it.
-    fn ends(&self) -> (usize, usize) {
-        ends(self.advice.steps.image())
     }
 
     /// The bytes of a proposed range.

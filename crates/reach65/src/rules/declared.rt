@@ -35,12 +35,8 @@ pub fn declared_of(steps: &Steps<'_>, tables: &[Table]) -> Result<Vec<Split>, Al
     tables.sort_by_key(|table| (table.low, table.high))?;
     let mut found = Vec::new(alloc);
     for tag in steps.tags() {
-        if let (TagKind::Halves, Some(low), Some(high), None) = (
-            tag.kind,
-            tag.low,
-            tag.high,
-            tag.address,
-        ) {
+        let halves = (tag.kind, tag.low, tag.high, tag.address);
+        if let (TagKind::Halves, Some(low), Some(high), None) = halves {
             let table = table_of(steps, &tables, low, high);
             let count = usize::from(tag.size.unwrap_or(1));
             found.push(Split { table, count })?;

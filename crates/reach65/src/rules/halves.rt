@@ -290,12 +290,11 @@ pub fn halves_of(
                 && (pair.less == 0 && survey.is_likely(pair.address)
                     || survey.is_routine(pair.meant()))
             {
-                let more = if is_sure(survey, items, pair) {
-                    0
+                let rank = if is_sure(survey, items, pair) {
+                    pair.rank
                 } else {
-                    LIKELY
+                    pair.rank.saturating_add(LIKELY)
                 };
-                let rank = pair.rank.saturating_add(more);
                 ranks |= 1 << (rank % 32);
                 pairs.push((rank, pair))?;
             }
@@ -310,12 +309,11 @@ pub fn halves_of(
             }
             used.set(pair.low);
             used.set(pair.high);
-            let found = if rank < LIKELY {
-                &mut sure
+            if rank < LIKELY {
+                sure.push(pair)?;
             } else {
-                &mut likely
-            };
-            found.push(pair)?;
+                likely.push(pair)?;
+            }
         }
     }
     sure.sort_by_key(|pair| pair.low)?;

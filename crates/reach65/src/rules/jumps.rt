@@ -19,12 +19,6 @@ fn target(steps: &Steps<'_>, at: usize) -> Option<u16> {
     (step.op.mnemonic == Mnemonic::Jmp && step.op.mode == Mode::Abs).then_some(step.goal?)
 }
 
-/// How many jumps stand at the address and behind it.
-fn count_at(steps: &Steps<'_>, from: usize, end: usize) -> usize {
-    let places = (from..end).step_by(JUMP);
-    places.take_while(|at| target(steps, *at).is_some()).count()
-}
-
 impl Search<'_> {
     /// Whether three quarters of the jumps of a row lead to code, and one at least is not reached.
     fn is_row(&mut self, from: usize, count: usize) -> Result<bool, AllocError> {
@@ -44,7 +38,8 @@ impl Search<'_> {
 
     /// Lets the jumps of rows join, three at least one behind the other, of which three quarters lead to code.
     pub fn join_jumps(&mut self) -> Result<(), AllocError> {
-        let image = self.steps.image();
+        let steps = self.steps;
+        let image = steps.image();
         let (start, end) = ends(image);
         let mut behind = start;
         for (index, &byte) in image.bytes().iter().enumerate() {
@@ -52,7 +47,8 @@ impl Search<'_> {
             if byte != 0x4C || from < behind {
                 continue;
             }
-            let count = count_at(self.steps, from, end);
+            let jumps = (from..end).step_by(JUMP);
+            let count = jumps.take_while(|at| target(steps, *at).is_some()).count();
             if count < ROW {
                 continue;
             }

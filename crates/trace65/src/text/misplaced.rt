@@ -3,6 +3,7 @@
 
 use crate::text::Text;
 use map65::is_inside;
+use reach65::rules::bytes::ends;
 use reach65::rules::sound::holder_of;
 use std::alloc::AllocError;
 
@@ -21,7 +22,7 @@ impl Text<'_> {
                 self.put(b"\n")?;
             }
         }
-        let (start, end) = self.ends();
+        let (start, end) = ends(map.image());
         for range in map.info().ranges() {
             if usize::from(range.last) < start || end <= usize::from(range.first) {
                 self.put_address(b"# range $", range.first)?;

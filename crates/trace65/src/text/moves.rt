@@ -1,9 +1,9 @@
-//! The lines of labels, and the lines `#: ..`: for addresses that code loads in
-//! halves, and for what lies after the image.
+//! The lines of labels, and the lines `#: ..`: for addresses that code loads in halves, and what lies after the image.
 
 use crate::text::Text;
 use files65::put_address;
 use info65::TagKind;
+use reach65::rules::bytes::ends;
 use std::alloc::AllocError;
 
 impl Text<'_> {
@@ -64,7 +64,7 @@ impl Text<'_> {
         for pair in &advice.pairs {
             last = last.max(pair.address);
         }
-        let (_, end) = self.ends();
+        let (_, end) = ends(advice.steps.image());
         let tags = advice.steps.tags();
         if usize::from(last) < end || tags.iter().any(|tag| tag.kind == TagKind::After) {
             return Ok(());

@@ -2,6 +2,7 @@
 
 use crate::text::Text;
 use files65::put_address;
+use reach65::rules::bytes::ends;
 use std::alloc::AllocError;
 
 /// How many bytes a character stands for.
@@ -34,7 +35,7 @@ impl Text<'_> {
         self.put(b"# a character for 64 bytes: # code that is reached, + partly,\n")?;
         self.put(b"# r in a range of the information file, . neither\n")?;
         let advice = self.advice;
-        let (start, end) = self.ends();
+        let (start, end) = ends(advice.steps.image());
         let (mut reached, mut both) = (0usize, 0usize);
         for row in (start..end).step_by(ROW) {
             put_address(&mut self.out, b"# $", row)?;
@@ -57,10 +58,8 @@ impl Text<'_> {
         }
         let len = end.saturating_sub(start);
         self.put_decimal(b"# ", reached)?;
-        self.put_decimal(
-            b" bytes of code that is reached, ",
-            both.saturating_sub(reached),
-        )?;
+        let ranges = both.saturating_sub(reached);
+        self.put_decimal(b" bytes of code that is reached, ", ranges)?;
         self.put_decimal(b" in ranges, ", len.saturating_sub(both))?;
         self.put(b" in neither\n")?;
         if len <= both.saturating_mul(2) || len < ROW {
