@@ -101,6 +101,7 @@ fn step_at(flow: &Flow<'_, '_>, at: u16) -> Option<Step>
 }
 
 /// The instructions of the image, by their addresses.
+#[inline(never)]
 #[tactic(auto, using(crate::proofs::StepsLemmas::steps_all))]
 fn steps_of(alloc: Global, flow: &Flow<'_, '_>) -> Result<Vec<Option<Step>>, AllocError>
     ensures { IfOk result (λ steps. AreSteps flow.now steps.items) }

@@ -1,10 +1,10 @@
 //! What is found of an image, as text of an information file that is read back before it is written.
 
-ghost use Rattle.std.specs.Prelude.{◌≡◌, IfOk, Ok, OnOk};
+ghost use Rattle.std.specs.Prelude.{◌≡◌, ◌++◌, ℕ, List, IfOk, Ok, OnOk};
 ghost use Rattle.info65.specs.Words.{Adds, information};
 ghost use Rattle.map65.specs.Words.{is_marked};
 ghost use Rattle.reach65.specs.Words.{AreInOrder, HaveAllFree, LieIn};
-ghost use Rattle.trace65.specs.Words.{AreFindings, Begins, HaveTheRest, IsAccepted, IsReadBack, IsWritten, flow_of, unshown_lines, written};
+ghost use Rattle.trace65.specs.Words.{AreFindings, Begins, HaveTheRest, IsAccepted, IsReadBack, IsWritten, after_file, flow_of, proposals, unshown_lines};
 
 use crate::advice::{Advice, Reach, followed, given_entries};
 use crate::check::read_back;
@@ -159,16 +159,17 @@ fn add_unshown(
     Ok(())
 }
 
-/// Reads back the information file with what is found after it. Returns where the reached instructions
-/// begin that its listing does not show.
+/// Reads back the information file with what is found after it. Returns where the reached instructions begin that its
+/// listing does not show, and all of that text with the comment on these.
 fn unshown_with(
     alloc: Global,
     options: &Options,
     file: &InfoFile<'_>,
     steps: &Steps<'_, '_>,
     found: &Findings,
-) -> Result<Vec<u16>, Failure>
-    ensures { IfOk result (λ list. IsReadBack options.now file.now steps.now.map found.now list.items) }
+) -> Result<(Vec<u16>, Vec<u8>), Failure>
+    ensures read { IfOk result (λ r. IsReadBack options.now file.now steps.now.map found.now r.0.items) }
+    ensures text { IfOk result (λ r. r.1.items ≡ file.now.bytes.now ++ proposals found.now r.0.items) }
 {
     let mut text = Vec::from_slice(alloc, file.bytes)?;
     text.extend_from_slice(&found.proposed.text)?;
@@ -183,26 +184,25 @@ fn unshown_with(
     let map = Map::build(alloc, &info, steps.image())?;
     let unshown = unshown_of(alloc, &map, steps, &found.reached)?;
     add_unshown(&mut text, alloc, options, &info, &unshown)?;
-    Ok(unshown)
+    Ok((unshown, text))
 }
 
-/// What is written: the information file, if the whole is asked for, and then what is found.
+/// What is written of the information file with what is found after it: the whole, or only what is found.
+#[tactic(auto, using(crate::proofs::ReportLemmas::rest_after))]
 fn written(
     alloc: Global,
     whole: bool,
     file: &InfoFile<'_>,
-    found: &Findings,
-    unshown: &[u16],
+    text: Vec<u8>,
 ) -> Result<Vec<u8>, AllocError>
-    ensures { IfOk result (λ text. text.items ≡ written whole file.now found.now unshown.now) }
+    ensures { (rest : List ℕ) → text.items ≡ file.now.bytes.now ++ rest
+        → IfOk result (λ all. all.items ≡ after_file whole file.now.bytes.now rest) }
 {
-    let mut text = Vec::new(alloc);
-    if whole {
-        text.extend_from_slice(file.bytes)?;
+    let len = file.bytes.len();
+    if whole || len == 0 {
+        return Ok(text);
     }
-    text.extend_from_slice(&found.proposed.text)?;
-    put_unshown(&mut text, unshown)?;
-    Ok(text)
+    Vec::from_slice(alloc, text.get(len..).unwrap_or(&[]))
 }
 
 /// Returns what is found of the image of this map, whose information the file and its include files gave, and what is
@@ -238,8 +238,8 @@ pub fn report_of(
 {
     let steps = Steps::of(alloc, map, file.tags)?;
     let found = find(alloc, &steps, tracing)?;
-    let unshown = unshown_with(alloc, &tracing.options, file, &steps, &found)?;
-    let text = written(alloc, tracing.whole, file, &found, &unshown)?;
+    let (unshown, text) = unshown_with(alloc, &tracing.options, file, &steps, &found)?;
+    let text = written(alloc, tracing.whole, file, text)?;
     Ok(Report {
         found,
         unshown,

@@ -42,8 +42,7 @@ impl Search<'_> {
         let image = steps.image();
         let (start, end) = ends(image);
         let mut behind = start;
-        for (index, &byte) in image.bytes().iter().enumerate() {
-            let from = start.saturating_add(index);
+        for (from, &byte) in (start..end).zip(image.bytes()) {
             if byte != 0x4C || from < behind {
                 continue;
             }

@@ -47,6 +47,7 @@ fn longest_with(tails: &mut [Chars; 3], byte: u8) -> u32 {
 }
 
 /// What begins at each byte of the image, from the last one to the first.
+#[inline(never)]
 fn begins_backward(alloc: Global, ground: &Ground<'_>) -> Result<Vec<Begins>, AllocError> {
     let (start, _) = ends(ground.image);
     let bytes = ground.image.bytes();
@@ -62,20 +63,23 @@ fn begins_backward(alloc: Global, ground: &Ground<'_>) -> Result<Vec<Begins>, Al
             1
         };
         after = here;
-        let text = match here {
+        let begins = match here {
             Some(byte) if run < FILLER && matches!(byte, 0x20..=0x7E | 0xA0..=0xFE) => {
-                longest_with(&mut tails, byte)
+                match longest_with(&mut tails, byte) {
+                    0 => Begins::Nothing,
+                    count => Begins::Text(count),
+                }
             }
             _ => {
                 tails = [Chars::none(); 3];
-                0
+                if FILLER <= run {
+                    Begins::Filler
+                } else {
+                    Begins::Nothing
+                }
             }
         };
-        found.push(match text {
-            _ if here.is_some() && FILLER <= run => Begins::Filler,
-            0 => Begins::Nothing,
-            count => Begins::Text(count),
-        })?;
+        found.push(begins)?;
     }
     Ok(found)
 }

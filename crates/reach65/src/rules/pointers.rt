@@ -31,9 +31,8 @@ fn text_marks(alloc: Global, ground: &Ground<'_>) -> Result<(Marks, bool), Alloc
     let mut has_any = false;
     // No alphabet has a byte 0.
     let mut before = 0u8;
-    let (start, _) = ends(ground.image);
-    for (index, &here) in ground.image.bytes().iter().enumerate() {
-        let at = start.saturating_add(index);
+    let (start, end) = ends(ground.image);
+    for (at, &here) in (start..end).zip(ground.image.bytes()) {
         if here != before && ground.is_plain(at) && begins_text(ground.image, at, before, here) {
             texts.set_span(at, at.saturating_add(1));
             has_any = true;

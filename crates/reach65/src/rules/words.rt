@@ -73,6 +73,7 @@ fn begins_code(search: &mut Search<'_>, less: u16, address: u16) -> Result<bool,
 impl<'i> DataWords<'i> {
     /// Looks at an image of which these instructions are reached. What leads to the end of a routine is hopeful, as far
     /// as that is known from the instructions after it: few bytes of data do. That saves trials, and no more.
+    #[inline(never)]
     pub fn of(search: &Search<'i>) -> Result<DataWords<'i>, AllocError> {
         let steps = search.steps;
         let alloc = steps.alloc();
@@ -96,9 +97,9 @@ impl<'i> DataWords<'i> {
             }
         }
         let mut worth = Vec::new(alloc);
-        for (index, words) in image.bytes().windows(4).enumerate() {
+        for (at, words) in (start..end).zip(image.bytes().windows(4)) {
             if is_worth(&hopeful, words)
-                && let Some(at) = address(start.saturating_add(index))
+                && let Some(at) = address(at)
                 && search.is_open(at)
             {
                 worth.push(at)?;
