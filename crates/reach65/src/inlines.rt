@@ -91,7 +91,8 @@ fn enter_ends(ends: &mut [u32], image: &Image)
 /// For each byte of the image the address after the next zero byte, and one more, or 0 if there is none. Empty if no
 /// group says that text follows calls.
 pub fn ends_of(alloc: Global, image: &Image, tags: &[Tag]) -> Result<Vec<u32>, AllocError>
-    ensures { IfOk result (λ ends. HasText tags.now → AreEnds image.now image.now.start ends.items) }
+    ensures { IfOk result (λ ends.
+        HasText tags.now → AreEnds image.now image.now.start ends.items) }
 {
     if !has_text(tags) {
         return Ok(Vec::new(alloc));

@@ -1,4 +1,4 @@
-//! What guides: which entries join, and what the bytes may be that no code has. A call fails only if an allocation fails.
+//! What guides: which entries join, and what the bytes may be that no code has. A call fails only if memory runs out.
 
 use info65::{Tag, TagKind};
 use map65::Marks;

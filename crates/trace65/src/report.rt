@@ -168,8 +168,10 @@ fn unshown_with(
     steps: &Steps<'_, '_>,
     found: &Findings,
 ) -> Result<(Vec<u16>, Vec<u8>), Failure>
-    ensures read { IfOk result (λ r. IsReadBack options.now file.now steps.now.map found.now r.0.items) }
-    ensures text { IfOk result (λ r. r.1.items ≡ file.now.bytes.now ++ proposals found.now r.0.items) }
+    ensures read { IfOk result (λ r.
+        IsReadBack options.now file.now steps.now.map found.now r.0.items) }
+    ensures text { IfOk result (λ r.
+        r.1.items ≡ file.now.bytes.now ++ proposals found.now r.0.items) }
 {
     let mut text = Vec::from_slice(alloc, file.bytes)?;
     text.extend_from_slice(&found.proposed.text)?;
