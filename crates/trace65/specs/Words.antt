@@ -1,8 +1,8 @@
 -- The words of clauses and proofs, here and in the crates above, from one place.
 pub use Rattle.trace65.specs.Command.{app, this_program}
-pub use Rattle.trace65.specs.Request.{is_twice, options_with, tracing_of}
+pub use Rattle.trace65.specs.Request.{tracing_of}
 unfoldable pub use Rattle.trace65.specs.Request.{traced_in}
 pub use Rattle.trace65.specs.Check.{AreMerged, Explains, Says}
 pub use Rattle.trace65.specs.Unshown.{unshown_items, unshown_lines}
-unfoldable pub use Rattle.trace65.specs.Unshown.{is_unshown, unshown_in, unshown_item}
+unfoldable pub use Rattle.trace65.specs.Unshown.{is_unshown, unshown_in}
 pub use Rattle.trace65.specs.Report.{AreFindings, Begins, HaveTheRest, IsAccepted, IsReadBack, IsWritten, after_file, flow_of, proposals}
