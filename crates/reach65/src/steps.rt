@@ -28,8 +28,6 @@ pub struct Step {
     pub operand: Option<u16>,
     /// The byte that is its operand, an immediate or an address of the zero page.
     pub byte: Option<u8>,
-    /// The address of the text behind it, if that ends with a zero byte.
-    pub text: Option<u16>,
 }
 
 /// An instruction, and the address where it begins.
@@ -93,10 +91,6 @@ fn step_at(flow: &Flow<'_, '_>, at: u16) -> Option<Step>
         goal: inside(image, to),
         operand,
         byte,
-        text: match (text, end) {
-            (Some(Tag { size: None, .. }), Some(_)) => u16::try_from(after).ok(),
-            _ => None,
-        },
     })
 }
 

@@ -142,22 +142,19 @@ impl<'a> Advice<'a> {
         let words = words_of(&ground, &survey)?;
         mark_rows(&mut ground, &survey, &words);
         let variables = variables_of(&survey)?;
-        let Halves {
-            sure: pairs,
-            likely,
-        } = pairs_of(&survey, reach.taken, said, &variables)?;
+        let Halves { sure, likely } = pairs_of(&survey, reach.taken, said, &variables)?;
         mark_loaded(&mut ground, &survey);
         mark_pointers(steps.alloc(), &mut ground)?;
-        mark_orphans(&mut ground, &survey, &pairs, &words)?;
+        mark_orphans(&mut ground, &survey, &sure, &words)?;
         let bases = bases_of(&survey)?;
-        let labels = labels_of(&survey, &pairs, &variables, &bases, [&splits, &declared])?;
+        let labels = labels_of(&survey, &sure, &variables, &bases, [&splits, &declared])?;
         Ok(Advice {
             steps,
             reach,
             survey,
             ground,
             words,
-            pairs,
+            pairs: sure,
             likely,
             splits,
             declared,

@@ -42,8 +42,9 @@ impl<'i> Ground<'i> {
         let mut plain = Marks::none(alloc)?;
         let (start, end) = ends(image);
         for at in start..end {
-            if !taken.get_at(at) && !numbers.get_at(at) {
-                plain.set(at as u16);
+            let address = at as u16;
+            if !taken.get(address) && !numbers.get(address) {
+                plain.set(address);
             }
         }
         Ok(Ground {
@@ -85,11 +86,10 @@ impl<'i> Ground<'i> {
 
     /// Returns the word at the address, low byte first, if both bytes are plain.
     pub fn word(&self, at: usize) -> Option<u16> {
-        if self.plain.get_at(at) && self.plain.get_at(at.checked_add(1)?) {
-            word(self.image, at)
-        } else {
-            None
+        if !self.is_plain(at) || !self.is_plain(at.checked_add(1)?) {
+            return None;
         }
+        word(self.image, at)
     }
 
     /// Marks the bytes of the vectors of the CPU at $FFFA to $FFFF that led to code: nothing speaks for them, and a

@@ -1,6 +1,5 @@
 //! Which other addresses join the entries.
 
-use crate::rules::Steps;
 use crate::rules::bytes::address;
 use crate::rules::declared::{addresses_of, declared_of};
 use crate::rules::entries::pointers_of;
@@ -9,6 +8,7 @@ use crate::rules::obstacles::{Obstacle, worst_of};
 use crate::rules::readers::{Readers, Table};
 use crate::rules::search::{Least, Search};
 use crate::rules::words::DataWords;
+use crate::rules::{Placed, Steps};
 use map65::ADDRESSES;
 use std::alloc::AllocError;
 
@@ -36,12 +36,12 @@ impl Search<'_> {
     /// Adds the addresses that instructions give that no rule has looked at: those behind them, and those
     /// that they begin to load in halves.
     fn put_candidates(&self, found: &mut Vec<Candidate>) -> Result<(), AllocError> {
-        for &reason in self.joined.iter().skip(self.looked) {
-            let Some(placed) = self.steps.marked(&self.marks, reason) else {
+        for &at in self.joined.get(self.looked..).unwrap_or(&[]) {
+            let Some(step) = self.steps.at(at) else {
                 continue;
             };
-            if may_begin(placed.step.op) {
-                for pair in pairs_at(self.steps, &self.marks, placed) {
+            if may_begin(step.op) {
+                for pair in pairs_at(self.steps, &self.marks, Placed { at, step }) {
                     if let Some(pair) = pair
                         && self.steps.image().start() <= pair.address
                         && pair.is_plausible()
@@ -52,7 +52,7 @@ impl Search<'_> {
                     }
                 }
             }
-            if let Some(end) = placed.step.end
+            if let Some(end) = step.end
                 && self.is_open(end)
             {
                 found.push((end, true))?;
@@ -235,16 +235,10 @@ pub fn follow(steps: &Steps<'_>, entries: &[u16], plain: bool) -> Result<Followe
         search.join_all()?;
     }
     let obstacles = worst_of(&search)?;
-    let Search {
-        entries,
-        readers,
-        calls,
-        ..
-    } = search;
     Ok(Followed {
-        entries,
-        readers,
+        entries: search.entries,
+        readers: search.readers,
         obstacles,
-        calls,
+        calls: search.calls,
     })
 }

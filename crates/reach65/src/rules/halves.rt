@@ -131,19 +131,20 @@ impl<'a> Code<'a> {
     /// The pair of two loads of one register, each with what keeps it: two stores to neighbours, or `pha` for `rts`,
     /// where the high half comes first.
     fn kept_twice(&self, one: Placed<'a>, then: Placed<'a>) -> Option<Pair> {
+        let keeps = then.step.op.mnemonic;
+        let to = match (one.step.op.mnemonic, keeps) {
+            (Lda, Pha) => None,
+            (Lda, Sta) | (Ldx, Stx) | (Ldy, Sty) => Some(stored_to(then.step)?),
+            _ => return None,
+        };
         let two = self.behind(then)?;
         let last = self.behind(two)?;
-        let keeps = then.step.op.mnemonic;
         if two.step.op != one.step.op || last.step.op.mnemonic != keeps {
             return None;
         }
-        match (one.step.op.mnemonic, keeps) {
-            (Lda, Pha) => Pair::of(PUSHED, two, one),
-            (Lda, Sta) | (Ldx, Stx) | (Ldy, Sty) => {
-                let to = stored_to(then.step)?;
-                Pair::of_neighbours(0, (one, to), (two, stored_to(last.step)?))
-            }
-            _ => None,
+        match to {
+            None => Pair::of(PUSHED, two, one),
+            Some(to) => Pair::of_neighbours(0, (one, to), (two, stored_to(last.step)?)),
         }
     }
 
@@ -185,11 +186,8 @@ impl<'a> Code<'a> {
         let brings = self.behind(takes)?;
         let high = self.behind(brings)?;
         let keeps = keeps_carry(takes.step.op) && keeps_carry(brings.step.op);
-        if keeps && is_sum(low.step.op) && is_sum(high.step.op) {
-            Pair::of(8, low, high)
-        } else {
-            None
-        }
+        let adds = is_sum(low.step.op) && is_sum(high.step.op);
+        (keeps && adds).then_some(Pair::of(8, low, high)?)
     }
 
     /// The pairs of which this instruction is the first.
@@ -239,15 +237,10 @@ fn stored_through(step: &Step) -> Option<u8> {
 fn is_broken(survey: &Survey<'_>, pair: Pair) -> bool {
     let first = pair.low.min(pair.high).saturating_sub(1);
     let second = pair.low.max(pair.high).saturating_sub(1);
-    for at in first..second.saturating_add(1) {
+    (first..second.saturating_add(1)).any(|at| {
         let inside = at != first && survey.goals.get(at);
-        if survey.reached.get(at)
-            && (inside || holder_of(survey.steps, survey.reached, at).is_some())
-        {
-            return true;
-        }
-    }
-    false
+        survey.reached.get(at) && (inside || holder_of(survey.steps, survey.reached, at).is_some())
+    })
 }
 
 /// Whether a pair is sure to be meant as an address: it is plausible, nothing breaks
@@ -290,11 +283,9 @@ pub fn halves_of(
                 && (pair.less == 0 && survey.is_likely(pair.address)
                     || survey.is_routine(pair.meant()))
             {
-                let rank = if is_sure(survey, items, pair) {
-                    pair.rank
-                } else {
-                    pair.rank.saturating_add(LIKELY)
-                };
+                let is_sure = is_sure(survey, items, pair);
+                let more = if is_sure { 0 } else { LIKELY };
+                let rank = pair.rank.saturating_add(more);
                 ranks |= 1 << (rank % 32);
                 pairs.push((rank, pair))?;
             }

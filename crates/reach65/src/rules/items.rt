@@ -19,10 +19,10 @@ pub fn items_of(steps: &Steps<'_>, taken: &Marks) -> Result<Marks, AllocError> {
     let mut next = 0;
     let (start, end) = ends(steps.image());
     for at in start..end {
-        if at < next || !taken.get_at(at) {
+        let first = at as u16;
+        if at < next || !taken.get(first) {
             continue;
         }
-        let first = at as u16;
         let after = at.saturating_add(steps.len_at(first));
         if at < after
             && (at.saturating_add(1)..after).all(|inner| {

@@ -42,8 +42,9 @@ impl Search<'_> {
         let image = steps.image();
         let (start, end) = ends(image);
         let mut behind = start;
-        for (from, &byte) in (start..end).zip(image.bytes()) {
-            if byte != 0x4C || from < behind {
+        let bytes = (start..end).zip(image.bytes());
+        for (from, _) in bytes.filter(|(_, byte)| **byte == 0x4C) {
+            if from < behind {
                 continue;
             }
             let jumps = (from..end).step_by(JUMP);

@@ -29,9 +29,9 @@ pub struct Pieces<'a> {
     begins: Vec<Begins>,
 }
 
-/// Adds a byte before the characters of each alphabet that stand behind it. Returns how long the
-/// longest text is that begins with it, or 0.
-fn longest_with(tails: &mut [Chars; 3], byte: u8) -> u32 {
+/// Adds a byte before the characters of each alphabet that stand behind it. Returns the longest text that begins with
+/// it, if one does.
+fn text_with(tails: &mut [Chars; 3], byte: u8) -> Begins {
     let mut longest = 0u32;
     for (chars, &alphabet) in tails.iter_mut().zip(&ALPHABETS) {
         if alphabet.is_char(byte) {
@@ -43,43 +43,42 @@ fn longest_with(tails: &mut [Chars; 3], byte: u8) -> u32 {
             longest = longest.max(chars.count);
         }
     }
-    longest
+    match longest {
+        0 => Begins::Nothing,
+        count => Begins::Text(count),
+    }
 }
 
 /// What begins at each byte of the image, from the last one to the first.
-#[inline(never)]
 fn begins_backward(alloc: Global, ground: &Ground<'_>) -> Result<Vec<Begins>, AllocError> {
     let (start, _) = ends(ground.image);
     let bytes = ground.image.bytes();
     let mut found = Vec::with_capacity(alloc, bytes.len())?;
     let mut tails = [Chars::none(); 3];
-    let mut after = None;
-    let mut run = 0u32;
+    let (mut after, mut run, mut goes_on) = (0u8, 0u32, false);
     for (index, &byte) in bytes.iter().enumerate().rev() {
-        let here = ground.is_plain(start.saturating_add(index)).then_some(byte);
-        run = if here.is_some() && here == after {
-            run.saturating_add(1)
+        if !ground.is_plain(start.saturating_add(index)) {
+            (run, goes_on) = (0, false);
+            found.push(Begins::Nothing)?;
+            continue;
+        }
+        if byte != after {
+            run = 0;
+        }
+        after = byte;
+        run = run.saturating_add(1);
+        let is_char = run < FILLER && matches!(byte, 0x20..=0x7E | 0xA0..=0xFE);
+        if is_char && !goes_on {
+            tails = [Chars::none(); 3];
+        }
+        goes_on = is_char;
+        found.push(if is_char {
+            text_with(&mut tails, byte)
+        } else if run < FILLER {
+            Begins::Nothing
         } else {
-            1
-        };
-        after = here;
-        let begins = match here {
-            Some(byte) if run < FILLER && matches!(byte, 0x20..=0x7E | 0xA0..=0xFE) => {
-                match longest_with(&mut tails, byte) {
-                    0 => Begins::Nothing,
-                    count => Begins::Text(count),
-                }
-            }
-            _ => {
-                tails = [Chars::none(); 3];
-                if FILLER <= run {
-                    Begins::Filler
-                } else {
-                    Begins::Nothing
-                }
-            }
-        };
-        found.push(begins)?;
+            Begins::Filler
+        })?;
     }
     Ok(found)
 }
@@ -143,10 +142,8 @@ impl<'a> Pieces<'a> {
             (&ground.numbers, RangeType::ByteTable),
         ] {
             if marks.get(first) {
-                return (
-                    role,
-                    self.end_of(at, |a| ground.is_free(a) && marks.get_at(a)),
-                );
+                let end = self.end_of(at, |a| ground.is_free(a) && marks.get_at(a));
+                return (role, end);
             }
         }
         match self.begins_at(at) {

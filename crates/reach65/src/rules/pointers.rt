@@ -1,6 +1,6 @@
 //! Rows of words that are addresses of texts.
 
-use crate::rules::bytes::{bytes_at, ends};
+use crate::rules::bytes::{address, bytes_at, ends};
 use crate::rules::ground::Ground;
 use crate::rules::texts::ALPHABETS;
 use map65::{Image, Marks};
@@ -33,8 +33,12 @@ fn text_marks(alloc: Global, ground: &Ground<'_>) -> Result<(Marks, bool), Alloc
     let mut before = 0u8;
     let (start, end) = ends(ground.image);
     for (at, &here) in (start..end).zip(ground.image.bytes()) {
-        if here != before && ground.is_plain(at) && begins_text(ground.image, at, before, here) {
-            texts.set_span(at, at.saturating_add(1));
+        if here != before
+            && ground.is_plain(at)
+            && begins_text(ground.image, at, before, here)
+            && let Some(address) = address(at)
+        {
+            texts.set(address);
             has_any = true;
         }
         before = here;

@@ -162,11 +162,9 @@ impl Readers {
         if to.max(other_to) - pointer != 1 || !is_code && !self.others.get(pointer) {
             return None;
         }
-        let table = if to < other_to {
-            Table::of_code(one, other, 0)
-        } else {
-            Table::of_code(other, one, 0)
-        };
+        let is_low = to < other_to;
+        let (low, high) = if is_low { (one, other) } else { (other, one) };
+        let table = Table::of_code(low, high, 0);
         Some(Table { is_code, ..table })
     }
 

@@ -61,14 +61,16 @@ pub struct Search<'a> {
     pub calls: Vec<u16>,
 }
 
-/// Marks the addresses that instructions store to, if the bytes of the image are instructions.
+/// Marks the addresses of the zero page that instructions store to, if the bytes of the image are instructions. The
+/// opcodes with an absolute operand are those with one of the zero page and 8.
 fn stored_marks(alloc: Global, image: &Image) -> Result<Marks, AllocError> {
     let mut marks = Marks::none(alloc)?;
     for bytes in image.bytes().windows(3) {
-        match *bytes {
-            [0x84..=0x86, low, _] => marks.set(u16::from(low)),
-            [0x8C..=0x8E, low, high] => marks.set(u16::from_le_bytes([low, high])),
-            _ => {}
+        if let [opcode, low, high] = *bytes
+            && matches!(opcode & 0xF7, 0x84..=0x86)
+            && (opcode < 0x88 || high == 0)
+        {
+            marks.set(u16::from(low));
         }
     }
     Ok(marks)
@@ -156,14 +158,9 @@ impl<'a> Search<'a> {
                 least <= self.added.len() || (self.meets && self.has_bytes(WORD + 1))
             }
         };
-        enough
-            && !self.is_filled_jump()
-            && self.added.iter().all(|&address| is_apart(
-                self.steps,
-                &self.marks,
-                &self.code,
-                address,
-            ))
+        let (steps, added) = (self.steps, &self.added);
+        let (marks, code) = (&self.marks, &self.code);
+        enough && !self.is_filled_jump() && added.iter().all(|&at| is_apart(steps, marks, code, at))
     }
 
     /// Whether what was added has so many bytes at least.

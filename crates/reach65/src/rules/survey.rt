@@ -1,6 +1,6 @@
 //! What reached code does with addresses.
 
-use crate::rules::bytes::ends;
+use crate::rules::bytes::{address, byte, ends};
 use crate::rules::halves::may_begin;
 use crate::rules::{Placed, Steps};
 use isa65::Mnemonic::{self, Asl, Dec, Inc, Jsr, Lsr, Rol, Ror, Sta, Stx, Sty, Stz, Trb, Tsb};
@@ -50,6 +50,14 @@ fn set_some(marks: &mut Marks, address: Option<u16>) {
     }
 }
 
+/// The address of the text behind a call, if that ends with a zero byte, which may be the one at $FFFF.
+fn text_behind(steps: &Steps<'_>, call: Placed<'_>) -> Option<u16> {
+    let tag = steps.inline_at(call.step.to?)?;
+    let has_end = call.step.end.is_some() || byte(steps.image(), 0xFFFF) == Some(0);
+    let after = usize::from(call.at).saturating_add(call.step.len());
+    (tag.size.is_none() && has_end).then_some(address(after)?)
+}
+
 impl<'a> Survey<'a> {
     /// Looks at the reached instructions.
     pub fn of(
@@ -88,7 +96,6 @@ impl<'a> Survey<'a> {
             self.firsts.push(at)?;
         }
         set_some(&mut self.gone_on, step.next);
-        set_some(&mut self.texts, step.text);
         if let Some(goal) = step.goal {
             self.goals.set(goal);
             if step.op.mnemonic == Jsr {
@@ -109,6 +116,7 @@ impl<'a> Survey<'a> {
         }
         if step.op.mnemonic == Jsr {
             self.calls.push(at)?;
+            set_some(&mut self.texts, text_behind(self.steps, placed));
         }
         Ok(())
     }

@@ -1,10 +1,10 @@
 //! Words that stand in rows and lead to code.
 
 use crate::flow::is_last;
+use crate::rules::Steps;
 use crate::rules::bytes::{address, ends, word};
 use crate::rules::growth::{Candidate, IN_TABLE};
 use crate::rules::search::{Least, Search};
-use crate::rules::{Step, Steps};
 use isa65::Mnemonic;
 use map65::{ADDRESSES, Image, Marks};
 use std::alloc::AllocError;
@@ -39,12 +39,14 @@ fn is_hopeful_after(marks: &Marks, address: u16, later: Option<u16>) -> bool {
     later.map_or(true, |later| later <= address || marks.get(later))
 }
 
-/// Whether code may begin with the instruction of the address.
-fn is_hopeful(marks: &Marks, address: u16, step: &Step) -> bool {
-    step.op.mnemonic != Mnemonic::Brk
-        && (step.next.is_some() || is_last(step.op.mnemonic))
-        && is_hopeful_after(marks, address, step.next)
-        && is_hopeful_after(marks, address, step.goal)
+/// Whether code may begin with an instruction of the address.
+fn is_hopeful(steps: &Steps<'_>, marks: &Marks, address: u16) -> bool {
+    steps.at(address).is_some_and(|step| {
+        step.op.mnemonic != Mnemonic::Brk
+            && (step.next.is_some() || is_last(step.op.mnemonic))
+            && is_hopeful_after(marks, address, step.next)
+            && is_hopeful_after(marks, address, step.goal)
+    })
 }
 
 /// Whether a reached instruction right before the address goes on to it.
@@ -87,12 +89,7 @@ impl<'i> DataWords<'i> {
         let (start, end) = ends(image);
         for at in (start..end).rev() {
             let here = at as u16;
-            if reached.get(here)
-                || !search.code.get(here)
-                    && steps
-                        .at(here)
-                        .is_some_and(|step| is_hopeful(&hopeful, here, step))
-            {
+            if reached.get(here) || !search.code.get(here) && is_hopeful(steps, &hopeful, here) {
                 hopeful.set(here);
             }
         }
@@ -138,12 +135,11 @@ impl<'i> DataWords<'i> {
             && let Some(three) = self.target(search, less, at.saturating_add(4))
             && one != three
             && two != three
+            && begins_code(search, less, one)?
+            && begins_code(search, less, two)?
+            && begins_code(search, less, three)?
         {
-            return Ok(
-                begins_code(search, less, one)?
-                    && begins_code(search, less, two)?
-                    && begins_code(search, less, three)?,
-            );
+            return Ok(true);
         }
         Ok(false)
     }

@@ -52,20 +52,17 @@ impl Text<'_> {
         let advice = self.advice;
         let calls = calls_of(advice)?;
         for same in calls.as_slice().chunk_by(|one, other| one.0 == other.0) {
-            let Some(&(routine, ..)) = same.first() else {
-                continue;
-            };
             let failing = same.iter().filter(|call| call.2).count();
-            if failing == 0
-                || failing.saturating_mul(2) < same.len()
-                || advice.steps.inline_at(routine).is_some()
+            if let Some(&(routine, ..)) = same.first()
+                && 0 < failing
+                && same.len() <= failing.saturating_mul(2)
+                && advice.steps.inline_at(routine).is_none()
             {
-                continue;
+                self.put_decimal(b"# what follows ", failing)?;
+                self.put_decimal(b" of ", same.len())?;
+                self.put_address(b" calls of $", routine)?;
+                self.put(b" does not decode: INLINE?\n")?;
             }
-            self.put_decimal(b"# what follows ", failing)?;
-            self.put_decimal(b" of ", same.len())?;
-            self.put_address(b" calls of $", routine)?;
-            self.put(b" does not decode: INLINE?\n")?;
         }
         Ok(())
     }

@@ -44,9 +44,10 @@ impl Text<'_> {
                 let next = end.min(cell.saturating_add(CELL));
                 let (mut code, mut taken) = (0usize, 0usize);
                 for at in cell..next {
-                    if advice.reach.taken.get_at(at) {
+                    if advice.reach.taken.get(at as u16) {
                         taken = taken.saturating_add(1);
-                        code = code.saturating_add(usize::from(advice.survey.code.get_at(at)));
+                        let is_code = advice.reach.code.get(at as u16);
+                        code = code.saturating_add(usize::from(is_code));
                     }
                 }
                 self.out
