@@ -55,6 +55,7 @@ fn begins_backward(alloc: Global, ground: &Ground<'_>) -> Result<Vec<Begins>, Al
     let bytes = ground.image.bytes();
     let mut found = Vec::with_capacity(alloc, bytes.len())?;
     let mut tails = [Chars::none(); 3];
+    // The byte behind, how many equal ones there are from here on, and whether the one behind is in the tails.
     let (mut after, mut run, mut goes_on) = (0u8, 0u32, false);
     for (index, &byte) in bytes.iter().enumerate().rev() {
         if !ground.is_plain(start.saturating_add(index)) {
