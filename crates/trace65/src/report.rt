@@ -14,8 +14,8 @@ use crate::text::text_of;
 use crate::unshown::{put_unshown, unshown_of};
 use info65::{Info, Options, RangeSpec, Tag};
 use map65::{Map, Marks};
-use reach65::rules::growth::Followed;
-use reach65::rules::pieces::Pieces;
+use reach65::rules::bytes::pieces::Pieces;
+use reach65::rules::entries::growth::Followed;
 use reach65::{Steps, code_of, ranges_of, reached, taken_of};
 use std::alloc::{AllocError, Global};
 

@@ -10,7 +10,7 @@ mod tables;
 
 use crate::advice::Advice;
 use info65::RangeSpec;
-use reach65::rules::bytes::bytes_at;
+use reach65::rules::image::bytes_at;
 use std::alloc::AllocError;
 
 /// The text, and what it is about.

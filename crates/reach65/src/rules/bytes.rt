@@ -1,41 +1,28 @@
-//! Bytes and words of an image by their addresses, which may lie outside it.
+//! What the bytes are that no code has, in the order in which it is asked.
+//!
+//! - `survey`: what reached code does with addresses.
+//! - `ground`: the addresses that nothing speaks for.
+//! - `tables`: the words and halves that reached code reads by an index.
+//! - `rows`: the words in rows that are addresses of routines.
+//! - `variables`: those right after the image.
+//! - `items`: which instructions are listed, for the pairs of halves that are sure.
+//! - `loads`: the words that reached code loads a byte after the other.
+//! - `pointers`: the words in rows that are addresses of texts.
+//! - `orphans`: the words to whose routines nothing else leads.
+//! - `bases`: the operands that are counted from a table behind them.
+//! - `labels`: the addresses that get labels.
+//! - `pieces`: what is left, cut into pieces. `texts` says which are texts.
 
-ghost use Rattle.std.specs.Prelude.{◌≤◌};
-
-use map65::{ADDRESSES, Image};
-
-/// Returns the byte at the address, if that lies in the image.
-pub fn byte(image: &Image, at: usize) -> Option<u8> {
-    let index = at.checked_sub(usize::from(image.start()))?;
-    image.bytes().get(index).copied()
-}
-
-/// Returns the word at the address, low byte first, if both of its bytes lie in the image.
-pub fn word(image: &Image, at: usize) -> Option<u16> {
-    let low = byte(image, at)?;
-    let high = byte(image, at.checked_add(1)?)?;
-    Some(u16::from_le_bytes([low, high]))
-}
-
-/// Returns the bytes of the image from an address of it on, so many at most.
-pub fn bytes_at(image: &Image, at: usize, most: usize) -> &[u8] {
-    let bytes = image.bytes();
-    let from = at
-        .saturating_sub(usize::from(image.start()))
-        .min(bytes.len());
-    &bytes[from..from.saturating_add(most).min(bytes.len())]
-}
-
-/// Returns the first address of the image, and the first one after it.
-pub fn ends(image: &Image) -> (usize, usize)
-    ensures { result.1 ≤ 65536 }
-{
-    let start = usize::from(image.start());
-    let end = start.saturating_add(image.bytes().len());
-    (start, end.min(ADDRESSES))
-}
-
-/// Returns the address, if it is at most $FFFF.
-pub fn address(at: usize) -> Option<u16> {
-    u16::try_from(at).ok()
-}
+pub mod bases;
+pub mod ground;
+pub mod items;
+pub mod labels;
+pub mod loads;
+pub mod orphans;
+pub mod pieces;
+pub mod pointers;
+pub mod rows;
+pub mod survey;
+pub mod tables;
+pub mod texts;
+pub mod variables;

@@ -5,7 +5,7 @@ use crate::advice::Advice;
 use crate::text::Text;
 use info65::RangeType;
 use isa65::Mnemonic;
-use reach65::rules::sound::reads_on;
+use reach65::rules::entries::sound::reads_on;
 use std::alloc::AllocError;
 
 /// How many instructions after a call are looked at.

@@ -3,8 +3,8 @@
 
 use crate::text::Text;
 use map65::is_inside;
-use reach65::rules::bytes::ends;
-use reach65::rules::sound::holder_of;
+use reach65::rules::entries::sound::holder_of;
+use reach65::rules::image::ends;
 use std::alloc::AllocError;
 
 impl Text<'_> {

@@ -3,7 +3,7 @@
 use crate::text::Text;
 use files65::put_address;
 use info65::TagKind;
-use reach65::rules::bytes::ends;
+use reach65::rules::image::ends;
 use std::alloc::AllocError;
 
 impl Text<'_> {

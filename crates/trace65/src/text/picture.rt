@@ -2,7 +2,7 @@
 
 use crate::text::Text;
 use files65::put_address;
-use reach65::rules::bytes::ends;
+use reach65::rules::image::ends;
 use std::alloc::AllocError;
 
 /// How many bytes a character stands for.

@@ -2,7 +2,7 @@
 
 use crate::text::Text;
 use info65::RangeType;
-use reach65::rules::texts::Alphabet;
+use reach65::rules::bytes::texts::Alphabet;
 use std::alloc::AllocError;
 
 /// How many bytes of a range are shown.

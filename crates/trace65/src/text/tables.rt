@@ -4,9 +4,9 @@ use crate::text::Text;
 use info65::{RangeSpec, RangeType};
 use isa65::Mnemonic;
 use map65::ADDRESSES;
-use reach65::rules::readers::Table;
-use reach65::rules::sound::reads_on;
-use reach65::rules::tables::Split;
+use reach65::rules::bytes::tables::Split;
+use reach65::rules::entries::readers::Table;
+use reach65::rules::entries::sound::reads_on;
 use std::alloc::AllocError;
 
 /// How many addresses get a comment.

@@ -1,9 +1,9 @@
 //! Routines to which nothing leads but a word of data.
 
-use crate::rules::bytes::{ends, word};
-use crate::rules::ground::Ground;
-use crate::rules::halves::Pair;
-use crate::rules::survey::Survey;
+use crate::rules::bytes::ground::Ground;
+use crate::rules::bytes::survey::Survey;
+use crate::rules::entries::halves::Pair;
+use crate::rules::image::{ends, word};
 use map65::Marks;
 use std::alloc::AllocError;
 

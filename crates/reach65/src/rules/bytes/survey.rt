@@ -1,7 +1,7 @@
 //! What reached code does with addresses.
 
-use crate::rules::bytes::{address, byte, ends};
-use crate::rules::halves::may_begin;
+use crate::rules::entries::halves::may_begin;
+use crate::rules::image::{address, byte, ends};
 use crate::rules::{Placed, Steps};
 use isa65::Mnemonic::{self, Asl, Dec, Inc, Jsr, Lsr, Rol, Ror, Sta, Stx, Sty, Stz, Trb, Tsb};
 use map65::{Marks, is_jump};

@@ -1,8 +1,8 @@
 //! What stands at the addresses that nothing speaks for: words, filler, texts and other bytes.
 
-use crate::rules::bytes::{byte, ends};
-use crate::rules::ground::Ground;
-use crate::rules::texts::{ALPHABETS, Alphabet, Chars};
+use crate::rules::bytes::ground::Ground;
+use crate::rules::bytes::texts::{ALPHABETS, Alphabet, Chars};
+use crate::rules::image::{byte, ends};
 use info65::RangeType;
 use std::alloc::{AllocError, Global};
 use std::ops::Range;

@@ -1,8 +1,8 @@
 //! What keeps bytes from being code: where reading cannot go on that looks like code up to there.
 
 use crate::rules::Steps;
-use crate::rules::search::Search;
-use crate::rules::sound::begins;
+use crate::rules::entries::search::Search;
+use crate::rules::entries::sound::begins;
 use isa65::Mnemonic;
 use std::alloc::AllocError;
 use std::cmp::Reverse;

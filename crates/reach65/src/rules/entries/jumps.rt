@@ -1,9 +1,9 @@
 //! Rows of jumps, by which drivers and libraries give their routines.
 
 use crate::rules::Steps;
-use crate::rules::bytes::{address, ends};
-use crate::rules::growth::IN_TABLE;
-use crate::rules::search::{Least, Search};
+use crate::rules::entries::growth::IN_TABLE;
+use crate::rules::entries::search::{Least, Search};
+use crate::rules::image::{address, ends};
 use isa65::{Mnemonic, Mode};
 use std::alloc::AllocError;
 

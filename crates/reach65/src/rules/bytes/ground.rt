@@ -1,7 +1,7 @@
 //! The addresses of an image that nothing speaks for, and the words among them that are addresses.
 
-use crate::rules::bytes::{ends, word};
-use crate::rules::entries::has_vectors;
+use crate::rules::entries::starts::has_vectors;
+use crate::rules::image::{ends, word};
 use map65::{ADDRESSES, Image, Marks, is_inside};
 use std::alloc::{AllocError, Global};
 

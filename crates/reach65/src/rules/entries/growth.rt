@@ -1,13 +1,13 @@
 //! Which other addresses join the entries.
 
-use crate::rules::bytes::address;
-use crate::rules::declared::{addresses_of, declared_of};
-use crate::rules::entries::pointers_of;
-use crate::rules::halves::{may_begin, pairs_at};
-use crate::rules::obstacles::{Obstacle, worst_of};
-use crate::rules::readers::{Readers, Table};
-use crate::rules::search::{Least, Search};
-use crate::rules::words::DataWords;
+use crate::rules::entries::declared::{addresses_of, declared_of};
+use crate::rules::entries::halves::{may_begin, pairs_at};
+use crate::rules::entries::obstacles::{Obstacle, worst_of};
+use crate::rules::entries::readers::{Readers, Table};
+use crate::rules::entries::search::{Least, Search};
+use crate::rules::entries::starts::pointers_of;
+use crate::rules::entries::words::DataWords;
+use crate::rules::image::address;
 use crate::rules::{Placed, Steps};
 use map65::ADDRESSES;
 use std::alloc::AllocError;

@@ -1,7 +1,7 @@
 //! The variables right after an image.
 
-use crate::rules::bytes::{address, ends};
-use crate::rules::survey::Survey;
+use crate::rules::bytes::survey::Survey;
+use crate::rules::image::{address, ends};
 use info65::Info;
 use map65::ADDRESSES;
 use std::alloc::AllocError;

@@ -1,11 +1,11 @@
 //! The search for code, with trials: an entry joins if all that is reached from it
 //! reads as code, else all is as before.
 
-use crate::rules::bytes::bytes_at;
-use crate::rules::obstacles::{Obstacle, obstacle_of};
-use crate::rules::readers::Readers;
-use crate::rules::sound::{is_apart, is_fine};
-use crate::rules::texts::ALPHABETS;
+use crate::rules::bytes::texts::ALPHABETS;
+use crate::rules::entries::obstacles::{Obstacle, obstacle_of};
+use crate::rules::entries::readers::Readers;
+use crate::rules::entries::sound::{is_apart, is_fine};
+use crate::rules::image::bytes_at;
 use crate::rules::{Placed, Steps};
 use isa65::Mnemonic;
 use map65::{ADDRESSES, Image, Marks, is_inside};

@@ -1,7 +1,7 @@
 //! Which instructions are listed as such.
 
 use crate::rules::Steps;
-use crate::rules::bytes::{address, ends};
+use crate::rules::image::{address, ends};
 use map65::Marks;
 use std::alloc::AllocError;
 

@@ -1,8 +1,8 @@
 //! Operands that lie in code right before a table, which they are likely counted from.
 
 use crate::rules::Step;
-use crate::rules::bytes::{address, ends};
-use crate::rules::survey::{Survey, writes};
+use crate::rules::bytes::survey::{Survey, writes};
+use crate::rules::image::{address, ends};
 use info65::TagKind;
 use isa65::Mode;
 use std::alloc::AllocError;

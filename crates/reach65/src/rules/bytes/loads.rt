@@ -1,8 +1,8 @@
 //! Words of data that reached code loads a byte after the other.
 
 use crate::rules::Step;
-use crate::rules::ground::Ground;
-use crate::rules::survey::Survey;
+use crate::rules::bytes::ground::Ground;
+use crate::rules::bytes::survey::Survey;
 use isa65::{Mnemonic, Mode};
 use map65::is_inside;
 

@@ -1,8 +1,8 @@
 //! Rows of words that are addresses of texts.
 
-use crate::rules::bytes::{address, bytes_at, ends};
-use crate::rules::ground::Ground;
-use crate::rules::texts::ALPHABETS;
+use crate::rules::bytes::ground::Ground;
+use crate::rules::bytes::texts::ALPHABETS;
+use crate::rules::image::{address, bytes_at, ends};
 use map65::{Image, Marks};
 use std::alloc::{AllocError, Global};
 

@@ -1,8 +1,8 @@
 //! Addresses that the information file says in halves.
 
 use crate::rules::Steps;
-use crate::rules::readers::Table;
-use crate::rules::tables::Split;
+use crate::rules::bytes::tables::Split;
+use crate::rules::entries::readers::Table;
 use info65::TagKind;
 use map65::Marks;
 use std::alloc::AllocError;

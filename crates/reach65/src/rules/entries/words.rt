@@ -2,9 +2,9 @@
 
 use crate::flow::is_last;
 use crate::rules::Steps;
-use crate::rules::bytes::{address, ends, word};
-use crate::rules::growth::{Candidate, IN_TABLE};
-use crate::rules::search::{Least, Search};
+use crate::rules::entries::growth::{Candidate, IN_TABLE};
+use crate::rules::entries::search::{Least, Search};
+use crate::rules::image::{address, ends, word};
 use isa65::Mnemonic;
 use map65::{ADDRESSES, Image, Marks};
 use std::alloc::AllocError;

@@ -1,9 +1,9 @@
 //! Tables by the instructions that read them.
 
-use crate::rules::bytes::{address, byte};
-use crate::rules::growth::IN_TABLE;
-use crate::rules::halves::stored_to;
-use crate::rules::sound::reads_on;
+use crate::rules::entries::growth::IN_TABLE;
+use crate::rules::entries::halves::stored_to;
+use crate::rules::entries::sound::reads_on;
+use crate::rules::image::{address, byte};
 use crate::rules::{Placed, Step, Steps};
 use isa65::{Mnemonic, Mode};
 use map65::{Image, Marks};

@@ -1,7 +1,7 @@
 //! Addresses that code loads in halves.
 
-use crate::rules::sound::holder_of;
-use crate::rules::survey::Survey;
+use crate::rules::bytes::survey::Survey;
+use crate::rules::entries::sound::holder_of;
 use crate::rules::{Placed, Step, Steps};
 use isa65::Mnemonic::{
     Adc, Clc, Dey, Iny, Jsr, Lda, Ldx, Ldy, Pha, Pla, Sta, Stx, Sty, Tax, Tay, Txa, Tya,

@@ -1,8 +1,8 @@
 //! The words and halves of tables that reached code reads.
 
-use crate::rules::ground::Ground;
-use crate::rules::readers::Table;
-use crate::rules::survey::Survey;
+use crate::rules::bytes::ground::Ground;
+use crate::rules::bytes::survey::Survey;
+use crate::rules::entries::readers::Table;
 use map65::is_inside;
 use std::alloc::AllocError;
 

@@ -1,9 +1,9 @@
 //! Rows of words that are addresses of routines.
 
-use crate::rules::bytes::ends;
-use crate::rules::ground::Ground;
-use crate::rules::survey::Survey;
-use crate::rules::words::ROW;
+use crate::rules::bytes::ground::Ground;
+use crate::rules::bytes::survey::Survey;
+use crate::rules::entries::words::ROW;
+use crate::rules::image::ends;
 use map65::Marks;
 use std::alloc::AllocError;
 

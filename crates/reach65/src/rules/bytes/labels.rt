@@ -1,11 +1,11 @@
 //! The addresses that get labels with default names.
 
-use crate::rules::bases::Base;
-use crate::rules::bytes::address;
-use crate::rules::declared::addresses_of;
-use crate::rules::halves::Pair;
-use crate::rules::survey::Survey;
-use crate::rules::tables::Split;
+use crate::rules::bytes::bases::Base;
+use crate::rules::bytes::survey::Survey;
+use crate::rules::bytes::tables::Split;
+use crate::rules::entries::declared::addresses_of;
+use crate::rules::entries::halves::Pair;
+use crate::rules::image::address;
 use info65::TagKind;
 use std::alloc::AllocError;
 

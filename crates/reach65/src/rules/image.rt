@@ -1,0 +1,41 @@
+//! Bytes and words of an image by their addresses, which may lie outside it.
+
+ghost use Rattle.std.specs.Prelude.{◌≤◌};
+
+use map65::{ADDRESSES, Image};
+
+/// Returns the byte at the address, if that lies in the image.
+pub fn byte(image: &Image, at: usize) -> Option<u8> {
+    let index = at.checked_sub(usize::from(image.start()))?;
+    image.bytes().get(index).copied()
+}
+
+/// Returns the word at the address, low byte first, if both of its bytes lie in the image.
+pub fn word(image: &Image, at: usize) -> Option<u16> {
+    let low = byte(image, at)?;
+    let high = byte(image, at.checked_add(1)?)?;
+    Some(u16::from_le_bytes([low, high]))
+}
+
+/// Returns the bytes of the image from an address of it on, so many at most.
+pub fn bytes_at(image: &Image, at: usize, most: usize) -> &[u8] {
+    let bytes = image.bytes();
+    let from = at
+        .saturating_sub(usize::from(image.start()))
+        .min(bytes.len());
+    &bytes[from..from.saturating_add(most).min(bytes.len())]
+}
+
+/// Returns the first address of the image, and the first one after it.
+pub fn ends(image: &Image) -> (usize, usize)
+    ensures { result.1 ≤ 65536 }
+{
+    let start = usize::from(image.start());
+    let end = start.saturating_add(image.bytes().len());
+    (start, end.min(ADDRESSES))
+}
+
+/// Returns the address, if it is at most $FFFF.
+pub fn address(at: usize) -> Option<u16> {
+    u16::try_from(at).ok()
+}
