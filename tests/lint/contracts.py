@@ -1,5 +1,5 @@
-"""A snapshot of the public contracts: docs/contracts/CRATE.txt has every public item of a crate, its clauses word for word, and a checksum
-of each definition that these cite. Public is what the root of a library exports, and whatever a row of docs/PROOFS.md names; in a program,
+"""A snapshot of the public contracts: docs/contracts/CRATE.txt has every public item of a crate that has clauses, these word for word, and a
+checksum of each definition that they cite. Public is what the root of a library exports, and whatever a row of docs/PROOFS.md names; in a program,
 every `pub` item."""
 
 import re
@@ -10,12 +10,13 @@ from source import ATTRIBUTE, CRATES, IMPL, ROOT, TYPES, differs, module_file, s
 
 SNAPSHOT = ROOT / "docs" / "contracts"
 PRELUDE = "std.Prelude"
+CLAUSE = re.compile("requires|ensures|decreases|ghost")
 
 
 def entry(here, head, lines, ghosts=()):
     """An item of the snapshot: its name, its lines, and what these cite."""
     named = types_in(here) | {name: resolved(target) for name, target in [*here.ghosts, *ghosts]}
-    clauses = [line for line in lines if re.match(r"requires|ensures|decreases|ghost", line)]
+    clauses = list(filter(CLAUSE.match, lines))
     if any(re.search(r"\bRattle\b|\bcrate\b", line) for line in clauses):
         here.refuse(f"{head} names other files outside `ghost use`")
     cited = set().union(*(cited_in(line, named) for line in clauses))
@@ -112,7 +113,7 @@ def plain_entry(here, item):
 
 
 def snapshot(crate):
-    found = sorted(entries(crate), key=lambda one: (one[0], one[1]))
+    found = sorted(one for one in entries(crate) if any(map(CLAUSE.match, one[1])))
     return "".join(head + "\n" + "".join(f"    {line}\n" for line in lines) + "\n" for head, lines in found)
 
 
