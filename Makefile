@@ -1,7 +1,9 @@
 # make               proves the programs, builds them into bin/ (da65, as65, trace65, name65, move65, html65), and lists an example. It
 #                    proves three crates at a time if there are two processors and 12 GB of memory, or as many as -j says. It prints its
 #                    progress: on a terminal in one line, otherwise each minute (or each EVERY seconds).
-# make try           lists the example before any proof
+# make try           runs a program without proving anything, in three minutes: `make try IMAGE=my.bin START=0x8000` lists an image.
+#                    INFO is an information file, OUT the file for what is printed, and PROGRAM another of the six programs; IMAGE
+#                    is its input. Without any of them, it lists an example.
 # make test          the merge gate: every proof from nothing, the edits that must fail, the tests and the stored runs; then pytest
 #                    on the programs that this built. Its last line is the result of `rt ci`.
 #                    CA65=skip leaves out what needs cc65, CC=skip what needs a C compiler, and BROWSER=skip what needs a browser.
@@ -37,8 +39,8 @@ endif
 all: kit bin/da65 bin/as65 bin/trace65 bin/name65 bin/move65 bin/html65
 	bin/da65 examples/three.bin
 
-# The kits of the prover that this version was proved with.
-kits := rattle-kit-13b
+# The kits of the prover that have proved this version, or that of the last change of a contract.
+kits := rattle-kit-13f
 
 kit:
 	@kit=$$(rt version); kit=$${kit%% *}; case ' $(kits) ' in *" $$kit "*) ;; *) echo "proved with $(kits), not yet with $$kit" ;; esac
@@ -73,7 +75,8 @@ export PROGRESS
 
 # A crate is proved once the crates below it are, by the lines of crates.txt; a program is also run, for its version. Then a line says how
 # long that took, and bin/made/CRATE has what the prover said. rt locks the crates that it reads, so a crate is proved in a folder of its
-# own, with links to its sources and to the libraries below. bin/da65 comes first: the crates that it does not stand on give way.
+# own, with links to its sources and to the libraries below. bin/da65 comes first: the crates that it does not stand on give way, and the
+# other programs wait for it.
 crates := $(shell sed -nE 's/^([a-z0-9_]+):.*/\1/p' crates.txt)
 programs := da65_cli as65 trace65 name65 move65 html65
 direct = $(filter $(crates),$(shell sed -nE 's/^$(1)://p' crates.txt))
@@ -82,7 +85,8 @@ first := da65_cli $(call below,da65_cli)
 clear_line = if [ -t 1 ]; then printf '\r\033[K'; fi
 define crate
 bin/made/$(1): $(patsubst %,bin/made/%,$(call direct,$(1))) \
-    $(shell find crates/$(1) -name out -prune -o -path '*/src/*' -print -o -name '*.antt' -print)
+    $(shell find crates/$(1) -name out -prune -o -path '*/src/*' -print -o -name '*.antt' -print) \
+    $(if $(filter $(filter-out $(first),$(programs)),$(1)),| bin/made/da65_cli)
 	@begin=$$$$SECONDS; room=bin/made/$(1).room; rm -rf $$$$room; mkdir -p $$$$room; \
 	    cp -al --parents crates.txt HANDLES crates/*/{src,specs,proofs} $(patsubst %,crates/%/out/rlib,$(call below,$(1))) $$$$room; \
 	    [ ! -d crates/$(1)/out ] || mv crates/$(1)/out $$$$room/crates/$(1); \
@@ -95,8 +99,40 @@ bin/made/$(1): $(patsubst %,bin/made/%,$(call direct,$(1))) \
 endef
 $(foreach name,$(crates),$(eval $(call crate,$(name))))
 
+# The program sees copies of the input, of the information file and of the files that this one names.
+define TRY
+fails() { echo "try: $$1" >&2; exit 1; }
+words=() data=()
+give() { data+=(--data "$$1=$$(realpath -- "$$2")"); }
+[ -z "$$OUT" ] || [ ! -e "$$OUT" ] || fails "there is a file $$OUT"
+[ -z "$$START" ] || words+=(-S "$$START")
+if [ -n "$$INFO" ]; then
+    [ -f "$$INFO" ] || fails "there is no file $$INFO"
+    words+=(-i "$${INFO##*/}")
+    while read -r name; do
+        [ ! -f "$$name" ] || give "$$name" "$$name"
+    done < <(sed -nE 's/.*(FILE|INPUTNAME)\s*"([^"]*)".*/\2/Ip' "$$INFO")
+    give "$${INFO##*/}" "$$INFO"
+fi
+[ -n "$$IMAGE$$INFO" ] || IMAGE=examples/three.bin
+if [ -n "$$IMAGE" ]; then
+    [ -f "$$IMAGE" ] || fails "there is no file $$IMAGE"
+    words+=("$${IMAGE##*/}")
+    give "$${IMAGE##*/}" "$$IMAGE"
+fi
+if [ -n "$$OUT" ]; then
+    out=$$(realpath -m -- "$$OUT")
+    exec >"$$out"
+    trap '[ -s "$$out" ] || rm -f "$$out"' EXIT
+fi
+cd "crates/$$1"
+rt try "$${data[@]}" -- "$${words[@]}" </dev/null
+endef
+export TRY IMAGE START INFO OUT
+PROGRAM ?= da65
+
 try:
-	@cd crates/da65_cli && rt try --data three.bin=../../examples/three.bin -- three.bin
+	@bash -eu -c "$$TRY" try $(if $(filter da65,$(PROGRAM)),da65_cli,$(PROGRAM))
 
 test:
 	@mkdir -p bin
@@ -137,10 +173,10 @@ install: bin/da65 bin/as65 bin/trace65 bin/name65 bin/move65 bin/html65
 	    name='$(PROGRAM_PREFIX)'$$program; \
 	    install -D -m 755 bin/$$program "$(DESTDIR)$(PREFIX)/bin/$$name"; \
 	    install -D -m 644 docs/$$program.1 "$(share)/man/man1/$$name.1"; \
-	    install -D -m 644 completions/$$program.bash "$(share)/bash-completion/completions/$$name"; \
-	    install -D -m 644 completions/_$$program "$(share)/zsh/site-functions/_$$name"; \
-	    sed -i "s/^\(complete .* \|#compdef \)$$program$$/\1$$name/" \
-	        "$(share)/bash-completion/completions/$$name" "$(share)/zsh/site-functions/_$$name"; \
+	    for file in "bash $(share)/bash-completion/completions/" "zsh $(share)/zsh/site-functions/_"; do \
+	        bin/$$program -h | completions/from-help "$${file%% *}" "$$name" | \
+	            install -D -m 644 /dev/stdin "$${file#* }$$name"; \
+	    done; \
 	done
 	@install -D -m 644 docs/da65.info.5 '$(share)/man/man5/$(PROGRAM_PREFIX)da65.info.5'
 	@install -D -m 644 -t '$(share)/$(PROGRAM_PREFIX)da65/names' names/*.inc names/*.info

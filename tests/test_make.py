@@ -32,7 +32,7 @@ def run(here, words, crates, status=0, last="da65_cli", env=None, program="make"
     done = Program(program).run(words, env=env, cwd=here / "checkout").gives(status, None, None)
     printed = (done.out + done.err).decode()
     lines = [line for line in printed.splitlines() if not line.startswith("make")]
-    assert lines[-1:] == [last] or program != "make", printed
+    assert lines[-1:] == [last] * bool(last) or program != "make", printed
     assert sorted(read(f"{here}/notes").decode().split()) == sorted(crates), printed
     assert not list(here.glob("checkout/bin/made/*.room")), "a room is left"
     return printed
@@ -67,7 +67,10 @@ def test_the_first_time(make):
         assert os.access("bin/" + name, os.X_OK)
 
 
-def test_what_gives_way_to_da65(make):
+def test_da65_comes_first(make):
+    """Each other program is proved after it, and what it does not stand on gives way."""
+    listing = os.stat("crates/da65_cli/out/da65_cli").st_mtime_ns
+    assert not [name for name in MADE[1:] if os.stat(f"crates/{name}/out/nice").st_mtime_ns < listing]
     slow = {name for name in ALL if int(read(f"crates/{name}/out/nice")) > os.nice(0)}
     assert slow == ALL - closure(["da65_cli"], own)
 
@@ -77,11 +80,25 @@ def test_nothing_changed(make):
 
 
 def test_another_kit(make):
-    assert "proved with rattle-kit-13b, not yet with rattle-kit-1\n" in make("-s -j3", [], env={"KIT": "rattle-kit-1"})
+    assert "proved with rattle-kit-13f, not yet with rattle-kit-1\n" in make("-s -j3", [], env={"KIT": "rattle-kit-1"})
 
 
-def test_before_any_proof(make):
-    make("-s try", ["da65_cli"], last="try --data three.bin=../../examples/three.bin -- three.bin")
+def test_before_any_proof(make, words, crate, shown):
+    here = os.getcwd()
+    os.makedirs("examples")
+    for name in "examples/three.bin", "own.bin", "a listing.s", "names.inc":
+        write(name, "")
+    write("own.info", 'GLOBAL { INPUTNAME "own.bin"; };\nASMINC { file "names.inc"; };\nASMINC { FILE "lost.inc"; };\n')
+    shown = shown.replace("HERE", here)
+    make("-s try " + words, [crate], last=shown if "OUT" not in words else "")
+    if "OUT" in words:
+        holds("out.s", shown + "\n")
+
+
+def test_nothing_is_tried(make, words, said):
+    write("own.bin", "")
+    make("-s try " + words, [], 2, "try: " + said)
+    holds("own.bin", "")
 
 
 def test_map65_changed(make):

@@ -112,11 +112,11 @@ def test_mistakes_of_information_files(checkout):
 def example(page):
     """The commands of the man page's example."""
     text = re.search(r"^\.SH EXAMPLES(.*)^\.SH SEE", (ROOT / "docs" / page).read_text(), re.M | re.S)[1]
-    commands = re.findall(r"^(?:da65|as65|trace65|name65|ca65|ld65|cmp) .*", text, re.M)
+    commands = re.findall(rf"^(?:{'|'.join(MADE)}|cat|ca65|ld65|cmp) .*", text, re.M)
     return "\n".join(commands).replace(r"\(aq", "'").replace(r"\-", "-")
 
 
-@pytest.mark.parametrize("page", ("as65.1", "trace65.1", "name65.1"))
+@pytest.mark.parametrize("page", ("as65.1", "trace65.1", "name65.1", "move65.1", "html65.1"))
 def test_example_of(checkout, page):
     write("rom.bin", read("bin/da65")[:4096])
     Page("docs/" + page).does(example(page))
@@ -137,6 +137,14 @@ def options(name):
     found = re.findall("-[^ ,]+", " ".join(re.findall(r"^  (-[^ ]+(?: --[^ ]+)?)", text, re.M)))
     assert len(found) >= 10, text
     return found
+
+
+@pytest.mark.parametrize("program", MADE)
+def test_man_page_has_each_option(checkout, program):
+    """And no other."""
+    section = re.search(r"^\.SH OPTIONS(.*?)^\.SH", (ROOT / f"docs/{program}.1").read_text(), re.M | re.S)[1]
+    heads = " ".join(re.findall(r"^\.TP\n(.*)", section, re.M)).replace(r"\-", "-")
+    assert sorted(options(program)) == sorted(re.findall(r'(?<![^ "])--?\w[\w-]*', heads))
 
 
 def bash_completes(file, *words):
