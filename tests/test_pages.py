@@ -99,7 +99,7 @@ def test_page(checkout, name, record_property):
     page = Page(name)
     page.blocks()
     page.tables()
-    assert page.ran > 10 and page.found
+    assert page.ran >= 3 and page.found
     record_property("shown", f"{name}: {page.ran} commands ran, {page.found} excerpts found, {page.left_out} left out")
 
 
