@@ -13,8 +13,8 @@
 # make definitions   writes docs/DEFINITIONS.md anew, after a change of the comments at the head of definitions
 # make proofs        writes the tables of docs/PROOFS.md anew, after a change of the comments of clauses
 # make speed         counts instructions beside those of cc65's programs; needs cc65, valgrind and GNU time
-# make install       installs the programs, the man pages, the completions for bash and zsh, and the names of machines under PREFIX, by
-#                    default /usr/local. PROGRAM_PREFIX is put before the names of the programs, as in
+# make install       installs the programs, the man pages, the completions for bash and zsh, the names of machines, and repair.mk under
+#                    PREFIX, by default /usr/local. PROGRAM_PREFIX is put before the names of the programs, as in
 #                    `make install PROGRAM_PREFIX=proved-`, and DESTDIR before PREFIX.
 # make uninstall     removes them, with the same PREFIX, PROGRAM_PREFIX and DESTDIR
 # make clean         removes what was built
@@ -180,6 +180,8 @@ install: bin/da65 bin/as65 bin/trace65 bin/name65 bin/move65 bin/html65
 	done
 	@install -D -m 644 docs/da65.info.5 '$(share)/man/man5/$(PROGRAM_PREFIX)da65.info.5'
 	@install -D -m 644 -t '$(share)/$(PROGRAM_PREFIX)da65/names' names/*.inc names/*.info
+	@sed 's|^PROGRAMS ?=$$|& $(PREFIX)/bin/$(PROGRAM_PREFIX)|' share/repair.mk | \
+	    install -D -m 644 /dev/stdin '$(share)/$(PROGRAM_PREFIX)da65/repair.mk'
 
 uninstall:
 	@for name in '$(PROGRAM_PREFIX)da65' '$(PROGRAM_PREFIX)as65' '$(PROGRAM_PREFIX)trace65' '$(PROGRAM_PREFIX)name65' \
@@ -187,7 +189,7 @@ uninstall:
 	    rm -f "$(DESTDIR)$(PREFIX)/bin/$$name" "$(share)/man/man1/$$name.1" \
 	        "$(share)/bash-completion/completions/$$name" "$(share)/zsh/site-functions/_$$name"; \
 	done
-	@rm -f '$(share)/man/man5/$(PROGRAM_PREFIX)da65.info.5' \
+	@rm -f '$(share)/man/man5/$(PROGRAM_PREFIX)da65.info.5' '$(share)/$(PROGRAM_PREFIX)da65/repair.mk' \
 	    $(patsubst names/%,'$(share)/$(PROGRAM_PREFIX)da65/names/%',$(wildcard names/*.inc names/*.info))
 	@rmdir '$(share)/$(PROGRAM_PREFIX)da65/names' '$(share)/$(PROGRAM_PREFIX)da65' 2>/dev/null || true
 

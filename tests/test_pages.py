@@ -23,7 +23,7 @@ def checkout(folder, monkeypatch, request):
         os.symlink(folder / "bin" / name, "path/" + name)
     os.remove("examples")
     os.remove("names")
-    for name in "examples", "names", "completions":
+    for name in "examples", "names", "completions", "share":
         shutil.copytree(ROOT / name, name)
     for file, to in (ROOT / "Makefile", "."), (ROOT / "tests/stand_ins/ssh", "path"), *(
             (page, "docs") for page in (ROOT / "docs").glob("*.[15]")):
@@ -185,7 +185,7 @@ def test_what_is_installed(installed):
     files = [file for name in (prefix + name for name in MADE) for file in (
         f"bin/{name}", f"share/man/man1/{name}.1", f"share/bash-completion/completions/{name}",
         f"share/zsh/site-functions/_{name}")]
-    files += [f"share/man/man5/{prefix}da65.info.5"]
+    files += [f"share/man/man5/{prefix}da65.info.5", f"share/{prefix}da65/repair.mk"]
     files += [f"share/{prefix}da65/names/{path.name}" for path in (ROOT / "names").glob("*.in*")]
     assert sorted(files) == sorted(str(path.relative_to(made)) for path in made.rglob("*") if path.is_file())
     for name in MADE:
