@@ -1,13 +1,14 @@
 //! Bytes that are numbers.
 
+use crate::lookup::marks::ADDRESSES;
 use crate::tags::tag::{Tag, TagKind};
 use std::alloc::{AllocError, Allocator};
 
-/// Whether the byte so many addresses behind one is a number.
-fn is_number(numbers: &[u16], address: Option<u16>, k: u16) -> bool {
+/// Whether the byte so many addresses behind one is a number. Each address has a cell, unless there is no number.
+fn is_number(numbers: &[bool], address: Option<u16>, k: u16) -> bool {
     match address {
-        Some(address) => match address.checked_add(k) {
-            Some(at) => numbers.contains(&at),
+        Some(address) => match numbers.get(usize::from(address) + usize::from(k)) {
+            Some(&is_number) => is_number,
             None => false,
         },
         None => false,
@@ -15,7 +16,7 @@ fn is_number(numbers: &[u16], address: Option<u16>, k: u16) -> bool {
 }
 
 /// Whether one of the bytes of the k-th pair is a number.
-fn has_number(numbers: &[u16], tag: Tag, k: u16) -> bool {
+fn has_number(numbers: &[bool], tag: Tag, k: u16) -> bool {
     is_number(numbers, tag.low, k) || is_number(numbers, tag.high, k)
 }
 
@@ -42,7 +43,10 @@ pub fn without_numbers<A: Allocator + Copy>(
     let mut numbers = Vec::new(alloc);
     for tag in tags {
         if let (TagKind::Number, Some(address)) = (tag.kind, tag.address) {
-            numbers.push(address)?;
+            numbers.resize(ADDRESSES, false)?;
+            if let Some(cell) = numbers.get_mut(usize::from(address)) {
+                *cell = true;
+            }
         }
     }
     let mut found = Vec::new(alloc);
