@@ -136,7 +136,7 @@ try:
 
 test:
 	@mkdir -p bin
-	@python3 tests/lint
+	@python3 tests/lint | tee bin/lint.log
 	@$(pytest) -q -n auto tests/test_make.py
 	@echo 'Everything from nothing: docs/GATE.md says how long that takes. bin/gate.log keeps what the prover says.'
 	@rt ci 2>&1 | tee bin/gate.log
@@ -147,6 +147,7 @@ test:
 	@cp crates/move65/out/move65 bin/move65
 	@cp crates/html65/out/html65 bin/html65
 	@$(pytest) -q -n auto --ignore tests/test_make.py tests
+	@grep 'left out: ' bin/lint.log || true
 	@tail -n 1 bin/gate.log
 
 check: test
