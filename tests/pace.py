@@ -17,9 +17,8 @@ def word(value):
 
 
 def unit(*parts):
-    """An image has a unit for each k: these bytes, then `nop` and `rts`."""
-    data = b"".join(parts)
-    return data + (UNIT - 1 - len(data)) * b"\xea" + b"\x60"
+    """The bytes of an image for a number: these, and then `nop`, so that all code is reached."""
+    return b"".join(parts).ljust(UNIT, b"\xea")
 
 
 def other(k, n):
@@ -42,7 +41,8 @@ IMAGES = {
     "pointers": lambda k, n: unit(b"\xa9", low(k, n), b"\x85\x20\xa9", high(k, n), b"\x85\x21\xb1\x20"),
     "readers": lambda k, n: unit(b"\xbd", word(other(k, n)), b"\x48\xb9", word(other(k, n) + 8), b"\x48"),
     "equal readers": lambda k, n: unit(b"\xbd\x08\x00\x48\xb9\x00\x00\x85\x20"),
-    "calls": lambda k, n: unit(b"\x20", word(other(k, n)), b"\x4c", word(other(k, n))),
+    "calls": lambda k, n: unit(b"\x20", word(other(k, n)), b"\x20", word(other(k + 1, n))),
+    "routines": lambda k, n: unit(b"\x20", word(UNIT * (k + 1)), b"\x4c", word(other(k, n))),
     "calls of one": lambda k, n: unit(b"\x20\x00\x00\x20\x00\x00\x4c\x00\x00"),
     "branches": lambda k, n: unit(b"\xd0\x04\xf0\x02\x90\x00\xb0\xf8"),
     "texts": lambda k, n: bytes(65 + (k + i) % 26 for i in range(15)) + b"\0",

@@ -145,7 +145,7 @@ def test_da65_with_include_files(da65, shows, limit, lines, width, fill):
     shows(limit, instructions(da65.path, words), instructions("da65", words))
 
 
-def test_large_information_files(da65, shows, kind, count, half, limit):
+def test_large_information_files(da65, shows, kind, count, half, limit, kilobytes):
     """What it takes to list one byte with that many groups or lines, and with half as many."""
     write("one.bin", "\xea")
     words, before = "-i a.info -S 0 one.bin -o out.s", None
@@ -158,6 +158,7 @@ def test_large_information_files(da65, shows, kind, count, half, limit):
               f" for {number}; kilobytes {here:8} {there:8} {100 * here / there:7.1f} %")
         assert not before or ours <= 2.3 * before, "more than 2.3 times the instructions of half as many"
         before = ours
+    assert here <= 1.05 * kilobytes, f"{here} kilobytes, more than a twentieth above {kilobytes}"
 
 
 def files(what, kind, count):
