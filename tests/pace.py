@@ -122,7 +122,8 @@ def measured(case):
                     file.write("".join(LINES[kind].format(k=k, j=k * 7919 % count) for k in range(count)).encode())
             if program in READS_LISTINGS and kind in IMAGES:
                 words = [there + "/da65", "-i", "a.info", "-o", "a.s", "a.in"]
-                subprocess.run(words, cwd=here, stderr=subprocess.DEVNULL)
+                if subprocess.run(words, cwd=here, stderr=subprocess.DEVNULL).returncode:
+                    return case, 3 * [(0, 1)], ""
                 os.replace(here + "/a.s", here + "/a.in")
             words = ["timeout", "600", f"{there}/{program}", "-i", "a.info", "a.in"]
             made.append(taken(words, here, True) if in_seconds else taken(words[2:], here, False))
