@@ -207,6 +207,10 @@ def test_tables(page_of):
     assert rows_of(page_of("L: nop\nM: jmp L\n"), "Names") == ["L|$1000|1 jump", "M|$1001|none"]
 
 
+def test_rows(page_of, listing, title, rows):
+    assert rows_of(page_of(listing), title) == rows.split(", ")
+
+
 def test_styles(page_of):
     """The page loads nothing, has a dark theme and one for paper, and what it adds to the listing is not selected."""
     styles = page_of("nop").decode()
@@ -248,8 +252,10 @@ def runs_of(page):
             for x, y, width in re.findall(r"M(\d+) (\d+)h(\d+)", shape) for column in range(int(width))]
 
 
-def test_map(da65, page_of, listing, words, kinds):
+def test_map(da65, page_of, listing, words, kinds, rows):
+    """Each run is a link, and covers its addresses; the view box has as many rows as there are."""
     page = page_of(listing or da65(words, 0, None).out, words)
+    assert re.search(r'viewBox="0 -.5 (\d+ \d+)"', page.decode("latin-1"))[1] == rows
     kinds = [(kind, int(first, 16), int(last, 16)) for kind, first, last in re.findall(r"(\w+) (\w+)-(\w+)", kinds)]
     runs = list(runs_of(page))
     assert [(named, first, last) for _, first, last, named, _, _ in runs] == kinds
@@ -260,6 +266,12 @@ def test_map(da65, page_of, listing, words, kinds):
     head = re.sub("<[^>]*>", " ", re.search("<header>.*?</header>", page.decode("latin-1"), re.S)[0])
     assert {name: int(count) for name, count in re.findall(r"(code|text|bytes|words|addresses|filler) (\d+)",
                                                            head)} == dict(total)
+
+
+def test_titles(page_of):
+    """The title of a stretch names the label at its first address, and no constant."""
+    titles = re.findall("<title>(.*?)</title>", page_of("K := $1000\nL: nop\n .byte 1\n").decode())
+    assert titles[1:] == ["code $1000: L", "bytes $1001"]
 
 
 def test_pictures(whole):
@@ -280,6 +292,17 @@ def test_pictures(whole):
         shown = [bitmap[offset + line * (high - 1 - y):][:wide // 8] for y in range(high)]
         assert [row[:len(want)] for row, want in zip(shown, lines)] == lines and high == len(lines)
         assert all(not any(row[len(want):]) for row, want in zip(shown, lines))
+
+
+def test_wide_pictures(whole):
+    """81 bytes have eleven cells beside each other, and three rows of 40 bytes."""
+    data = bytes(number * 37 % 251 for number in range(81))
+    images = whole("".join(f" .byte {byte}\n" for byte in data)).images
+    for alt, wanted in (("cells of 8 by 8", [data[y::8].ljust(11, b"\0") for y in range(8)]),
+                        ("rows of 40 bytes", [data[:40], data[40:80], data[80:].ljust(40, b"\0")])):
+        bitmap, = (base64.b64decode(values["src"].partition(",")[2]) for _, values in images if values["alt"] == alt)
+        wide = (len(wanted[0]) + 3) // 4 * 4
+        assert [bitmap[62 + wide * (len(wanted) - 1 - y):][:len(row)] for y, row in enumerate(wanted)] == wanted
 
 
 @pytest.mark.skipif(not shutil.which("tidy"), reason="tidy is not installed")
