@@ -106,17 +106,17 @@ pub fn is_compared_by<E: Env>(process: &E) -> bool {
 /// What the words ask for. The first word is the program's name.
 ///
 /// Each option and the name of the listing may be given once. Help comes first, then the version, both before
-/// any value is looked at. Then the start is read, no output, `--in-place` or `--labels` may stand beside an
-/// image, and without one there must be a start. The output may not have the name of the listing, nor may
-/// standard input be both the listing and the image.
+/// any value is looked at. Then the values are read. No output, `--in-place` or `--labels` may stand beside an image;
+/// without one `--labels` may not stand beside `--in-place`, and there must be a start. Standard input can be one of
+/// the inputs alone, and the output may not have the name of one.
 #[tactic(auto, using(crate::proofs::CommandLemmas::app_is_plain))]
 pub fn request_of(alloc: Global, words: &[String]) -> Result<Request<Work>, RequestFault>
     /// For all words the request is that of the definition. It says which options there are, and takes help and
-    /// version before any value, then the start and the byte of `--fill`. To write bytes it needs a start or an
-    /// information file. A comparison takes no output, `--in-place` or `--labels`, and `--labels` not `--in-place`;
-    /// a comparison refuses an image that is standard input beside another input that is. Then the listing and the
-    /// information file may not both be standard input, and the output may have the name of neither. The first
-    /// refusal in this order counts; or out of memory.
+    /// version before any value, then the start and the byte of `--fill`. A comparison takes no output, `--in-place`
+    /// or `--labels`, and then no image that is standard input beside another input that is. Without a comparison
+    /// `--labels` may not stand beside `--in-place`, and then there has to be a start or an information file. Last,
+    /// the listing and the information file may not both be standard input, and then the output may have the name
+    /// of neither. The first refusal in this order counts; or out of memory.
     ensures { Gives (asked_of work_of) result
         (asked this_program work_in (map string_bytes words.now)) }
 {
