@@ -65,7 +65,7 @@ GROUPS = {
     "": "", "LABEL": LABEL,
     "LABEL with SIZE": 'LABEL {{ ADDR {a}; NAME "n{k}"; SIZE 9; }};',
     "LABEL in LABEL": 'LABEL {{ ADDR {k}; NAME "n{k}"; SIZE {nested}; }};',
-    "SEGMENT": 'SEGMENT {{ START {a}; END {end}; NAME "s{k}"; }};', "include": 'ASMINC {{ FILE "{k}.inc"; }};',
+    "SEGMENT": 'SEGMENT {{ START {a}; END {end}; NAME "s{k}"; }};', "include": "",
     **{kind: f"RANGE {{{{ START {{middle}}; SIZE 8; TYPE {kind}; }}}};" for kind in KINDS},
     "HALVES": LABEL + "\n#: HALVES {{ LOW {low}; HIGH {high}; }};",
     "HALVES far": LABEL + "\n#: HALVES {{ LOW {low}; HIGH {far}; }};",
@@ -82,13 +82,14 @@ READS_LISTINGS = ("as65", "name65", "html65", "move65")
 
 
 def information(folder, kind, n):
-    """An information file, with the include files that it names."""
+    """An information file, with the include file that it names."""
     text = "GLOBAL { STARTADDR 0; };\n"
+    if kind == "include":
+        text += 'ASMINC { FILE "names.inc"; };\n'
+        with open(folder + "/names.inc", "w") as file:
+            file.write("".join(f"i{k} = {UNIT * k}\n" for k in range(n)))
     for k in range(n):
         at = UNIT * k
-        if kind == "include":
-            with open(f"{folder}/{k}.inc", "w") as file:
-                file.write(f"i{k} = {at}\n")
         text += GROUPS[kind].format(
             k=k, a=at, low=at + 1, high=at + 3, middle=at + 8, end=at + UNIT - 1, next=at + UNIT, far=other(k, n) + 3,
             nested=2 * (n - k), after=UNIT * n + k) + "\n"
