@@ -14,7 +14,8 @@ const LIMIT: usize = 1_048_576;
 
 /// What these bytes say under the options, without include files. Refuses a file that da65 refuses.
 pub fn information_of<R>(alloc: Global, options: &Options, bytes: &[u8]) -> Result<Info, Failure<R>>
-    /// Reads an information file as da65 does, and refuses it for the same fault; or out of memory.
+    /// Reads an information file as da65 does before its include files, and refuses it for the same fault; or out of
+    /// memory.
     ensures value { IfOk result (λ info. information options.now bytes.now ≡ Ok info) }
     ensures refused { IfErr result (IsRefused (information options.now bytes.now)) }
 {

@@ -71,7 +71,7 @@ impl Sink for Output {
 /// Writes a text. Fails with `Writing`.
 pub fn write_text<W: Sink>(out: &mut W, text: &[u8]) -> Result<(), FileFault>
     /// Writes the whole text. If a write fails, a prefix of it has been written, and the count of failed writes
-    /// rises by one.
+    /// rises by one. What was written is said of every output that reports its bytes.
     ensures whole { OnOk result (Appends (W.taken out.old) (W.taken out.new) text.now) }
     ensures front { OnErr result (AppendsFront (W.taken out.old) (W.taken out.new) text.now) }
     ensures count { Counts (W.faults out.old) (W.faults out.new) result }

@@ -40,11 +40,14 @@ pub fn layout_of<'n>(
 }
 
 /// A text as people edit it, with segments that begin where the layout says.
-pub fn repair<'t, 'l, 'n>(
-    layout: &'l Layout<'n>,
-    start: u16,
-    text: &'t [u8],
-) -> Source<'t, 'l, 'n> {
+pub fn repair<'t, 'l, 'n>(layout: &'l Layout<'n>, start: u16, text: &'t [u8]) -> Source<'t, 'l, 'n>
+    /// A listing that is to be assembled, named, moved or shown is read in the language `Repair`: this text, from
+    /// this start, with segments that begin where the layout says.
+    ensures language { result.language ≡ Language.Repair }
+    ensures layout { result.layout.now ≡ layout.now }
+    ensures start { result.start ≡ start }
+    ensures text { result.text.now ≡ text.now }
+{
     Source {
         language: Language::Repair,
         layout,

@@ -22,8 +22,8 @@ pub fn read_from<R: Source>(
     input: &mut R,
     limit: usize,
 ) -> Result<Option<Vec<u8>>, AllocError>
-    /// Reads a device up to its end or a limit. Returns no contents exactly if a read failed, so a failed read
-    /// never counts as the end; or out of memory.
+    /// Returns what a device has left, if it reports that, up to a limit. The count of failed reads rises by one if
+    /// there are no contents, and stays if there are, so a failed read never counts as the end; or out of memory.
     ensures bytes { IfOk result (λ found. IfSome found (λ bytes.
         IfSome (R.left input.old) (λ xs. bytes.items ≡ take limit xs))) }
     ensures count { IfOk result (CountsMissing (R.faults input.old) (R.faults input.new)) }
