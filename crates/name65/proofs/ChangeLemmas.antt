@@ -6,7 +6,7 @@ use Rattle.std.proofs.lemmas.Bool.Decides.{nat_tests}
 use Rattle.std.proofs.lemmas.List.Folds.{list_all-append}
 use Rattle.text65.specs.Names.{is_blank}
 use Rattle.stmt65.specs.declared.source_line.Half.{Half}
-use Rattle.name65.specs.Changes.{AreListed, Becomes, IsList, IsRest, IsRevalued, LineBecomes, Scope, as_before, comment, count_of, is_between, is_touched, is_touched_constant, may_keep, more, names_one, no_comment, none, says}
+use Rattle.name65.specs.Changes.{AreListed, Becomes, IsCode, IsList, IsRest, IsRevalued, LineBecomes, Scope, as_before, comment, count_of, is_between, is_touched, is_touched_constant, may_keep, more, names_one, none, says}
 use Rattle.name65.specs.Written.{AppendsLine, AppendsOne, AreBlanks, scope_seen}
 use Rattle.name65.specs.declared.operands.Style.{Style}
 use Rattle.name65.specs.declared.operands.Style.TheVariants as style
@@ -65,11 +65,11 @@ all_done scope s start at end all rest old out new d is a = record {
 }
 
 -- blanks before a comment that changed
-pub rest_comment : (rest kept blanks after old first second new : List ℕ) → rest ≡ kept ++ (blanks ++ after) → list_all is_blank blanks ≡ true → after ≡ 59 ∷ drop 1 after
+pub rest_comment : (rest kept blanks after old first second new : List ℕ) → rest ≡ kept ++ (blanks ++ after) → IsCode kept → list_all is_blank blanks ≡ true → after ≡ 59 ∷ drop 1 after
     → first ≡ old ++ kept → AppendsOne AreBlanks first second → new ≡ second ++ after → AppendsOne (IsRest rest) old new
-rest_comment rest kept blanks after old first second new e b s k gap n = record {
+rest_comment rest kept blanks after old first second new e code b s k gap n = record {
   text = kept ++ (gap.text ++ after);
-  is_one = rw e (subst (λ a. IsRest (kept ++ (blanks ++ a)) (kept ++ (gap.text ++ a))) (sym s) (comment kept blanks gap.text (drop 1 after) b gap.is_one));
+  is_one = rw e (subst (λ a. IsRest (kept ++ (blanks ++ a)) (kept ++ (gap.text ++ a))) (sym s) (comment kept blanks gap.text (drop 1 after) code b gap.is_one));
   whole = rw (n, gap.whole, k) (simp append_assoc refl);
 }
 
@@ -81,16 +81,18 @@ pub fronted : (P Q : List ℕ → Type 0) (old first new front : List ℕ) → f
 fronted P Q old first new front e a q = record { text = front ++ a.text; is_one = q a.text a.is_one; whole = rw (a.whole, e, append_assoc) refl }
 
 -- a line with another value
-pub revalued : (line before was after first second now new : List ℕ) → line ≡ before ++ (was ++ after) → list_all no_comment was ≡ true → first ≡ before → second ≡ first ++ now
+pub revalued : (line before was after first second now new : List ℕ) → line ≡ before ++ (was ++ after) → IsCode before → IsCode was → IsCode now → first ≡ before → second ≡ first ++ now
     → AppendsOne (IsRest after) second new → IsRevalued line new
-revalued line before was after first second now new e h f g a = record {
+revalued line before was after first second now new e b w n f g a = record {
   before = before;
   was = was;
   now = now;
   rest = after;
   others = a.text;
   old_is = e;
-  whole = h;
+  code_before = b;
+  code_was = w;
+  code_now = n;
   is_rest = a.is_one;
   new_is = rw (a.whole, g, f) (simp append_assoc refl);
 }

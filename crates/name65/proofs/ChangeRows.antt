@@ -1,12 +1,12 @@
 -- What lines do not become.
-use Rattle.std.proofs.Common.{◌≡◌, ◌==◌, ◌++◌, ◌≢◌, ℕ, true, false, List, [], ◌∷◌, ap, arith, codes, get_or, not, refl}
+use Rattle.std.proofs.Common.{◌≡◌, ◌==◌, ◌&&◌, ◌+◌, ◌++◌, ◌≢◌, ℕ, Bool, true, false, List, [], ◌∷◌, ap, arith, codes, get_or, not, refl}
 use Rattle.std.proofs.lemmas.Bool.Decides.{nat_tests}
 use Rattle.std.proofs.lemmas.List.Elements.{filter-append}
 use Rattle.std.specs.List.{filter, list_all}
 use Rattle.text65.specs.Names.{is_blank}
 use Rattle.stmt65.specs.declared.language.Language.TheVariants.{Repair}
 use Rattle.stmt65.specs.declared.source_line.Half.TheVariants.{High, Low}
-use Rattle.name65.specs.Changes.{Becomes, IsRest, LineBecomes, Scope, as_before, by_name, comment, difference, kept, left_out, moved, rewritten, stays, untouched}
+use Rattle.name65.specs.Changes.{Becomes, IsRest, LineBecomes, Scope, are_named, as_before, by_name, comment, difference, kept, left_out, moved, rewritten, stays, untouched}
 use Rattle.name65.specs.declared.operands.Style.{Style}
 use Rattle.name65.specs.declared.operands.Style.TheVariants as style
 
@@ -14,11 +14,20 @@ use Rattle.name65.specs.declared.operands.Style.TheVariants as style
 abbrev one : Scope
 one = record { language = Repair; named = λ a. a == 0x1001; used = false; last = 0x2000 }
 
+both : (a b : Bool) → (a && b) ≡ true → a ≡ true
+both true b e = refl
+both false b e = e
+
+first_named : (s : Style) (at : ℕ) → are_named one.named s at ≡ true → one.named at ≡ true
+first_named style.Bytes at e = e
+first_named (style.Halves half) at e = e
+first_named style.Words at e = both (one.named at) (one.named (at + 1)) e
+
 -- an operand of which no group names the first byte stays
 unnamed_stays : (s : Style) (at : ℕ) (was now : List ℕ) → one.named at ≡ false → Becomes one s at was now → now ≡ was
 unnamed_stays s at was now e (kept k n) = refl
-unnamed_stays s at was now e (by_name which r is named ok) = cc
-unnamed_stays s at was now e (difference to from is named ok other) = cc
+unnamed_stays s at was now e (by_name which r is named ok) = let first = first_named s at named in cc
+unnamed_stays s at was now e (difference to from is named ok other) = let first = first_named style.Words at named in cc
 
 -- one that a group names does not
 not_both : true ≢ false
@@ -39,7 +48,7 @@ blanks_gone (x ∷ xs) e = let rest : list_all is_blank xs ≡ true → text_of 
 
 rest_kept : (rest others : List ℕ) → IsRest rest others → text_of others ≡ text_of rest
 rest_kept rest others as_before = refl
-rest_kept rest others (comment front blanks gap text b g) = simp (filter-append, blanks_gone gap g, blanks_gone blanks b) refl
+rest_kept rest others (comment front blanks gap text c b g) = simp (filter-append, blanks_gone gap g, blanks_gone blanks b) refl
 
 comment_dropped : IsRest (codes " ; low") [] → ⊥
 comment_dropped is = let e : text_of [] ≡ text_of (codes " ; low") = rest_kept _ _ is in cc

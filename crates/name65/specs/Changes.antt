@@ -95,12 +95,17 @@ abbrev pub address_text : Style → Half → Reference → List ℕ
 address_text style.Bytes which r = half_text which r
 address_text _ which r = reference_text r
 
+-- groups name each byte of a number of a list
+abbrev pub are_named : (ℕ → Bool) → Style → ℕ → Bool
+are_named named style.Words at = named at && named (at + 1)
+are_named named _ at = named at
+
 -- An operand of a list, with its first byte at an address, as it was and as it is: as before if no group names a byte
--- of it; else a number, and in its place what the list has there.
+-- of it; else a number all of whose bytes groups name, and in its place what the list has there.
 pub data Becomes (scope : Scope) : Style → ℕ → List ℕ → List ℕ → Type 0 where
   kept : {s : Style} {at : ℕ} {text : List ℕ} → may_keep s ≡ true → names_one scope.named at (at + count_of s text) ≡ false → Becomes scope s at text text
-  by_name : {s : Style} {at : ℕ} {text : List ℕ} (which : Half) (r : Reference) → IsNumber scope.language text → scope.named at ≡ true → IsByName r → Becomes scope s at text (address_text s which r)
-  difference : {at : ℕ} {text : List ℕ} (to from : List ℕ) → IsNumber scope.language text → scope.named at ≡ true → has_name_form to ≡ true → has_name_form from ≡ true → Becomes scope style.Words at text (to ++ codes " - " ++ from)
+  by_name : {s : Style} {at : ℕ} {text : List ℕ} (which : Half) (r : Reference) → IsNumber scope.language text → are_named scope.named s at ≡ true → IsByName r → Becomes scope s at text (address_text s which r)
+  difference : {at : ℕ} {text : List ℕ} (to from : List ℕ) → IsNumber scope.language text → are_named scope.named style.Words at ≡ true → has_name_form to ≡ true → has_name_form from ≡ true → Becomes scope style.Words at text (to ++ codes " - " ++ from)
 
 -- a blank, or one of `,<>()`
 abbrev pub is_between : ℕ → Bool
@@ -113,10 +118,17 @@ pub data AreListed (scope : Scope) (s : Style) (start : ℕ) : ℕ → List ℕ 
   more : {at : ℕ} {old new : List ℕ} (between was now : List ℕ) → AreListed scope s start at old new → list_all is_between between ≡ true → Becomes scope s at was now
       → AreListed scope s start (at + count_of s was) (old ++ (between ++ was)) (new ++ (between ++ now))
 
+abbrev pub no_comment : ℕ → Bool
+no_comment b = not (b == 59)
+
+-- bytes before the comment of a line
+abbrev pub IsCode : List ℕ → Type 0
+IsCode text = list_all no_comment text ≡ true
+
 -- What stands after the last operand: as before, but for the blanks before a comment.
 pub data IsRest : List ℕ → List ℕ → Type 0 where
   as_before : {rest : List ℕ} → IsRest rest rest
-  comment : (kept blanks others text : List ℕ) → list_all is_blank blanks ≡ true → list_all is_blank others ≡ true
+  comment : (kept blanks others text : List ℕ) → IsCode kept → list_all is_blank blanks ≡ true → list_all is_blank others ≡ true
       → IsRest (kept ++ (blanks ++ 59 ∷ text)) (kept ++ (others ++ 59 ∷ text))
 
 -- a list that gives the bytes from `start` to before `end`, and what stands after it
@@ -134,16 +146,16 @@ pub record IsList (scope : Scope) (s : Style) (start end : ℕ) (old new : List 
 
 -- A line that gives the bytes from `at` to before `end`, as it was and as it is: the list of a `.byte` or
 -- `.word`; a `.byte` that becomes a list of halves; the operand after a `#`; or the address of an instruction,
--- which a group names by the instruction.
+-- which a group names by the instruction. None of these stands in a comment.
 pub data IsRewritten (scope : Scope) (at end : ℕ) : List ℕ → List ℕ → Type 0 where
-  table : {old new : List ℕ} (s : Style) (before word : List ℕ) → may_keep s ≡ true → same word (directive_of s) ≡ true → IsList scope s at end old new
+  table : {old new : List ℕ} (s : Style) (before word : List ℕ) → IsCode before → may_keep s ≡ true → same word (directive_of s) ≡ true → IsList scope s at end old new
       → IsRewritten scope at end (before ++ (word ++ old)) (before ++ (word ++ new))
-  halves : {old new : List ℕ} (which : Half) (before word blanks others : List ℕ) → same word (codes ".byte") ≡ true
+  halves : {old new : List ℕ} (which : Half) (before word blanks others : List ℕ) → IsCode before → same word (codes ".byte") ≡ true
       → list_all is_blank blanks ≡ true → list_all is_blank others ≡ true → IsList scope (style.Halves which) at end old new
       → IsRewritten scope at end (before ++ (word ++ (blanks ++ old))) (before ++ (directive_of (style.Halves which) ++ (others ++ new)))
-  immediate : {old new : List ℕ} (before : List ℕ) → scope.named at ≡ false → IsList scope style.Bytes (at + 1) end old new
+  immediate : {old new : List ℕ} (before : List ℕ) → IsCode before → scope.named at ≡ false → IsList scope style.Bytes (at + 1) end old new
       → IsRewritten scope at end (before ++ 35 ∷ old) (before ++ 35 ∷ new)
-  address : {rest others : List ℕ} (before was : List ℕ) (r : Reference) → IsValue scope.language was → IsByName r
+  address : {rest others : List ℕ} (before was : List ℕ) (r : Reference) → IsCode before → IsValue scope.language was → IsByName r
       → scope.named at ≡ true → names_one scope.named (at + 1) end ≡ false → IsRest rest others
       → IsRewritten scope at end (before ++ (was ++ rest)) (before ++ (reference_text r ++ others))
 
@@ -165,9 +177,6 @@ is_touched scope at end line = if nat_lt at end then names_one scope.named at en
 abbrev pub moves : Scope → ℕ → Bool
 moves scope n = scope.named n && nat_le scope.last n
 
-abbrev pub no_comment : ℕ → Bool
-no_comment b = not (b == 59)
-
 -- a line with another value, and otherwise as before but for the blanks before a comment
 pub record IsRevalued (old new : List ℕ) : Type 0 where
   pub before : List ℕ
@@ -177,7 +186,9 @@ pub record IsRevalued (old new : List ℕ) : Type 0 where
   pub others : List ℕ
   pub old_is : old ≡ before ++ (was ++ rest)
   pub new_is : new ≡ before ++ (now ++ others)
-  pub whole : list_all no_comment was ≡ true
+  pub code_before : IsCode before
+  pub code_was : IsCode was
+  pub code_now : IsCode now
   pub is_rest : IsRest rest others
 
 -- A line that gives the bytes from `at` to before `end`; what stands in its place; and

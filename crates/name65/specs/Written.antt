@@ -4,7 +4,7 @@ use Rattle.std.specs.List.{list_all}
 use Rattle.text65.specs.Names.{is_blank}
 use Rattle.stmt65.specs.Words.{PlaceAssignment, held}
 use Rattle.map65.specs.Words.{is_marked}
-use Rattle.name65.specs.Changes.{Becomes, IsList, IsNumber, IsRewritten, LineBecomes, Scope, moves, says}
+use Rattle.name65.specs.Changes.{Becomes, IsList, IsNumber, IsRewritten, LineBecomes, Scope, are_named, moves, says}
 use Rattle.name65.specs.declared.constants.Fate.{Fate}
 use Rattle.name65.specs.declared.constants.Fate.TheVariants.{Kept, LeftOut, Moved}
 use Rattle.name65.specs.declared.plan.NewText.{NewText}
@@ -38,10 +38,10 @@ Lists run old new = AppendsOne (IsList (scope_seen run.plan.now) run.style run.a
 abbrev pub Opens : PlacedLine → Run → List ℕ → List ℕ → Type 0
 Opens placed run old new = (whole : List ℕ) → Lists run new whole → Rewrites placed old whole
 
--- a number that a group names
+-- a number all of whose bytes groups name
 pub record IsNamedNumber (item : Run) : Type 0 where
   pub number : IsNumber item.plan.now.language item.text.now
-  pub named : is_marked item.plan.now.marks.now item.at ≡ true
+  pub named : are_named (is_marked item.plan.now.marks.now) item.style item.at ≡ true
 
 -- a line was appended as it becomes, and what moves behind the last line
 pub record AppendsLine (placed : PlacedLine) (old new : NewText) : Type 0 where

@@ -8,7 +8,7 @@ use crate::marks::has_mark;
 use crate::operands::{is_value, keep_free};
 use crate::plan::PlacedLine;
 use crate::reference::{Reference, put_reference};
-use crate::rewriting::{cut_at, put_rest};
+use crate::rewriting::{cut_at, has_no_comment, put_rest};
 use stmt65::{Language, Part, Places, Span};
 use text65::has_name_form;
 
@@ -51,6 +51,7 @@ pub fn put_address(
     let found = cut_at(line, span.from, span.to)?;
     need(plan.marks.get_at(at as usize))?;
     need(!has_mark(plan.marks, next, end))?;
+    need(has_no_comment(found.before))?;
     need(is_value(plan.language, found.within))?;
     need(has_name_form(reference.name))?;
     out.extend_from_slice(found.before)?;

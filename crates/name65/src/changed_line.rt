@@ -7,7 +7,7 @@ use crate::address_operand::put_address;
 use crate::complaint::{Refusal, after, need};
 use crate::operands::{Style, keep_free};
 use crate::plan::PlacedLine;
-use crate::rewriting::{Run, are_blank, blank_len, cut_at, put_gap, put_list};
+use crate::rewriting::{Run, are_blank, blank_len, cut_at, has_no_comment, put_gap, put_list};
 use crate::wishes::{Wish, Wished, Wishes};
 use stmt65::{Half, Part, Places, Span};
 
@@ -78,6 +78,7 @@ fn open_list<'w, 't>(
         end,
     } = *placed;
     let found = cut_at(line, opening.from, opening.to)?;
+    need(has_no_comment(found.before))?;
     out.extend_from_slice(found.before)?;
     let run = Run {
         plan,

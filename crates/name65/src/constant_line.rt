@@ -1,15 +1,14 @@
 //! Lines that give no bytes: as they were, left out, or after the last line.
 
 ghost use Rattle.std.specs.Prelude.{◌≡◌, ◌++◌, ◌∷◌, [], false, IfOk, IsTrue, MatchOption, OnOk, nat_lt};
-ghost use Rattle.std.specs.List.{list_all};
 ghost use Rattle.stmt65.specs.Words.{Assignment, numeral_of};
-ghost use Rattle.name65.specs.Changes.{IsRevalued, is_touched_constant, no_comment, says};
+ghost use Rattle.name65.specs.Changes.{IsRevalued, is_touched_constant, says};
 ghost use Rattle.name65.specs.Written.{AppendsLine, IsPlaced, scope_seen};
 
 use crate::complaint::{Refusal, need};
 use crate::constants::{Fate, fate_of};
 use crate::plan::{NewText, PlacedLine, Plan};
-use crate::rewriting::{cut_at, put_rest};
+use crate::rewriting::{cut_at, has_no_comment, put_rest};
 use files65::put_decimal;
 use std::alloc::AllocError;
 use stmt65::{Language, Numeral, Places, SourceLine, Span, read_line};
@@ -32,12 +31,6 @@ fn value_of(language: Language, line: &[u8]) -> Option<Span> {
     Some(Span { from, to })
 }
 
-fn has_no_comment(bytes: &[u8]) -> bool
-    ensures { result ≡ list_all no_comment bytes.now }
-{
-    bytes.iter().all(|byte| *byte != b';')
-}
-
 /// The constant line of a name whose value is this far from the end of the text: `NAME := * + n`.
 fn moved(plan: &Plan<'_, '_>, line: &[u8], distance: u64) -> Result<Vec<u8>, Refusal>
     ensures { IfOk result (λ text. IsRevalued line.now text.items) }
@@ -46,10 +39,15 @@ fn moved(plan: &Plan<'_, '_>, line: &[u8], distance: u64) -> Result<Vec<u8>, Ref
         return Err(Refusal::Changed);
     };
     let found = cut_at(line, span.from, span.to)?;
+    need(has_no_comment(found.before))?;
     need(has_no_comment(found.within))?;
+    let mut value = Vec::new(plan.alloc);
+    put_decimal(&mut value, b":= * + ", distance as usize)?;
+    let written = value.as_slice();
+    need(has_no_comment(written))?;
     let mut out = Vec::new(plan.alloc);
     out.extend_from_slice(found.before)?;
-    put_decimal(&mut out, b":= * + ", distance as usize)?;
+    out.extend_from_slice(written)?;
     put_rest(&mut out, found.after, span.to, 0)?;
     Ok(out)
 }

@@ -70,7 +70,9 @@ pub fn named_text(
     /// `<NAME` or `>NAME`, also with what is added or subtracted; in that of a number of a `.word`, a name with what
     /// is added or subtracted, or `TO - FROM`; in that of the address of an instruction whose first byte a group
     /// names, a name with what is added or subtracted. Each operand that a group names changes so, or nothing is
-    /// written. A `.byte` all of whose operands become halves without a sign is `.lobytes` or `.hibytes`.
+    /// written. A `.byte` all of whose operands become halves without a sign is `.lobytes` or `.hibytes`. A number of
+    /// a `.word` changes only if groups name both of its bytes. Nothing in a comment changes. Which of the names stands
+    /// there is tested, not proved.
     ///
     /// A constant line is left out only with `--used`. It moves after the last line if a group names its value and
     /// that is not before the end of the text: there a line defines the same name with the same value, `NAME := * +

@@ -1,8 +1,9 @@
 //! The operands of a line, and what stands in their places.
 
-ghost use Rattle.std.specs.Prelude.{◌≡◌, IsTrue, OnOk};
+ghost use Rattle.std.specs.Prelude.{◌≡◌, IsTrue, OnOk, true};
 ghost use Rattle.std.specs.List.{list_all};
-ghost use Rattle.name65.specs.Changes.{IsValue, count_of, directive_of, is_between, may_keep, size_of};
+ghost use Rattle.map65.specs.Words.{is_marked};
+ghost use Rattle.name65.specs.Changes.{IsValue, are_named, count_of, directive_of, is_between, may_keep, size_of};
 ghost use Rattle.name65.specs.Written.{IsNamedNumber, Replaces};
 
 use crate::complaint::{Complaint, Refusal, after, need};
@@ -10,6 +11,7 @@ use crate::marks::has_mark;
 use crate::reference::put_in_list;
 use crate::rewriting::Run;
 use crate::wishes::{Wish, Wished, Wishes};
+use map65::Marks;
 use stmt65::{Datum, Half, Language, Places, Span, Value, read_value};
 use text65::{has_name_form, is_blank};
 
@@ -150,12 +152,26 @@ pub fn is_value(language: Language, text: &[u8]) -> bool
     }
 }
 
-/// Whether an operand is a number that a group names.
+/// Whether groups name each byte of a number of a list.
+fn are_named(marks: &Marks, style: Style, at: u64) -> bool
+    ensures { IsTrue result → are_named (is_marked marks.now) style at ≡ true }
+{
+    let first = marks.get_at(at as usize);
+    match (style, at.checked_add(1)) {
+        (Style::Words, Some(second)) => first && marks.get_at(second as usize),
+        (Style::Words, None) => false,
+        _ => first,
+    }
+}
+
+/// Whether an operand is a number all of whose bytes groups name.
 fn is_named_number(item: &Run<'_, '_>) -> bool
     ensures { IsTrue result → IsNamedNumber item.now }
 {
     match read_value(item.plan.language, item.text) {
-        Some(Value::Number(_) | Value::Sum(_, _)) => item.plan.marks.get_at(item.at as usize),
+        Some(Value::Number(_) | Value::Sum(_, _)) => {
+            are_named(item.plan.marks, item.style, item.at)
+        }
         _ => false,
     }
 }

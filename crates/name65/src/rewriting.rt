@@ -6,7 +6,7 @@
 ghost use Rattle.std.specs.Prelude.{◌≡◌, ◌≤◌, ◌++◌, ◌∷◌, IfOk, IfSome, OnOk, drop, length, true};
 ghost use Rattle.std.specs.List.{list_all};
 ghost use Rattle.text65.specs.Names.{is_blank};
-ghost use Rattle.name65.specs.Changes.{IsRest};
+ghost use Rattle.name65.specs.Changes.{IsRest, no_comment};
 ghost use Rattle.name65.specs.Written.{AppendsOne, AreBlanks, Lists};
 
 use crate::complaint::{Refusal, after, need};
@@ -52,6 +52,13 @@ pub fn are_blank(bytes: &[u8]) -> bool
     bytes.iter().all(|byte| is_blank(*byte))
 }
 
+/// Whether no byte is the `;` of a comment.
+pub fn has_no_comment(bytes: &[u8]) -> bool
+    ensures { result ≡ list_all no_comment bytes.now }
+{
+    bytes.iter().all(|byte| *byte != b';')
+}
+
 /// Appends blanks up to a column, from 0, but at least one.
 pub fn put_gap(out: &mut Vec<u8>, column: usize) -> Result<(), AllocError>
     ensures { OnOk result (AppendsOne AreBlanks out.old.items out.new.items) }
@@ -66,6 +73,7 @@ pub fn put_gap(out: &mut Vec<u8>, column: usize) -> Result<(), AllocError>
 /// Cuts what stands after so many bytes into blanks and a comment, if that is what stands there.
 fn comment_after(rest: &[u8], kept: usize) -> Option<Cut<'_>>
     ensures whole { IfSome result (λ c. rest.now ≡ c.before.now ++ (c.within.now ++ c.after.now)) }
+    ensures kept { IfSome result (λ c. list_all no_comment c.before.now ≡ true) }
     ensures blank { IfSome result (λ c. list_all is_blank c.within.now ≡ true) }
     ensures sign { IfSome result (λ c. c.after.now ≡ 59 ∷ drop 1 c.after.now) }
 {
@@ -74,7 +82,9 @@ fn comment_after(rest: &[u8], kept: usize) -> Option<Cut<'_>>
         return None;
     };
     match found.after {
-        [b';', ..] if 0 < blanks && are_blank(found.within) => Some(found),
+        [b';', ..] if 0 < blanks && has_no_comment(found.before) && are_blank(found.within) => {
+            Some(found)
+        }
         _ => None,
     }
 }

@@ -23,7 +23,7 @@ returns-in_ok-extend_from_slice-in-Some-Difference-Words-3 c =
     let number = c.is_named_number-in-Some-Difference-Words.ensures c.in_ok-need-in-Some-Difference-Words.ensures in
     let step = c.in-Some-Difference-Words in record {
       text = step.to.now ++ codes " - " ++ step.from.now;
-      is_one = rw step.is-1 (difference step.to.now step.from.now number.number number.named (grind (arith, c.has_name_form-in-Some-Difference-Words.ensures, c.in_ok-need-in-Some-Difference-Words-2.ensures))
+      is_one = rw step.is-1 (difference step.to.now step.from.now number.number (rw step.is-1 at number.named) (grind (arith, c.has_name_form-in-Some-Difference-Words.ensures, c.in_ok-need-in-Some-Difference-Words-2.ensures))
           (grind (arith, c.has_name_form-in-Some-Difference-Words-2.ensures, c.in_ok-need-in-Some-Difference-Words-3.ensures)));
       whole = rw (c.in_ok-extend_from_slice-in-Some-Difference-Words-3.ensures.items, c.in_ok-extend_from_slice-in-Some-Difference-Words-2.ensures.items, c.in_ok-extend_from_slice-in-Some-Difference-Words.ensures.items) (simp append_assoc refl);
     }
