@@ -23,7 +23,8 @@ WRONG_BODIES = {
     "trace65": """setting_not_compared proposals_left_out longer_item_passed_over""",
     "html65": """unescaped_text_read_as_text lost_line_passed_over other_text_passed_over link_to_no_element page_despite_its_fault
         fault_of_a_later_line""",
-    "name65": """comments_left_out groups_do_nothing number_kept_in_a_list used_constants_left_out""",
+    "name65": """comments_left_out fill_moves_nothing groups_do_nothing names_stay_above_labels number_kept_in_a_list
+        used_constants_left_out""",
     "run65": """program_counter_overflows decimal_difference_overflows""",
     "move65": """text_is_not_read_back moved_address_overflows""",
 }

@@ -1,3 +1,4 @@
 mod ChangeLemmas
 mod ChangeRows
 mod CommandLemmas
+pub mod ReorderLemmas

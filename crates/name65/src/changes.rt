@@ -4,7 +4,7 @@ ghost use Rattle.std.specs.Prelude.{◌≡◌, IfOk, OnOk};
 ghost use Rattle.text65.specs.Lines.{text_lines};
 ghost use Rattle.stmt65.specs.Words.{source_addresses};
 ghost use Rattle.name65.specs.Changes.{LinesBecome};
-ghost use Rattle.name65.specs.NamedText.{IsNamed};
+ghost use Rattle.name65.specs.NamedText.{IsNamed, listing_of};
 ghost use Rattle.name65.specs.Written.{AppendsLine, scope_seen};
 
 use crate::changed_line::put_operation;
@@ -86,7 +86,8 @@ pub fn changed_text<'t, 'b>(
     used: bool,
 ) -> Result<Changed<'t, 'b>, Refusal>
     requires { assembly.now.ends ≡ source_addresses source.now }
-    ensures { IfOk result (λ changed. IsNamed source.now tags.now used changed.text.items) }
+    ensures { IfOk result (λ changed.
+        IsNamed (listing_of source.now) tags.now used changed.text.items) }
 {
     let marks = mark_named(*alloc, tags)?;
     let wishes = Wishes::new(*alloc, source, assembly, info, tags, used)?;

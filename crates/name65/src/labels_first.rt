@@ -4,62 +4,173 @@
 //! has a label, whoever puts a line after `LABEL:` puts it between, and the name is off. So `LABEL:` gets
 //! a line of its own above these lines.
 
-ghost use Rattle.std.specs.Prelude.{IfErr, IfOk};
-ghost use Rattle.name65.specs.NamedText.{MeansTheSame, Reports};
+ghost use Rattle.std.specs.Prelude.{◌≡◌, ◌++◌, ◌∷◌, [], IfErr, IfOk, IfSome, OnOk, map};
+ghost use Rattle.text65.specs.Lines.{text_lines};
+ghost use Rattle.name65.specs.NamedText.{MeansTheSame, Reports, listing_of};
+ghost use Rattle.std.specs.List.{list_all};
+ghost use Rattle.name65.specs.Reordered.{AreReordered, IsCutAt, Settles, TakesLine, blank_below, cut_text, is_before_colon, is_place, kind_of};
 
+use crate::complaint::Refusal;
 use crate::constant_line::put_kept;
 use crate::failure::{Failure, Refused};
 use crate::named_text::assembled;
+use crate::rewriting::cut_at;
 use std::alloc::{AllocError, Global};
-use stmt65::{AsmFaultKind, Operation, Source, SourceLine, assemble_source, read_line};
+use stmt65::{AsmFaultKind, Language, Operation, Source, SourceLine, assemble_source, read_line};
 use text65::{first_line, is_blank};
 
-/// Appends the lines `NAME := * + n`, and before them the label of the line that follows; what
-/// comes after the label keeps its column.
-fn put_split(
-    out: &mut Vec<u8>,
-    places: &[u8],
-    line: &[u8],
-    has_operation: bool,
-) -> Result<(), AllocError> {
-    if !has_operation {
-        put_kept(out, line)?;
-        return out.extend_from_slice(places);
+/// What a line is beside lines `NAME := * + n`.
+#[derive(Clone, Copy)]
+enum Kind {
+    /// A line `NAME := * + n`.
+    Place,
+    /// A line with a label and nothing else.
+    Label,
+    /// A line with a label before an operation.
+    Labelled,
+    Other,
+}
+
+fn kind_of(alloc: Global, language: Language, line: &[u8]) -> Result<Kind, AllocError>
+    ensures { IfOk result (λ kind. kind ≡ kind_of language line.now) }
+{
+    match read_line(alloc, language, line)? {
+        Some(SourceLine::PlaceAssignment(_, _)) => Ok(Kind::Place),
+        Some(
+            SourceLine::Statement {
+                label: Some(_),
+                operation: Operation::Nothing,
+            },
+        ) => Ok(Kind::Label),
+        Some(SourceLine::Statement { label: Some(_), .. }) => Ok(Kind::Labelled),
+        _ => Ok(Kind::Other),
     }
-    let before = line.iter().take_while(|byte| **byte != b':').count();
-    let (label, rest) = line.split_at(before.saturating_add(1).min(line.len()));
-    put_kept(out, label)?;
+}
+
+fn is_place(kind: Kind) -> bool
+    ensures { result ≡ is_place kind }
+{
+    matches!(kind, Kind::Place)
+}
+
+/// Appends a blank for each of these bytes, or the blank that it is.
+fn put_margin(out: &mut Vec<u8>, label: &[u8]) -> Result<(), AllocError>
+    ensures { OnOk result (out.new.items ≡ out.old.items ++ map blank_below label.now) }
+{
+    'label: for &byte in label {
+        out.push(if is_blank(byte) { byte } else { b' ' })?;
+    }
+    Ok(())
+}
+
+/// Appends a line with a label, above the rest of it the lines `NAME := * + n`; the rest keeps its column.
+fn put_cut(out: &mut Vec<u8>, places: &[u8], label: &[u8], rest: &[u8]) -> Result<(), AllocError>
+    ensures { OnOk result
+        (out.new.items ≡ out.old.items ++ cut_text places.now label.now rest.now) }
+{
+    out.extend_from_slice(label)?;
+    out.extend_from_slice(b":\n")?;
     out.extend_from_slice(places)?;
-    for byte in label {
-        out.push(if is_blank(*byte) { *byte } else { b' ' })?;
-    }
+    put_margin(out, label)?;
+    out.extend_from_slice(b" ")?;
     put_kept(out, rest)
 }
 
+/// A label without its `:`, and what stands after that.
+#[derive(Clone, Copy)]
+struct CutLabel<'l> {
+    label: &'l [u8],
+    rest: &'l [u8],
+}
+
+/// Whether all of these bytes may stand before the `:` of a label.
+fn are_before_colon(bytes: &[u8]) -> bool
+    ensures { result ≡ list_all is_before_colon bytes.now }
+{
+    bytes.iter().all(|byte| *byte != b':' && *byte != b';')
+}
+
+/// Cuts a line after its label.
+fn cut_label(line: &[u8]) -> Option<CutLabel<'_>>
+    ensures { IfSome result (λ c. IsCutAt line.now c.label.now c.rest.now) }
+{
+    let count = line.iter().take_while(|byte| **byte != b':').count();
+    let found = cut_at(line, count, count.checked_add(1)?).ok()?;
+    if found.within == b":".as_slice() && are_before_colon(found.before) {
+        return Some(CutLabel {
+            label: found.before,
+            rest: found.after,
+        });
+    }
+    None
+}
+
+/// Appends lines `NAME := * + n` and then another line.
+fn put_below(out: &mut Vec<u8>, places: &[u8], line: &[u8]) -> Result<(), AllocError>
+    ensures { OnOk result (out.new.items ≡ (out.old.items ++ places.now) ++ (line.now ++ 10 ∷ [])) }
+{
+    out.extend_from_slice(places)?;
+    put_kept(out, line)
+}
+
+/// Appends a line and then lines `NAME := * + n`.
+fn put_above(out: &mut Vec<u8>, places: &[u8], line: &[u8]) -> Result<(), AllocError>
+    ensures { OnOk result (out.new.items ≡ (out.old.items ++ (line.now ++ 10 ∷ [])) ++ places.now) }
+{
+    put_kept(out, line)?;
+    out.extend_from_slice(places)
+}
+
+/// Appends a line of a kind with the lines `NAME := * + n` above it: below a label, above a line without one.
+fn put_settled(out: &mut Vec<u8>, kind: Kind, places: &[u8], line: &[u8]) -> Result<(), Refusal>
+    ensures { OnOk result (Settles kind places.now line.now out.old.items out.new.items) }
+{
+    match kind {
+        Kind::Label => Ok(put_above(out, places, line)?),
+        Kind::Labelled => match cut_label(line) {
+            Some(found) => Ok(put_cut(out, places, found.label, found.rest)?),
+            None => Err(Refusal::Changed),
+        },
+        Kind::Place | Kind::Other => Ok(put_below(out, places, line)?),
+    }
+}
+
+/// Takes one line more. Lines `NAME := * + n` are held back until another line comes: if that has a label, the label
+/// comes first.
+fn take_line(
+    out: &mut Vec<u8>,
+    places: &mut Vec<u8>,
+    alloc: Global,
+    language: Language,
+    line: &[u8],
+) -> Result<(), Refusal>
+    ensures { OnOk result (TakesLine language line.now places.old.items out.old.items
+        places.new.items out.new.items) }
+{
+    let kind = kind_of(alloc, language, line)?;
+    if is_place(kind) {
+        put_kept(places, line)?;
+        return Ok(());
+    }
+    let held = places.as_slice();
+    if held.is_empty() {
+        put_kept(out, line)?;
+        return Ok(());
+    }
+    put_settled(out, kind, held, line)?;
+    places.clear();
+    Ok(())
+}
+
 /// The lines of a text, each label before the names inside its instruction.
-fn reordered(alloc: Global, source: &Source<'_, '_, '_>) -> Result<Vec<u8>, AllocError> {
+fn reordered(alloc: Global, language: Language, text: &[u8]) -> Result<Vec<u8>, Refusal>
+    ensures { IfOk result (λ out. AreReordered language (text_lines text.now) out.items) }
+{
     let mut out = Vec::new(alloc);
     let mut places = Vec::new(alloc);
-    let mut rest = source.text;
+    let mut rest = text;
     'lines: while let Some((line, after)) = first_line(rest) {
-        match read_line(alloc, source.language, line)? {
-            Some(SourceLine::PlaceAssignment(_, _)) => put_kept(&mut places, line)?,
-            Some(
-                SourceLine::Statement {
-                    label: Some(_),
-                    operation,
-                },
-            ) if !places.is_empty() => {
-                let has_operation = !matches!(operation, Operation::Nothing);
-                put_split(&mut out, &places, line, has_operation)?;
-                places.clear();
-            }
-            _ => {
-                out.extend_from_slice(&places)?;
-                places.clear();
-                put_kept(&mut out, line)?;
-            }
-        }
+        take_line(&mut out, &mut places, alloc, language, line)?;
         rest = after;
     }
     out.extend_from_slice(&places)?;
@@ -76,13 +187,18 @@ pub fn with_labels_first(
     source: &Source<'_, '_, '_>,
 ) -> Result<Vec<u8>, Failure>
     /// With `--labels-first` the text that is written by names means exactly the bytes that the listing means, from
-    /// the same start. It has the lines of the listing in another order, or anything else that means these bytes.
-    ensures same { IfOk result (λ text. MeansTheSame source.now text.items) }
+    /// the same start.
+    ensures same { IfOk result (λ text. MeansTheSame (listing_of source.now) text.items) }
+    /// It has the lines of the listing in their order, but lines `NAME := * + n` right above a line with a label stand
+    /// below the label. What else stands on the line of the label comes below them, in its column. Nothing is left out,
+    /// and no comment changes.
+    ensures reordered { IfOk result (λ text.
+        AreReordered source.now.language (text_lines source.now.text.now) text.items) }
     /// As in `named_text`.
     ensures fault { IfErr result (Reports name.now source.now) }
 {
     let assembly = assembled(&alloc, name, source)?;
-    let text = reordered(alloc, source)?;
+    let text = reordered(alloc, source.language, source.text)?;
     match assemble_source(
         alloc,
         &Source {

@@ -1,8 +1,8 @@
 //! Writes addresses in a listing by their names, so that it moves: `name65 [options] [listing]`.
 //!
 //! In order: the options, then help or version, whether the output is an input, the information file, the listing, its
-//! text by names, and the output, which is created only now. `named_text` has the promise: the text has the bytes of
-//! the listing. The status is 0 if the text, the help text or the version was written, otherwise 1.
+//! text by names, and the output, which is created only now. `listing_by_names` has the promise: the text has the bytes
+//! of the listing. The status is 0 if the text, the help text or the version was written, otherwise 1.
 #![tactic(auto)]
 
 mod address_operand;
@@ -15,6 +15,7 @@ mod constant_line;
 mod constants;
 mod failure;
 mod labels_first;
+mod listing;
 mod marks;
 mod named_text;
 mod names;
@@ -27,35 +28,14 @@ mod wishes;
 
 use failure::Failure;
 use files65::{
-    Output, Placeholders, end, information_at, keep_files, layout_of, read_information,
-    read_listing, repair, start_or_end, tags_of, write_text,
+    Output, Placeholders, end, information_at, keep_files, read_information, read_listing, tags_of,
+    write_text,
 };
-use info65::{Info, Tag, without_numbers};
-use labels_first::with_labels_first;
-use named_text::named_text;
+use info65::without_numbers;
+use listing::listing_by_names;
 use request::{Naming, request_of};
 use std::process::ExitCode;
 use usage65::{Request, words_of};
-
-/// The listing of this text by names; if that is asked for, with its labels first.
-fn named_under(
-    rt: &HostRuntime,
-    naming: &Naming,
-    info: &Info,
-    tags: &[Tag],
-    text: &[u8],
-) -> Result<Vec<u8>, Failure> {
-    let name = naming.names.listing.as_str();
-    let layout = layout_of(rt.alloc(), info.segments(), naming.fill)?;
-    let start = start_or_end(rt.alloc(), info.settings().start, &layout, text)?;
-    let source = repair(&layout, start, text);
-    if !naming.labels_first {
-        return named_text(rt.alloc(), name, &source, info, tags, naming.used);
-    }
-    let text = with_labels_first(rt.alloc(), name, &source)?;
-    let source = repair(&layout, start, &text);
-    named_text(rt.alloc(), name, &source, info, tags, naming.used)
-}
 
 /// The listing of these files by names. Halves that a NUMBER takes back count for nothing.
 fn named_listing(rt: &HostRuntime, naming: &Naming) -> Result<Vec<u8>, Failure> {
@@ -63,7 +43,7 @@ fn named_listing(rt: &HostRuntime, naming: &Naming) -> Result<Vec<u8>, Failure> 
     let info = information_at(rt.alloc(), naming.start, &bytes)?;
     let tags = without_numbers(rt.alloc(), &tags_of(rt.alloc(), &bytes)?)?;
     let text = read_listing(rt, naming.names.listing.as_str())?;
-    named_under(rt, naming, &info, &tags, &text)
+    listing_by_names(rt.alloc(), naming, &info, &tags, &text)
 }
 
 /// Reads the listing and the groups, and writes the listing by names. The output is created once that is there.

@@ -2,7 +2,7 @@
 
 ghost use Rattle.std.specs.Prelude.{◌≡◌, IfErr, IfOk, IsTrue, Ok};
 ghost use Rattle.stmt65.specs.Words.{meaning_in, source_addresses, source_meaning};
-ghost use Rattle.name65.specs.NamedText.{IsNamed, MeansTheSame, Reports};
+ghost use Rattle.name65.specs.NamedText.{IsNamed, MeansTheSame, Reports, listing_of};
 
 use crate::changes::changed_text;
 use crate::failure::{Failure, Refused};
@@ -62,7 +62,7 @@ pub fn named_text(
     used: bool,
 ) -> Result<Vec<u8>, Failure>
     /// The text means exactly the bytes that the listing means, from the same start.
-    ensures same { IfOk result (λ text. MeansTheSame source.now text.items) }
+    ensures same { IfOk result (λ text. MeansTheSame (listing_of source.now) text.items) }
     /// Each line of the listing that no group touches stands in the text unchanged, in order, with a line feed. A
     /// group touches a line if the line gives a byte that the group names, or is a constant line whose value the
     /// group names; with `--used`, groups touch every constant line. Of a touched line that gives bytes only the
@@ -78,7 +78,7 @@ pub fn named_text(
     /// that is not before the end of the text: there a line defines the same name with the same value, `NAME := * +
     /// n`, with the same comment. Nothing else comes after the last line. Each other constant line stays. That no
     /// line uses a name that was left out follows from `same`: a text that uses an undefined name means nothing.
-    ensures rest { IfOk result (λ text. IsNamed source.now tags.now used text.items) }
+    ensures rest { IfOk result (λ text. IsNamed (listing_of source.now) tags.now used text.items) }
     /// If a line of the listing is reported, it is the line of the first fault, with the name of the listing.
     ensures fault { IfErr result (Reports name.now source.now) }
 {

@@ -1,0 +1,50 @@
+//! The listing by names that a command line asks for.
+
+ghost use Rattle.std.specs.Prelude.{IfOk};
+ghost use Rattle.name65.specs.Listings.{IsWritten};
+
+use crate::failure::Failure;
+use crate::labels_first::with_labels_first;
+use crate::named_text::named_text;
+use crate::request::Naming;
+use files65::{layout_of, start_or_end};
+use info65::{Info, Tag};
+use std::alloc::Global;
+use stmt65::{Language, Source};
+
+/// The listing of this text by names; if that is asked for, with its labels first.
+pub fn listing_by_names(
+    alloc: Global,
+    naming: &Naming,
+    info: &Info,
+    tags: &[Tag],
+    text: &[u8],
+) -> Result<Vec<u8>, Failure>
+    /// The text that is written is by names as `named_text` says: by all groups that were read, from the start of the
+    /// information file if there is one, with segments at their START exactly with `--fill`, and without constant lines
+    /// exactly with `--used`; exactly with `--labels-first` by the listing that `with_labels_first` makes.
+    ensures { IfOk result
+        (λ written. IsWritten naming.now info.now tags.now text.now written.items) }
+{
+    let name = naming.names.listing.as_str();
+    let layout = layout_of(alloc, info.segments(), naming.fill)?;
+    let start = match info.settings().start {
+        Some(start) => start,
+        None => start_or_end(alloc, None, &layout, text)?,
+    };
+    let source = Source {
+        language: Language::Repair,
+        layout: &layout,
+        start,
+        text,
+    };
+    if !naming.labels_first {
+        return named_text(alloc, name, &source, info, tags, naming.used);
+    }
+    let first = with_labels_first(alloc, name, &source)?;
+    let source = Source {
+        text: &first,
+        ..source
+    };
+    named_text(alloc, name, &source, info, tags, naming.used)
+}
