@@ -9,6 +9,7 @@ pub mod Information
 pub mod Labels
 pub mod Moves
 pub mod Request
+pub mod Sizes
 pub mod Status
 pub mod Stretches
 pub mod Types

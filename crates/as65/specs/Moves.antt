@@ -1,8 +1,8 @@
 -- Where labels leave the address in their name.
-use Rattle.std.specs.Prelude.{◌≡◌, ◌==◌, ◌&&◌, ℕ, Bool, ◌+◌, ◌-◌, ◌*◌, List, [], ◌∷◌, ◌++◌, Option, Some, None, codes, decimal, length, nat_le, nat_lt, option_to_list, slice_index, if◌then◌else◌}
+use Rattle.std.specs.Prelude.{◌≡◌, ◌==◌, ◌&&◌, ℕ, Bool, true, false, ◌+◌, ◌-◌, ◌*◌, List, [], ◌∷◌, ◌++◌, Option, Some, None, codes, decimal, length, nat_le, nat_lt, option_to_list, slice_index, if◌then◌else◌}
 use Rattle.std.specs.String.{string_bytes}
 use Rattle.text65.specs.Digits.{digits4}
-use Rattle.stmt65.specs.Words.{SourceLine, Statement, source_addresses, source_readings}
+use Rattle.stmt65.specs.Words.{PlaceAssignment, SourceLine, Statement, held, source_addresses, source_readings}
 use Rattle.as65.specs.Types.{Failure, Label, Memory, Moved, Own, Refused, Source}
 
 -- a hex digit as da65 writes it
@@ -25,20 +25,26 @@ abbrev pub label_named : ℕ → ℕ → Option ℕ → Option Label
 label_named number at None = None
 label_named number at (Some named) = Some (record { number = number; named = named; at = at })
 
--- the label of a line at `at`, if it has a name of that form
-unfoldable pub label_in_line : ℕ → ℕ → Option SourceLine → Option Label
-label_in_line number at (Some (Statement (Some name) operation)) = label_named number at (address_in_name name)
-label_in_line number at _ = None
+-- The label of a line at `at`, if it has a name of that form; and, with `inner`, the name of an address inside what
+-- follows, as in `L1005 := * + 1`. There 2^64 - 1 stands for every greater address.
+unfoldable pub label_in_line : Bool → ℕ → ℕ → Option SourceLine → Option Label
+label_in_line inner number at (Some (Statement (Some name) operation)) = label_named number at (address_in_name name)
+label_in_line true number at (Some (PlaceAssignment name plus)) = label_named number (held (at + plus)) (address_in_name name)
+label_in_line inner number at _ = None
 
 -- those of lines of which the first has this number and address; the address after a line is that of the next
-unfoldable pub labels_in : ℕ → ℕ → List (Option SourceLine) → List ℕ → List Label
-labels_in number at [] ends = []
-labels_in number at (l ∷ ls) [] = []
-labels_in number at (l ∷ ls) (e ∷ ends) = option_to_list (label_in_line number at l) ++ labels_in (number + 1) e ls ends
+unfoldable pub labels_in : Bool → ℕ → ℕ → List (Option SourceLine) → List ℕ → List Label
+labels_in inner number at [] ends = []
+labels_in inner number at (l ∷ ls) [] = []
+labels_in inner number at (l ∷ ls) (e ∷ ends) = option_to_list (label_in_line inner number at l) ++ labels_in inner (number + 1) e ls ends
 
 -- the labels of a source, in their order
 abbrev pub labels_of : {L : Type 0} → Source L → List Label
-labels_of s = labels_in 1 s.start (source_readings s) (source_addresses s)
+labels_of s = labels_in false 1 s.start (source_readings s) (source_addresses s)
+
+-- the same with names inside instructions
+abbrev pub places_of : {L : Type 0} → Source L → List Label
+places_of s = labels_in true 1 s.start (source_readings s) (source_addresses s)
 
 -- whether two labels lie equally far from the address in their names, on the same side
 abbrev pub is_alike : Label → Label → Bool

@@ -1,6 +1,6 @@
 -- The types of the code that these definitions speak of, from one place.
 pub use Rattle.as65.specs.declared.failure.Refused.{Refused}
-pub use Rattle.as65.specs.declared.failure.Refused.TheVariants.{EmptyImage, LargeImage, Line, Moved, ShortImage}
+pub use Rattle.as65.specs.declared.failure.Refused.TheVariants.{EmptyImage, LargeImage, Line, Moved, OtherSize, ShortImage}
 pub use Rattle.as65.specs.declared.moves.Label.{Label}
 pub use Rattle.as65.specs.declared.origins.Reached.{Reached}
 pub use Rattle.as65.specs.declared.request.Placement.{Placement}

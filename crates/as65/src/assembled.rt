@@ -39,8 +39,8 @@ impl<'s, 't, 'l, 'n> Assembled<'s, 't, 'l, 'n> {
     ) -> Result<Assembled<'s, 't, 'l, 'n>, Failure>
         /// A text assembles to exactly the bytes that it means in its language, from its start, with its segments
         /// where its layout says. Otherwise the failure has the line and kind of its first fault, the name of the
-        /// listing, a hint, and the text of the line; or out of memory. Only an `Assembled` can be written, and
-        /// only a text without a fault makes one.
+        /// listing, a hint or none, and the beginning of the line; or out of memory. Bytes are written by a call of
+        /// `Assembled`, and only a text without a fault makes one.
         ensures whole { IfOk result (λ a. a ≡ seen source.entry.now a.bytes) }
         ensures means { IfOk result (λ a. source_meaning source.entry.now ≡ Ok a.bytes) }
         ensures fault { IfErr result (Reports name.now source.entry.now) }

@@ -20,8 +20,8 @@ pub fn compare<W: Sink>(
     out: &mut W,
 ) -> Result<Ended, Failure>
     /// Returns that nothing differs exactly if the bytes of the image are those that the listing means; then it
-    /// writes nothing, and can't fail. Otherwise it writes exactly the text of `differences`, or a prefix of it if
-    /// a write fails, or nothing if memory runs out. It fails for no other reason. The count of failed writes rises
+    /// writes nothing, and can't fail. Otherwise it writes a text as `differences` promises it, or a prefix of one
+    /// if a write fails, or nothing if memory runs out. It fails for no other reason. The count of failed writes rises
     /// by one exactly if a write failed.
     ensures answer { Compares assembled.now.moves (compared image.now assembled.now)
         (W.taken out.old) (W.taken out.new) result }

@@ -177,7 +177,7 @@ pub fn differences(
         IsDifferences assembled.now.moves (compared image.now assembled.now) text.items) }
 {
     let ends = assembled.ends(alloc)?;
-    let labels = labels_in(alloc, assembled.source(), &ends)?;
+    let labels = labels_in(alloc, assembled.source(), false, &ends)?;
     let moves = moves_in(alloc, &labels)?;
     if moves.is_empty() {
         return byte_differences(alloc, image, assembled, &ends);

@@ -31,6 +31,9 @@ pub enum Refused {
     /// its line, and what is said of it.
     #[error("{0}:{1}: ")]
     Moved(String, usize, Vec<u8>),
+    /// The listing of this name gives this many bytes, and the image has as many as the last number says.
+    #[error("{0}: the image has {2} bytes, the listing {1}")]
+    OtherSize(String, usize, usize),
     /// A write of a message failed, so nothing more is said.
     #[error("cannot write a message")]
     Silent,

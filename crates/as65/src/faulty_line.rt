@@ -55,12 +55,12 @@ pub fn failure_of(
     if fault.kind == AsmFaultKind::Memory {
         return Failure::Memory;
     }
-    let Ok(hint) = hint(alloc, explained, line_at(source.text, fault.line)) else {
+    let Ok(hint) = hint(alloc, explained, source) else {
         return Failure::Memory;
     };
     match (
         String::from_str(alloc, name),
-        about(alloc, hint.as_bytes(), fault, source),
+        about(alloc, &hint, fault, source),
     ) {
         (Ok(name), Ok(said)) => Failure::Own(Refused::Line(name, fault, said)),
         _ => Failure::Memory,

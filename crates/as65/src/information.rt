@@ -18,8 +18,8 @@ pub fn information(
 
 /// Where settings place an image: at its start, or so that its size ends at $FFFF.
 pub fn placed_at(settings: &Settings) -> Option<u16>
-    /// A listing that is not compared begins at the start that is given, or without one so that the bytes of
-    /// INPUTSIZE end at $FFFF.
+    /// Returns the start that settings give, or without one that from which the bytes of INPUTSIZE end at $FFFF; none
+    /// if there is no INPUTSIZE either, or it is 0 or more than 65,536.
     ensures { result ≡ placed_at settings.now.start settings.now.size }
 {
     match (settings.start, settings.size) {

@@ -1,7 +1,7 @@
 //! The names of a listing for emulators, as ld65 writes them with `-Ln`.
 
-ghost use Rattle.std.specs.Prelude.{◌≡◌, ◌++◌, IfErr, IfOk, OnOk, map};
-ghost use Rattle.stmt65.specs.Words.{definition_of};
+ghost use Rattle.std.specs.Prelude.{◌≡◌, ◌++◌, IfErr, IfOk, IsOk, OnOk, map};
+ghost use Rattle.stmt65.specs.Words.{definition_of, source_meaning};
 ghost use Rattle.as65.specs.Words.{Reports, label_line, labels_of, source_labels};
 
 use crate::assembled::Assembled;
@@ -39,8 +39,10 @@ fn label_lines(alloc: Global, definitions: &[Definition<'_>]) -> Result<Vec<u8>,
 /// defines them. Fails with its first fault.
 pub fn names_in(alloc: Global, source: &Source<'_, '_, '_>, name: &str) -> Result<Vec<u8>, Failure>
     /// With `--labels` the text has a line `al 00FE04 .say` for each name that the listing defines with a value
-    /// below $10000, in order, and no other line. A fault is reported as by `Assembled::new`.
+    /// below $10000, in order, and no other line. Only a listing that assembles has them: a fault is reported as by
+    /// `Assembled::new`.
     ensures lines { IfOk result (λ text. text.items ≡ source_labels source.now) }
+    ensures whole { OnOk result (IsOk (source_meaning source.now)) }
     ensures fault { IfErr result (Reports name.now source.now) }
 {
     match assemble_lines(&alloc, source) {

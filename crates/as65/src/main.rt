@@ -11,20 +11,27 @@ mod before;
 mod changes;
 mod command;
 mod comparison;
+mod definitions;
 mod differences;
 mod failure;
 mod faulty_line;
+mod forms;
+mod guess;
+mod guesses;
 mod hint;
 mod image;
 mod information;
 mod labels;
+mod limits;
 mod message;
 mod moves;
 mod named_start;
 mod origins;
 mod request;
+mod sizes;
 mod status;
 mod stretches;
+mod words;
 
 use assembled::{Assembled, need_bytes};
 use comparison::compare;
@@ -36,38 +43,65 @@ use image::image;
 use info65::Info;
 use information::{information, placed_at};
 use labels::names_in;
+use map65::Image;
 use message::{say, say_starts};
 use moves::need_in_place;
 use named_start::named_start;
 use request::{Comparing, Placement, Work, Writing, is_compared_by, is_comparing, request_of};
+use sizes::need_size;
 use status::{Ended, status_of};
 use std::process::ExitCode;
 use stmt65::Source;
-use usage65::{Request, RequestFault, words_of};
+use usage65::{FileNames, Request, RequestFault, words_of};
 
-/// Where the information file of this name, under the start of the command line, places the bytes of a listing.
-fn start_in(rt: &HostRuntime, name: Option<&str>, info: &Info) -> Result<u16, Failure> {
-    match (placed_at(info.settings()), name) {
-        (Some(start), _) => Ok(start),
-        (None, Some(name)) => {
+/// The image that the information file has by its INPUTNAME. The listing may not be the same stream.
+fn listed(rt: &HostRuntime, listing: &str, info: &Info) -> Result<Option<Image>, Failure> {
+    let Some(name) = info.settings().input.as_deref() else {
+        return Ok(None);
+    };
+    keep_apart(rt, &[Some(listing), Some(name)])?;
+    Ok(Some(image(rt, name, info)?))
+}
+
+/// Where the information file, under the start of the command line, places the bytes of a listing.
+fn start_in(rt: &HostRuntime, names: &FileNames, info: &Info) -> Result<u16, Failure> {
+    if let Some(start) = placed_at(info.settings()) {
+        return Ok(start);
+    }
+    if let Some(image) = listed(rt, names.listing.as_str(), info)? {
+        return Ok(image.start());
+    }
+    match names.info.as_deref() {
+        Some(name) => {
             let name = String::from_str(rt.alloc(), name)?;
             Err(Failure::Own(Refused::NoStart(name)))
         }
-        (None, None) => Err(Failure::Request(RequestFault::NoStart)),
+        None => Err(Failure::Request(RequestFault::NoStart)),
     }
 }
 
-/// The listing of this name with its bytes, if its labels are where they have to be.
+/// How many bytes the information file says that there are: INPUTSIZE, or those of its INPUTNAME.
+fn len_in(rt: &HostRuntime, listing: &str, info: &Info) -> Result<Option<usize>, Failure> {
+    match info.settings().size {
+        Some(size) => Ok(Some(size as usize)),
+        None => Ok(listed(rt, listing, info)?.map(|image| image.bytes().len())),
+    }
+}
+
+/// The listing of this name with its bytes, if its labels are where they have to be, and its bytes as many as the
+/// information file says.
 fn assembled_in<'s, 't, 'l, 'n>(
     rt: &HostRuntime,
     name: &str,
     place: Placement,
+    info: &Info,
     source: &'s Source<'t, 'l, 'n>,
 ) -> Result<Assembled<'s, 't, 'l, 'n>, Failure> {
     let assembled = Assembled::new(rt.alloc(), source, name)?;
     need_bytes(rt.alloc(), &assembled, name)?;
     if place.in_place {
         need_in_place(rt.alloc(), &assembled, name)?;
+        need_size(rt.alloc(), &assembled, name, len_in(rt, name, info)?)?;
     }
     Ok(assembled)
 }
@@ -78,7 +112,7 @@ fn write_under(rt: &HostRuntime, writing: &mut Writing, info: &Info) -> Result<E
     let names = &mut writing.names;
     let inputs = [info.settings().input.as_deref()];
     keep_inputs(rt, names.output.as_deref(), &inputs)?;
-    let start = start_in(rt, names.info.as_deref(), info)?;
+    let start = start_in(rt, names, info)?;
     let layout = layout_of(rt.alloc(), info.segments(), writing.place.fill)?;
     let name = names.listing.as_str();
     let text = read_listing(rt, name)?;
@@ -87,7 +121,7 @@ fn write_under(rt: &HostRuntime, writing: &mut Writing, info: &Info) -> Result<E
         let text = names_in(rt.alloc(), &source, name)?;
         write_text(&mut Output::create(rt, names.output.take())?, &text)?;
     } else {
-        let assembled = assembled_in(rt, name, writing.place, &source)?;
+        let assembled = assembled_in(rt, name, writing.place, info, &source)?;
         assembled.write(&mut Output::create(rt, names.output.take())?)?;
     }
     Ok(Ended::Done)
@@ -111,7 +145,7 @@ fn compare_under(rt: &HostRuntime, comparing: &Comparing, info: &Info) -> Result
     let name = comparing.names.listing.as_str();
     let text = read_listing(rt, name)?;
     let source = repair(&layout, image.start(), &text);
-    let assembled = assembled_in(rt, name, comparing.place, &source)?;
+    let assembled = assembled_in(rt, name, comparing.place, info, &source)?;
     if info.settings().start.is_none() && image.bytes() != assembled.bytes() {
         let named = named_start(rt.alloc(), &image, &assembled)?;
         say_starts(rt, comparing.image.as_str(), image.start(), named)?;

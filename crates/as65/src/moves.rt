@@ -56,42 +56,47 @@ pub fn address_in_name(name: &[u8]) -> Option<u64>
     Some(digit(*a)? * 4096 + digit(*b)? * 256 + digit(*c)? * 16 + digit(*d)?)
 }
 
-/// The label of a line at `at`, if it has a name of that form.
+/// The name of a line at `at` that has that form, and its address: its label; or, with `inner`, a name inside what
+/// follows.
 #[tactic(auto, unfolding(crate::specs::Moves::label_in_line))]
 fn label_in_line(
     alloc: Global,
     source: &Source<'_, '_, '_>,
+    inner: bool,
     number: usize,
     at: u64,
     line: &[u8],
 ) -> Result<Option<Label>, AllocError>
-    ensures { IfOk result (λ found. found ≡ label_in_line number at
+    ensures { IfOk result (λ found. found ≡ label_in_line inner number at
         (reading_of source.now.language (parts source.now.language line.now))) }
 {
-    let said = read_line(alloc, source.language, line)?;
-    let Some(
-        SourceLine::Statement {
-            label: Some(name),
-            ..
-        },
-    ) = said
-    else {
-        return Ok(None);
+    let (name, at) = match read_line(alloc, source.language, line)? {
+        Some(
+            SourceLine::Statement {
+                label: Some(name),
+                ..
+            },
+        ) => (name, at),
+        Some(SourceLine::PlaceAssignment(name, plus)) if inner => {
+            (name, at.saturating_add(plus.value()))
+        }
+        _ => return Ok(None),
     };
     let named = address_in_name(name);
     Ok(named.map(|named| Label { number, named, at }))
 }
 
-/// The labels of a text, by the address after each of its lines.
+/// The labels of a text, by the address after each of its lines; with `inner` also names inside instructions.
 #[tactic(auto, unfolding(crate::specs::Moves::labels_in))]
 pub fn labels_in(
     alloc: Global,
     source: &Source<'_, '_, '_>,
+    inner: bool,
     ends: &[u64],
 ) -> Result<Vec<Label>, AllocError>
-    /// Returns the labels `LXXXX` of the lines, in order; or out of memory.
+    /// Returns the labels `LXXXX` of the lines, in order, on demand also names inside instructions; or out of memory.
     ensures { IfOk result (λ found. found.items
-        ≡ labels_in 1 source.now.start (source_readings source.now) ends.now) }
+        ≡ labels_in inner 1 source.now.start (source_readings source.now) ends.now) }
 {
     let mut found = Vec::new(alloc);
     let mut number = 1;
@@ -102,7 +107,7 @@ pub fn labels_in(
         let Some((end, later)) = left.split_first() else {
             return Ok(found);
         };
-        found.extend_from_slice(label_in_line(alloc, source, number, at, line)?.as_slice())?;
+        found.extend_from_slice(label_in_line(alloc, source, inner, number, at, line)?.as_slice())?;
         number += 1;
         at = *end;
         rest = after;
@@ -203,19 +208,20 @@ pub fn put_moves(out: &mut Vec<u8>, moves: &[Label]) -> Result<(), AllocError>
     Ok(())
 }
 
-/// Refuses a listing of this name in which a label is not at the address in its name, with the first such label.
+/// Refuses a listing of this name in which a label or a name inside an instruction is not at the address in its name,
+/// with the first such name.
 pub fn need_in_place(
     alloc: Global,
     assembled: &Assembled<'_, '_, '_, '_>,
     name: &str,
 ) -> Result<(), Failure>
-    /// Passes a listing only if each label `LXXXX` of it is at $XXXX. Otherwise it fails with the line of the first
-    /// that is not, and how far it lies from there, or memory ran out.
-    ensures none { OnOk result (assembled.now.moves ≡ []) }
-    ensures failure { IfErr result (IsMoved name.now assembled.now.moves) }
+    /// Passes a listing only if each label `LXXXX` of it and each name `LXXXX := * + n` is at $XXXX. Otherwise it
+    /// fails with the line of the first that is not, and how far it lies from there, or memory ran out.
+    ensures none { OnOk result (assembled.now.misplaced ≡ []) }
+    ensures failure { IfErr result (IsMoved name.now assembled.now.misplaced) }
 {
     let ends = assembled.ends(alloc)?;
-    let labels = labels_in(alloc, assembled.source(), &ends)?;
+    let labels = labels_in(alloc, assembled.source(), true, &ends)?;
     let moves = moves_in(alloc, &labels)?;
     let Some((first, _)) = moves.split_first() else {
         return Ok(());

@@ -19,7 +19,7 @@ pub fn named_start(
     image: &Image,
     assembled: &Assembled<'_, '_, '_, '_>,
 ) -> Result<Option<NamedStart>, AllocError> {
-    let labels = labels_in(alloc, assembled.source(), &assembled.ends(alloc)?)?;
+    let labels = labels_in(alloc, assembled.source(), false, &assembled.ends(alloc)?)?;
     let taken = u64::from(image.start());
     let Some(start) = labels.first().and_then(|label| label.earlier(taken)) else {
         return Ok(None);

@@ -34,8 +34,8 @@ pub struct Showing {
 #[tactic(auto, using(crate::proofs::CommandLemmas::app_is_plain))]
 pub fn request_of(alloc: Global, words: &[String]) -> Result<Request<Showing>, RequestFault>
     /// For all words the request is that of the definition. It says which options there are, and takes help and
-    /// version before the start and the byte of `--fill`. It refuses an output with the name of an input, and
-    /// standard input given twice. The first refusal in this order counts; or out of memory.
+    /// version before the start and the byte of `--fill`. It refuses standard input given
+    /// twice, and then an output with the name of an input. The first refusal in this order counts; or out of memory.
     ensures { Gives (asked_of shown_of) result
         (asked this_program shown_in (map string_bytes words.now)) }
 {
