@@ -1,6 +1,7 @@
 """Counts instructions by valgrind's callgrind: of da65 beside cc65's da65 on the same bytes, as65 beside ca65 and ld65,
-name65 and html65 beside as65, trace65 and move65 alone. A row has the figure of docs/GATE.md, and fails if it is a
-twentieth above that. Twice as much takes at most 2.3 times the instructions. The end of the run has the figures."""
+name65 and html65 beside as65, trace65 and move65 alone; and seconds of move65. A row has the figure of docs/GATE.md,
+and fails if it is a twentieth above that. Twice as much takes at most 2.3 times the instructions. The end of the run
+has the figures."""
 import bisect, functools, itertools, random, re
 import pytest
 from conftest import ROOT, Program, read, same, tables, write
@@ -178,6 +179,14 @@ def files(what, kind, count):
             f" .byte n{n * 7919 % count}\n" for n in numbers)},
         "references": lambda: {"s": "v := 4\n" + count * " .byte v\n"},
         "texts": lambda: {"s": count * ' .byte "&<>"\n .byte 1,2\n'},
+        # Groups of 256 low bytes, and 16 times as many numbers elsewhere.
+        "numbers": lambda: {"s": "start:\n" + 32 * count * " .byte 0,0,0,0,0,0,0,0\n", "info": "".join(
+            f"#: HALVES {{ LOW ${256 * n:04X}; ADDR 0; SIZE 256; }};\n" for n in numbers) + "".join(
+            f"#: NUMBER {{ ADDR ${0xF000 + n:04X}; }};\n" for n in range(16 * count))},
+        # Bytes that count, and groups of other halves.
+        "branches": lambda: {"s": "".join(f"l{n}: ldx #<l{n}\n cpx #{6 * n % 256}\n bne l{n + 1}\n" for n in numbers)
+                             + f"l{count}: rts\n", "info": "".join(
+            f"#: HALVES {{ LOW ${0x8000 + 2 * n:04X}; HIGH ${0x8001 + 2 * n:04X}; }};\n" for n in numbers)},
         "digits": lambda: {"s": f"{kind}{0:0{count}}1\n"},
         "line": lambda: {"s": " .byte 0,1" + (count - 1) * ",0,1" + "\n", "bin": bytes(2 * count)},
     }[what]()
@@ -230,6 +239,29 @@ def test_move65(move65, record_property, request, limit, routines):
     record_property("shown", f"move65: {request.node.callspec.id:36} {whole:12}")
     assert whole <= 1050000 * limit, f"{whole} instructions of move65, more than a twentieth above {limit} million"
     assert whole <= 2.3 * count(routines // 2)
+
+
+def rom(what):
+    """A listing from $E000 on, and its groups. A log has an entry for each instruction, in routines that return to
+    nowhere; each of the calls is a routine, since the one before calls it."""
+    if what == "log":
+        text = "".join(f"r{n}: ldx #{n % 256}\ns{n}: lda r{n * 7919 % 500},x\n sta $0400,x\n inx\n bne s{n}\n rts\n"
+                       for n in range(500))
+        starts = (0xE000 + 13 * n + at for n in range(500) for at in (0, 2, 5, 8, 9, 11))
+        return text, "".join(f"#: ENTRY {{ ADDR ${at:04X}; }};\n" for at in starts)
+    if what == "entries":
+        text = "".join(f"e{n}: inc $20\n jmp e{n}\n" for n in range(1600))
+        return text, "".join(f"#: ENTRY {{ ADDR ${0xE000 + 5 * n:04X}; }};\n" for n in range(1600))
+    return "".join(f"c{n}: jsr c{n * 1009 % 2700}\n" for n in range(2700)), ""
+
+
+def test_move65_takes(move65, record_property, request, seconds, what):
+    """At most so many seconds of the processor."""
+    text, info = rom(what)
+    words = f"-f %U {move65.path} -S 0xE000 -i {write('rom.info', info)} {write('rom.s', text)}"
+    taken = float(Program("/usr/bin/time").run(words, timeout=5 * seconds).err.split()[-1])
+    record_property("shown", f"move65: {request.node.callspec.id:36} {taken:10.1f} s")
+    assert taken <= seconds, f"{taken} seconds of move65"
 
 
 def test_trace65(trace65, record_property, request, limit, data, groups_):

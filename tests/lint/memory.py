@@ -18,7 +18,7 @@ ALLOWED = {
     "html65": "assembled 2",
     "info65": "InfoFault::MEMORY 1, InfoFault::from 2, InfoFaultKind::text 1, narrow 1",
     "map65": "ImageFault::from 2, TakeFault::from 1",
-    "move65": "failure_for 2, moved 1, refused 2",
+    "move65": "failure_for 2, has_found 1, refused 2",
     "name65": "Failure::from 2, Refusal::from 1, assembled 2, with_labels_first 2",
     "relist": "Failure::from 2",
     "step65": "program 2",

@@ -7,7 +7,7 @@ ghost use Rattle.move65.specs.Command.{this_program};
 use usage65::{CPU, Choice, ENTRY, HELP, INFO, NEW_OUTPUT, Program, START, VERSION};
 
 /// The options, in the order of the help text.
-static CHOICES: [Choice<'static>; 8] = [
+static CHOICES: [Choice<'static>; 9] = [
     INFO,
     START,
     CPU,
@@ -18,6 +18,13 @@ static CHOICES: [Choice<'static>; 8] = [
         long: Some("by"),
         value: Some("n"),
         purpose: "how much later the second image lies: 257 by default",
+    },
+    Choice {
+        id: "steps",
+        short: None,
+        long: Some("steps"),
+        value: Some("n"),
+        purpose: "how many instructions a run has, at most",
     },
     NEW_OUTPUT,
     HELP,

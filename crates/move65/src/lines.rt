@@ -2,7 +2,7 @@
 
 use crate::scene::Scene;
 use info65::Info;
-use isa65::{Mnemonic, Pattern};
+use isa65::{Cpu, Mnemonic, Op, OpcodeSet, Pattern};
 use map65::Marks;
 use std::alloc::{AllocError, Global};
 use std::mem::take;
@@ -16,9 +16,15 @@ use stmt65::{
 pub struct Lines {
     /// The byte is a number of an immediate operand or of a `.byte`.
     pub numbers: Marks,
+    /// The byte is one of a text in quotes. `trace65` cuts it at halves.
+    pub texts: Marks,
     /// A number of a `.word` begins there.
     pub words: Marks,
     pub instructions: Marks,
+    /// The bytes of instructions.
+    code: Marks,
+    /// The CPU that runs.
+    cpu: Cpu,
     /// An instruction begins there that has an address of two bytes as its operand, and is no jump or call of it.
     pub operands: Marks,
     /// Code is called there, or jumped to, or a table has the address; or a line of code has a
@@ -40,8 +46,11 @@ impl Lines {
     ) -> Result<Lines, AllocError> {
         let mut lines = Lines {
             numbers: Marks::none(alloc)?,
+            texts: Marks::none(alloc)?,
             words: Marks::none(alloc)?,
             instructions: Marks::none(alloc)?,
+            code: Marks::none(alloc)?,
+            cpu: info.settings().cpu,
             operands: Marks::none(alloc)?,
             routines: Marks::none(alloc)?,
             named: Marks::none(alloc)?,
@@ -76,6 +85,19 @@ impl Lines {
         Ok(reader.lines)
     }
 
+    /// The instruction with this opcode, if one may begin in the data at an address. `brk` is none.
+    pub fn op_in_data(&self, address: u16, opcode: u8) -> Option<Op> {
+        if self.code.get(address) || opcode == 0 {
+            return None;
+        }
+        self.cpu.decode(opcode)
+    }
+
+    /// Whether a name can stand for half of an address in place of the byte.
+    pub fn may_be_half(&self, address: u16) -> bool {
+        self.numbers.get(address) || self.texts.get(address)
+    }
+
     /// Takes the operands of a `.byte`.
     fn take_bytes(&mut self, from: u16, data: &[Datum<'_>]) {
         let mut at = usize::from(from);
@@ -84,8 +106,10 @@ impl Lines {
                 Datum::String(text) => at.saturating_add(text.len()),
                 _ => at.saturating_add(1),
             };
-            if let Datum::Number(_) = datum {
-                self.numbers.set_span(at, next);
+            match datum {
+                Datum::Number(_) => self.numbers.set_span(at, next),
+                Datum::String(_) => self.texts.set_span(at, next),
+                _ => {}
             }
             at = next;
         }
@@ -140,6 +164,8 @@ impl LineReader<'_> {
     /// Takes an instruction that has this many bytes at an address.
     fn take_instruction(&mut self, (at, len): (u16, u64), form: &Form<'_>) {
         self.lines.instructions.set(at);
+        let end = usize::from(at).saturating_add(len as usize);
+        self.lines.code.set_span(usize::from(at), end);
         if let Form::One(Notation::Plain(Pattern::Immediate), Value::Number(_)) = form {
             self.lines.numbers.set(at.saturating_add(1));
         }

@@ -13,6 +13,7 @@ mod lines;
 mod moving;
 mod pair;
 mod progress;
+mod reading_back;
 mod report;
 mod request;
 mod runs;

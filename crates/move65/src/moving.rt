@@ -1,20 +1,22 @@
 //! Assembles a listing here and later, runs both, and judges what is seen.
 
-ghost use Rattle.std.specs.Prelude.{◌≡◌, ◌++◌, [], ◌∷◌, IfOk, Ok};
-ghost use Rattle.info65.specs.Words.{information};
+ghost use Rattle.std.specs.Prelude.{IfOk};
+ghost use Rattle.std.specs.String.{string_bytes};
+ghost use Rattle.move65.specs.Accepted.{IsAccepted};
 
 use crate::failure::{Failure, Refused};
 use crate::judge::Findings;
 use crate::lines::Lines;
 use crate::progress::Progress;
+use crate::reading_back::read_back;
 use crate::report::Moved;
 use crate::request::Moving;
-use crate::runs::run_all;
+use crate::runs::{Both, run_all};
 use crate::scene::Scene;
-use crate::variables::move_variables;
+use crate::variables::{limit_of, move_found, move_variables};
 use crate::world::World;
 use files65::{information_of, layout_of, repair, start_or_end, tags_of};
-use info65::{Info, InfoFault, InfoFaultKind, Options, Tag, TagKind, read_info, without_numbers};
+use info65::{Info, Tag, TagKind, without_numbers};
 use map65::Marks;
 use run65::{Machine, Registers};
 use std::alloc::{AllocError, Global};
@@ -29,6 +31,13 @@ struct Setup<'a> {
     moving: &'a Moving,
     info: &'a Info,
     tags: &'a [Tag],
+}
+
+/// Where runs begin, and how many instructions each has, at most.
+#[derive(Clone, Copy)]
+struct Runs<'a> {
+    entries: &'a [u16],
+    steps: u32,
 }
 
 /// How much later the second image lies: `by`, or that much earlier if it would end after $FFFF.
@@ -81,28 +90,38 @@ fn scene_of(
         by,
         after,
         after_end: 0,
+        limit: 0,
+        far: None,
         last_named: 0,
     })
 }
 
 /// Where code begins: the addresses that are given and those of groups ENTRY, and the
-/// vectors; without any the first address.
+/// vectors; without any the first address. Each comes once.
 fn entries_of(alloc: Global, setup: &Setup<'_>, scene: &Scene) -> Result<Vec<u16>, AllocError> {
-    let mut found = Vec::from_slice(alloc, &setup.moving.entries)?;
+    let mut given = Vec::from_slice(alloc, &setup.moving.entries)?;
     for tag in setup.tags {
         if let (TagKind::Entry, Some(address)) = (tag.kind, tag.address) {
-            found.push(address)?;
+            given.push(address)?;
         }
     }
     for vector in [0xFFFCu16, 0xFFFA, 0xFFFE] {
         if scene.has(0xFFFA)
             && let Some(address) = scene.word(vector, vector + 1)
         {
-            found.push(address)?;
+            given.push(address)?;
         }
     }
-    if found.is_empty() {
-        found.push(scene.start)?;
+    if given.is_empty() {
+        given.push(scene.start)?;
+    }
+    let mut marks = Marks::none(alloc)?;
+    let mut found = Vec::new(alloc);
+    for &entry in &given {
+        if !marks.get(entry) {
+            marks.set(entry);
+            found.push(entry)?;
+        }
     }
     Ok(found)
 }
@@ -122,6 +141,41 @@ fn assembled<'t, 'b>(
     }
 }
 
+/// Runs both images, and judges what is seen. Returns whether another round may find more.
+fn has_found(
+    machine: &mut Both,
+    found: &mut Findings<'_>,
+    lines: &Lines,
+) -> Result<bool, AllocError> {
+    let world = &mut machine.bus;
+    if world.is_out_of_memory {
+        return Err(AllocError);
+    }
+    let has_moved = move_variables(world, lines, &mut found.variables)? | move_found(world);
+    if has_moved {
+        return Ok(true);
+    }
+    found.judge(world, lines)
+}
+
+/// Runs both images until nothing more is found.
+fn run_rounds(
+    rt: &HostRuntime,
+    machine: &mut Both,
+    found: &mut Findings<'_>,
+    lines: &Lines,
+    runs: &Runs<'_>,
+) -> Result<(), AllocError> {
+    let mut shown = Progress::new(rt);
+    for _ in 0..ROUNDS {
+        run_all(machine, lines, runs.entries, runs.steps, &mut shown);
+        if !has_found(machine, found, lines)? {
+            break;
+        }
+    }
+    Ok(())
+}
+
 /// Runs both images until nothing more is found, and returns what is written of them.
 fn moved(
     rt: &HostRuntime,
@@ -133,20 +187,12 @@ fn moved(
     let world = World::new(rt.alloc(), scene)?;
     let mut machine = Machine::new(setup.info.settings().cpu, Registers::at(0), world);
     let mut found = Findings::new(rt.alloc(), setup.tags)?;
-    let mut shown = Progress::new(rt);
-    for _ in 0..ROUNDS {
-        run_all(&mut machine, lines, &entries, &mut shown);
-        if machine.bus.is_out_of_memory {
-            return Err(AllocError);
-        }
-        let has_moved = move_variables(&mut machine.bus, lines, &mut found.variables)?;
-        if !has_moved && !found.judge(&mut machine.bus, lines)? {
-            break;
-        }
-    }
-    // Those with their bytes as far apart follow each other.
-    let claims = &mut found.claims;
-    claims.sort_by_key(|claim| (claim.high.wrapping_sub(claim.low), claim.low))?;
+    let runs = Runs {
+        entries: &entries,
+        steps: setup.moving.steps,
+    };
+    run_rounds(rt, &mut machine, &mut found, lines, &runs)?;
+    found.sort()?;
     found.text(rt.alloc(), &machine.bus, lines)
 }
 
@@ -158,7 +204,8 @@ fn written(
 ) -> Result<Moved, Failure> {
     let alloc = rt.alloc();
     let assembly = assembled(&alloc, setup.moving.names.listing.as_str(), source)?;
-    let scene = scene_of(alloc, setup, source, &assembly.bytes)?;
+    let mut scene = scene_of(alloc, setup, source, &assembly.bytes)?;
+    scene.limit = limit_of(&scene, assembly.names.definitions(), setup.info);
     let lines = Lines::of(alloc, &scene, source.text, &assembly, setup.info)?;
     Ok(moved(rt, setup, &lines, scene)?)
 }
@@ -176,7 +223,12 @@ pub fn text_of(
     moving: &Moving,
     bytes: &[u8],
     text: &[u8],
-) -> Result<Moved, Failure> {
+) -> Result<Moved, Failure>
+    /// The information file is accepted under the options of the command line with a line feed and what is written
+    /// behind it, and so are the groups in its lines `#: ..`.
+    ensures accepted { IfOk result (λ moved.
+        IsAccepted moving.now.options bytes.now (string_bytes moved.text)) }
+{
     let info: Info = information_of(rt.alloc(), &moving.options, bytes)?;
     // Halves that a NUMBER takes back count for nothing.
     let tags = without_numbers(rt.alloc(), &tags_of(rt.alloc(), bytes)?)?;
@@ -186,41 +238,6 @@ pub fn text_of(
         tags: &tags,
     };
     let moved = listed(rt, &setup, text)?;
-    let _ = read_back(rt.alloc(), &moving.options, bytes, moved.text.as_bytes())?;
+    read_back(rt.alloc(), &moving.options, bytes, moved.text.as_bytes())?;
     Ok(moved)
-}
-
-/// The failure for a fault of the file with what is found.
-fn refused(fault: InfoFault) -> Failure {
-    match fault.kind {
-        InfoFaultKind::Memory => Failure::Memory,
-        _ => Failure::Own(Refused::Text(fault)),
-    }
-}
-
-/// Reads the information file with the text behind it, and its groups in lines `#: ..`. Fails with
-/// the fault that it would be refused for.
-pub fn read_back(
-    alloc: Global,
-    options: &Options,
-    bytes: &[u8],
-    text: &[u8],
-) -> Result<Info, Failure>
-    /// Reads an information file with a line feed and a text behind it. Returns only what the definition says of
-    /// both together.
-    ensures accepted { IfOk result (λ info.
-        information options.now ((bytes.now ++ (10 ∷ [])) ++ text.now) ≡ Ok info) }
-{
-    let mut whole = Vec::from_slice(alloc, bytes)?;
-    whole.extend_from_slice(b"\n")?;
-    whole.extend_from_slice(text)?;
-    let info = match read_info(alloc, options, &whole) {
-        Ok(info) => info,
-        Err(fault) => return Err(refused(fault)),
-    };
-    match tags_of(alloc, &whole) {
-        Ok(_) => Ok(info),
-        Err(Failure::Info(fault)) => Err(refused(fault)),
-        Err(failure) => Err(failure),
-    }
 }

@@ -3,6 +3,7 @@
 use crate::judge::{Claim, Findings};
 use crate::lines::Lines;
 use crate::scene::Scene;
+use crate::variables::variable_at;
 use crate::world::{Kind, Sighting, World};
 use map65::Marks;
 use run65::Purpose;
@@ -19,7 +20,8 @@ pub struct Moved {
 fn deed(kind: Kind) -> &'static str {
     match kind {
         Kind::Branch => "branches by it at",
-        Kind::Stays(purpose) | Kind::Moves(purpose) => match purpose {
+        Kind::Hands => "hands over",
+        Kind::Stays(purpose) | Kind::Moves(purpose) | Kind::Arrives(purpose) => match purpose {
             Purpose::Read => "reads",
             Purpose::Write => "writes",
             Purpose::Change => "changes",
@@ -132,7 +134,8 @@ impl Findings<'_> {
 
     /// Appends a group for the addresses behind the image that names are written for, unless groups have them, and
     /// those of the bytes that move and must not. Then comments: what stays and no name can be written for.
-    fn put_others(&self, out: &mut String, scene: &Scene) -> Result<(), AllocError> {
+    fn put_others(&self, out: &mut String, world: &World) -> Result<(), AllocError> {
+        let scene = &world.scene;
         let (end, last) = (scene.end(), scene.last_named);
         if last != 0 {
             write!(out, "#: AFTER {{ START ${end:04X}; END ${last:04X}; }};\n")?;
@@ -140,6 +143,12 @@ impl Findings<'_> {
         for (at, seen) in &self.numbers {
             write!(out, "#: NUMBER {{ ADDR ${at:04X}; }}; # ")?;
             put_use(out, seen)?;
+        }
+        for (at, seen) in &self.strays {
+            if !world.used.get(*at) {
+                write!(out, "# ${at:04X} moves, and no group has it: ")?;
+                put_use(out, seen)?;
+            }
         }
         for claim in &self.loose {
             write!(out, "# ${:04X} stays:", claim.address)?;
@@ -155,12 +164,60 @@ impl Findings<'_> {
         Ok(())
     }
 
+    /// Appends a group for each address at which code goes on, and that the listing has as data, unless a group has it.
+    fn put_entries(&self, out: &mut String, arrivals: &[Sighting]) -> Result<(), AllocError> {
+        for seen in arrivals {
+            let at = match seen.kind {
+                Kind::Arrives(Purpose::Return) => seen.here.wrapping_add(1),
+                _ => seen.here,
+            };
+            if !self.entries.get(at) {
+                write!(out, "#: ENTRY {{ ADDR ${at:04X}; }}; # ")?;
+                put_use(out, seen)?;
+            }
+        }
+        Ok(())
+    }
+
+    /// Appends as a comment what may be variables, and who uses them.
+    fn put_question(
+        &self,
+        out: &mut String,
+        scene: &Scene,
+        lines: &Lines,
+    ) -> Result<(), AllocError> {
+        let Some((first, end)) = scene.far else {
+            return Ok(());
+        };
+        let distance = usize::from(first).saturating_sub(scene.end());
+        let last = end.saturating_sub(1);
+        write!(
+            out,
+            "# ${first:04X} to ${last:04X}, {distance} bytes behind the image: AFTER? It is used at"
+        )?;
+        let mut count = 0u32;
+        for at in 0..=u16::MAX {
+            if let Some(address) = variable_at(scene, lines, at)
+                && first <= address
+                && usize::from(address) < end
+                && count < 8
+            {
+                let comma = if count == 0 { "" } else { "," };
+                write!(out, "{comma} ${at:04X}")?;
+                count = count.saturating_add(1);
+            }
+        }
+        write!(out, "\n")
+    }
+
     pub fn text(&self, alloc: Global, world: &World, lines: &Lines) -> Result<Moved, AllocError> {
         let mut text = String::new(alloc);
         self.put_names(alloc, &mut text, lines)?;
         self.put_claims(&mut text)?;
-        self.put_others(&mut text, &world.scene)?;
+        self.put_others(&mut text, world)?;
+        self.put_entries(&mut text, &world.arrivals)?;
         let parts = !text.is_empty();
+        self.put_question(&mut text, &world.scene, lines)?;
         put_ran(alloc, &mut text, lines, &world.ran)?;
         Ok(Moved { text, parts })
     }

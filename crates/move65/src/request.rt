@@ -1,6 +1,7 @@
 //! What a command line asks for.
 
 use crate::command::this_program;
+use crate::runs::LONG;
 use clap::ArgMatches;
 use info65::Options;
 use std::alloc::Global;
@@ -19,6 +20,8 @@ pub struct Moving {
     pub entries: Vec<u16>,
     /// How much later the second image lies.
     pub by: u16,
+    /// How many instructions a run has, at most.
+    pub steps: u32,
 }
 
 /// How much later the second image lies, if nothing else is asked for: each half of an address is another one then.
@@ -42,7 +45,8 @@ fn moving_in(alloc: Global, matches: &ArgMatches) -> Result<Moving, RequestFault
     options.cpu = cpu_of(matches, "cpu")?;
     let entries = addresses_of(alloc, matches, "entry")?;
     let by = address_of(matches, "by")?.unwrap_or(BY);
-    if by == 0 {
+    let steps = address_of(matches, "steps")?.map_or(LONG, u32::from);
+    if by == 0 || steps == 0 {
         return Err(RequestFault::Usage(UsageFault::OutOfRange));
     }
     let listing = input_named(text_of(matches, "listing"));
@@ -54,5 +58,6 @@ fn moving_in(alloc: Global, matches: &ArgMatches) -> Result<Moving, RequestFault
         options,
         entries,
         by,
+        steps,
     })
 }

@@ -18,6 +18,10 @@ pub struct Scene {
     pub after: Marks,
     /// Those before this address do so too.
     pub after_end: usize,
+    /// Variables end before this address.
+    pub limit: usize,
+    /// The first and the end of what may be variables, if it lies too far behind the image to be moved with it.
+    pub far: Option<(u16, usize)>,
     /// The greatest address behind the image that a name is written for, and that no group has.
     pub last_named: u16,
 }
@@ -57,7 +61,7 @@ impl Scene {
 
     /// Whether the address may be one of the program: it moves, or lies near behind the image, where variables may be.
     pub fn may_move(&self, address: u16) -> bool {
-        let is_near = usize::from(address) < self.end().saturating_add(BEHIND);
+        let is_near = usize::from(address) < self.end().saturating_add(BEHIND).min(self.limit);
         self.moves(address) || self.is_behind(address) && is_near
     }
 

@@ -1,8 +1,10 @@
 //! What both runs are connected to: the image, unknown memory, and what is seen: where they part, and which
 //! places of the image that comes from.
 
+use crate::lines::Lines;
 use crate::pair::{Pair, Places};
 use crate::scene::Scene;
+use isa65::{Mode, Op};
 use map65::Marks;
 use run65::{Bus, Purpose, Value, Word};
 use std::alloc::{AllocError, Global};
@@ -14,6 +16,9 @@ const STACK_END: u16 = 0x0200;
 /// The most that is kept of what is seen of one instruction.
 const MOST: usize = 24;
 
+/// How many calls of code outside of the image are looked at.
+const MOST_CALLS: u32 = 4096;
+
 /// What parts.
 #[derive(Clone, Copy, Debug, PartialEq, Eq)]
 pub enum Kind {
@@ -23,6 +28,11 @@ pub enum Kind {
     Moves(Purpose),
     /// A branch that goes another way in the other run.
     Branch,
+    /// Code goes on at bytes of the image that the listing has as data.
+    Arrives(Purpose),
+    /// An address of the image, at the beginning of a block that is handed over to code outside of it, that does not
+    /// lie later in the other run.
+    Hands,
 }
 
 /// Where both runs part.
@@ -64,12 +74,37 @@ pub struct World {
     seed: u32,
     /// Where instructions have run.
     pub ran: Marks,
+    /// Those that have run since nothing was known.
+    pub ran_now: Marks,
+    /// What the last instruction leads on for, if it is known where.
+    leads: Option<Purpose>,
+    /// Where code goes on at bytes that the listing has as data, each once.
+    pub arrivals: Vec<Sighting>,
+    arrived: Marks,
+    /// Whether the last instruction was one of code that the listing has as data.
+    is_found: bool,
+    /// The bytes of that code, but for immediate operands.
+    pub found: Marks,
+    /// The operands of two bytes in it.
+    pub found_words: Marks,
+    /// How many calls of code outside of the image have been looked at.
+    handed: u32,
     pub seen: Vec<Vec<Sighting>>,
     /// What is read behind the image, and what is written there, by addresses that are known.
     pub read: Marks,
     pub written: Marks,
     /// Bytes that were used as half of an address that lies where it has to, in both runs.
     pub used: Marks,
+}
+
+/// Whether the byte is a character.
+fn is_text(byte: u8) -> bool {
+    matches!(byte, 0x20..=0x7E)
+}
+
+/// Whether the byte is a character, or one of those that end a text.
+fn ends_text(byte: u8) -> bool {
+    is_text(byte) || matches!(byte, 0 | 0x0A | 0x0D | 0x9B)
 }
 
 impl World {
@@ -90,6 +125,14 @@ impl World {
             clock: 0,
             seed: 0,
             ran: Marks::none(alloc)?,
+            ran_now: Marks::none(alloc)?,
+            leads: None,
+            arrivals: Vec::new(alloc),
+            arrived: Marks::none(alloc)?,
+            is_found: false,
+            found: Marks::none(alloc)?,
+            found_words: Marks::none(alloc)?,
+            handed: 0,
             seen,
             read: Marks::none(alloc)?,
             written: Marks::none(alloc)?,
@@ -101,10 +144,12 @@ impl World {
     pub fn reset(&mut self, seed: u32) {
         self.seed = seed;
         self.clock = 0;
+        self.handed = 0;
         for address in 0..=u16::MAX {
             let bytes = self.scene.byte(address).zip(self.scene.later_byte(address));
             let cell = bytes.map(|(here, later)| Pair::known(here, later, Places::one(address)));
             self.set(address, cell);
+            self.ran_now.clear(address);
         }
     }
 
@@ -158,6 +203,132 @@ impl World {
         self.at = address;
         self.clock = self.clock.wrapping_add(1);
         self.ran.set(address);
+        self.ran_now.set(address);
+        self.leads = None;
+    }
+
+    /// A run begins.
+    pub fn begin_run(&mut self) {
+        self.leads = None;
+        self.is_found = false;
+    }
+
+    /// Takes down that no instruction has led to where code goes on.
+    pub fn lead_nowhere(&mut self) {
+        self.leads = None;
+    }
+
+    /// Whether an instruction of the listing begins at an address, or one of code that has been found, or is found now
+    /// because an instruction leads there.
+    pub fn may_run(&mut self, lines: &Lines, address: u16) -> bool {
+        if lines.instructions.get(address) {
+            self.is_found = false;
+            return true;
+        }
+        let byte = self.cell(address).map(|pair| pair.here);
+        let Some(op) = byte.and_then(|opcode| lines.op_in_data(address, opcode)) else {
+            return false;
+        };
+        if byte != self.scene.byte(address) || !self.is_found && self.leads.is_none() {
+            return false;
+        }
+        if let Some(purpose) = self.leads {
+            self.arrive(address, purpose);
+        }
+        self.is_found = true;
+        self.find(address, op);
+        true
+    }
+
+    /// Takes down that the instruction at an address is code, though the listing has it as data.
+    fn find(&mut self, address: u16, op: Op) {
+        self.found.set(address);
+        if op.mode != Mode::Imm {
+            let from = usize::from(address);
+            self.found
+                .set_span(from, from.saturating_add(usize::from(op.mode.len())));
+        }
+        if op.mode.len() == 3 && op.mode != Mode::Zprel {
+            self.found_words.set(address.wrapping_add(1));
+        }
+    }
+
+    /// Takes down that an instruction leads to bytes that the listing has as data, unless code that has been found
+    /// does: who follows that comes there too.
+    fn arrive(&mut self, address: u16, purpose: Purpose) {
+        let is_return = purpose == Purpose::Return;
+        // `jmp (..)`, and with an index.
+        let is_by_pointer = matches!(self.scene.byte(self.at), Some(0x6C | 0x7C));
+        let is_followed = if is_return {
+            self.found.get(address.wrapping_sub(1))
+        } else {
+            self.found_words.get(self.at.wrapping_add(1)) && !is_by_pointer
+        };
+        if is_followed || self.arrived.get(address) {
+            return;
+        }
+        self.arrived.set(address);
+        let arrival = Sighting {
+            kind: Kind::Arrives(purpose),
+            at: self.at,
+            here: address.wrapping_sub(u16::from(is_return)),
+            low: Places::NONE,
+            high: Places::NONE,
+            is_mixed: false,
+            is_sure: !self.is_trial,
+        };
+        if self.arrivals.push(arrival).is_err() {
+            self.is_out_of_memory = true;
+        }
+    }
+
+    /// The word of two bytes, if both are known to come from the image, and it lies there and later in the other run.
+    fn pointer(&self, low: Pair, high: Pair) -> Option<u16> {
+        let here = u16::from_le_bytes([low.here, high.here]);
+        let later = u16::from_le_bytes([low.later, high.later]);
+        let are_known = low.is_known && high.is_known && !low.is_mixed && !high.is_mixed;
+        let moves = later == here.wrapping_add(self.scene.by);
+        (are_known && moves && self.scene.has(here)).then_some(here)
+    }
+
+    /// Looks at the block of a pointer that is handed over to code outside of the image: if its first word is the
+    /// address of other data of the image, that must move.
+    fn hand_over(&mut self, lines: &Lines, low: Pair, high: Pair) {
+        let Some(block) = self.pointer(low, high) else {
+            return;
+        };
+        let next = block.wrapping_add(1);
+        if let (Some(low), Some(high)) = (self.cell(block), self.cell(next))
+            && low.places == Places::one(block)
+            && high.places == Places::one(next)
+        {
+            let address = u16::from_le_bytes([low.here, high.here]);
+            let moved = self.scene.wanted(address);
+            let is_string = lines.texts.get(block) || is_text(low.here) && ends_text(high.here);
+            if self.scene.has(address)
+                && lines.named.get(address)
+                && !is_string
+                && moved != [low.later, high.later]
+            {
+                self.see(Kind::Hands, address, low, high);
+            }
+        }
+    }
+
+    /// Looks at what is handed over to code outside of the image: pointers in the zero page and in two registers.
+    pub fn hand_all_over(&mut self, lines: &Lines, [a, x, y]: [Pair; 3]) {
+        if self.handed == MOST_CALLS {
+            return;
+        }
+        self.handed = self.handed.saturating_add(1);
+        for (low, high) in [(x, y), (y, x), (a, x), (a, y), (x, a), (y, a)] {
+            self.hand_over(lines, low, high);
+        }
+        for at in 0..0xFFu16 {
+            if let (Some(low), Some(high)) = (self.cell(at), self.cell(at.wrapping_add(1))) {
+                self.hand_over(lines, low, high);
+            }
+        }
     }
 
     fn see(&mut self, kind: Kind, here: u16, low: Pair, high: Pair) {
@@ -192,6 +363,9 @@ impl Bus<Pair> for World {
         let later = later.wrapping_add(u16::from(index.later));
         let moved = here.wrapping_add(self.scene.by);
         self.is_guess = low.is_mixed || high.is_mixed || index.is_mixed;
+        if matches!(purpose, Purpose::Jump | Purpose::Call | Purpose::Return) {
+            self.leads = (low.is_known && high.is_known && !self.is_guess).then_some(purpose);
+        }
         if !low.is_known && !high.is_known {
             let is_low = here < STACK_END && purpose == Purpose::Write && high.here != 1;
             return (!is_low && !self.scene.has(here)).then_some(here);
