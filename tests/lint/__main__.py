@@ -9,7 +9,7 @@ import sys
 
 sys.dont_write_bytecode = True
 
-import columns, contracts, edits, imports, manual, memory, page, pages, proofs, readings, rows, scripts, words  # noqa: E401
+import columns, contracts, edits, imports, manual, memory, page, pages, proofs, readings, rows, scripts, words, worked_rows  # noqa: E401
 from source import LeftOut, Refused
 
 CHECKS = {
@@ -25,6 +25,7 @@ CHECKS = {
     pages: "each link of a page leads somewhere, and each name of a page about the code stands in the tree",
     columns: "no more clauses than listed are wider than 100 columns; no test or page is wider than 120, no script than 140, no man page than 80",
     rows: "each table of tests/rows has its test",
+    worked_rows: "the worked rows that run are those of tests/lint/worked_rows.txt",
     scripts: "shellcheck finds nothing in the scripts",
 }
 WRITTEN = {module.__name__: module for module in (contracts, manual, page, proofs)}

@@ -31,7 +31,8 @@ WRONG_BODIES = {
 
 # Those that a test refuses, each with its tests, by the file of these. A contract can't say whether memory ran out, or how much there was.
 TESTED_BODIES = {
-    "command_lines": {"always_bad_words": "start_addresses"},
+    "text_rows": {"always_bad_words": "calls_return_what_rows_say"},
+    "worked": {"always_out_of_memory": "runs_give_what_rows_say calls_give_what_runs_give"},
     "memory": {
         "always_out_of_memory": "each_allocation_refused_in_turn each_allocation_of_a_large_image_refused_in_turn",
         "lists_beside_cells": "run_allocates_as_its_parts each_size_allocates_as_its_parts",

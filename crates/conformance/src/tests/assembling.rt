@@ -7,7 +7,7 @@ use std::process::Abort;
 use stmt65::{AsmFault, Language, Layout, Source, assemble, assemble_source, line_addresses};
 
 /// The bytes of an assembly, or its fault.
-fn shown(rt: &(impl AllocGlobal + Abort), outcome: Result<Vec<u8>, AsmFault>) -> String {
+pub fn shown(rt: &(impl AllocGlobal + Abort), outcome: Result<Vec<u8>, AsmFault>) -> String {
     let mut out = String::new(rt.alloc());
     match outcome {
         Ok(bytes) => {
@@ -41,10 +41,6 @@ const CPUS: &[(&str, &str)] = &[
     (
         ".setcpu \"65C02\"\nbbr0 $112,$1000",
         " line 2: value out of range",
-    ),
-    (
-        ".setcpu \"65SC02\"\nbbr0 $12,$1003",
-        " line 2: no such form",
     ),
     (
         ".setcpu \"65C02\"\nphx\n.setcpu \"6502\"\nphx",

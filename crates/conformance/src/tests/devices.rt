@@ -120,6 +120,31 @@ impl Read for Tape<'_> {
     }
 }
 
+/// A reader of bytes 00 without end, which counts those that it gave.
+#[derive(Drop)]
+pub struct Endless {
+    given: usize,
+}
+
+impl Endless {
+    pub fn new() -> Endless {
+        Endless { given: 0 }
+    }
+
+    /// How many bytes it gave.
+    pub fn given(&self) -> usize {
+        self.given
+    }
+}
+
+impl Read for Endless {
+    fn read(&mut self, buf: &mut [u8]) -> io::Result<usize> {
+        buf.fill(0);
+        self.given = self.given.saturating_add(buf.len());
+        Ok(buf.len())
+    }
+}
+
 /// A writer that takes this many bytes, at most eight at each write, meets its fault once, and would then go on.
 #[derive(Drop)]
 pub struct Short {

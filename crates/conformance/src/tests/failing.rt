@@ -1,7 +1,7 @@
 // Runs over devices that fail.
 use crate::tests::asserts::{assert_equal, assert_equal_at, assert_that};
 use crate::tests::devices::{FAULTS, Fault, Short, Tape};
-use crate::tests::runs::{AT_1000, Given, NAMED, THREE, THREE_LISTING, WARNING};
+use crate::tests::runs::{AT_1000, Given, NAMED, SKIPPED, THREE, THREE_LISTING};
 use da65::{RunFault, Status};
 use std::alloc::AllocGlobal;
 use std::io::{ErrorKind, Read};
@@ -111,13 +111,13 @@ const SKIPPED_LISTING: &[u8] =
 #[test]
 fn a_warning_that_fails_or_takes_none(rt: HostRuntime) {
     for fault in FAULTS {
-        for room in 0..WARNING.len() {
+        for room in 0..SKIPPED.len() {
             let mut listing = Vec::new(rt.alloc());
             let mut messages = Short::new(rt.alloc(), room, fault);
             let input = SKIPPING.input;
             let result = SKIPPING.run_on(&rt, rt.alloc(), input, &mut listing, &mut messages);
             assert_equal_at(&rt, &result, &Err(RunFault::Messages), &room);
-            assert_cut(&rt, &messages, WARNING.as_bytes(), room);
+            assert_cut(&rt, &messages, SKIPPED.as_bytes(), room);
             assert_equal(&rt, &listing.as_slice(), &SKIPPED_LISTING);
         }
     }

@@ -1,10 +1,10 @@
 //! An information file that gives everything, and its tokens. Proofs compute what small files say, in `FileRows`,
 //! `AcceptedRows` and `RefusedRows` of `info65`.
 
-use crate::tests::asserts::assert_equal;
+use crate::tests::asserts::{assert_equal, assert_equal_at, assert_that};
 use crate::tests::include_files::put_names;
 use crate::tests::inputs::info_of;
-use info65::{Info, InfoFault, InfoFaultKind, Lexer, Settings, TokenKind};
+use info65::{Info, InfoFault, InfoFaultKind, Lexer, Settings, TokenKind, read_tags};
 use std::alloc::AllocError;
 
 /// Each attribute of a setting, and each kind of group. The names are not in the order of their addresses.
@@ -95,6 +95,45 @@ fn a_file_with_everything(rt: HostRuntime) {
         &Some(b"ROM".as_slice()),
     );
     assert_equal(&rt, &info.segment_covering(0x1100), &None);
+}
+
+/// The groups of the lines `#: ..`, each with the attributes that it has.
+const TAGS: &[(&str, &str)] = &[
+    ("ENTRY", "ADDR"),
+    ("INLINE", "ADDR SIZE"),
+    ("HALVES", "LOW HIGH SIZE ADDR"),
+    ("AFTER", "START END"),
+    ("DIFFERENCE", "ADDR FROM TO"),
+    ("BASE", "ADDR FROM"),
+    ("NUMBER", "ADDR"),
+];
+
+/// What a group may have, and what groups of the file itself have.
+const ATTRIBUTES: &[&str] = &[
+    "ADDR", "SIZE", "LOW", "HIGH", "START", "END", "FROM", "TO", "NAME", "TYPE", "COMMENT",
+];
+
+/// A group refuses each attribute that it does not have, whatever the value, and no other.
+#[test]
+fn attributes_of_tags(rt: HostRuntime) {
+    let unknown = InfoFault {
+        line: 2,
+        kind: InfoFaultKind::UnknownAttribute,
+    };
+    for (group, attributes) in TAGS {
+        for attribute in ATTRIBUTES {
+            let text = format!(in rt.alloc(); "\n#: {group} {{ {attribute} $1000000; }};");
+            let text = text.expect(&rt, "format");
+            assert_that(&rt, text.len() <= 1_048_576);
+            let read = read_tags(rt.alloc(), text.as_bytes());
+            let is_known = attributes
+                .split_whitespace()
+                .any(|known| known == *attribute);
+            let is_unknown = read.err() == Some(unknown);
+            let row = format_args!("{attribute} of {group}");
+            assert_equal_at(&rt, &is_unknown, &!is_known, &row);
+        }
+    }
 }
 
 #[test]

@@ -29,10 +29,11 @@ const TWO: &[u8] = b"ASMINC { FILE \"k.inc\"; }; ASMINC { FILE \"j.inc\"; COMMEN
 fn two_include_files(rt: HostRuntime) {
     let mut info = info_of(&rt, TWO);
     let mut out = String::new(rt.alloc());
-    let files: [(usize, &[u8]); 3] = [
-        (0, b"K = 1 ; one"),
-        (1, b"J = 1\nI = 2 # two\nK = 3"),
-        (1, b"J = 1\nI = 2 # two\nK = 1"),
+    let files: [(usize, &[u8]); 4] = [
+        (0, b"K = $10\n.bad"),
+        (0, b"K = $20 ; two"),
+        (1, b"J = $20\nI = 2 # two\nK = 3"),
+        (1, b"J = $20\nI = 2 # two\nK = $20"),
     ];
     for (place, file) in files {
         assert_that_at(&rt, place < info.includes().len(), &place);
@@ -44,7 +45,7 @@ fn two_include_files(rt: HostRuntime) {
     assert_equal(
         &rt,
         &out.as_str(),
-        &" 3: name given twice 0001 K+1 0002 I+1",
+        &" 2: bad include line 3: name given twice 0002 I+1 0020 K+1",
     );
 }
 
@@ -144,8 +145,8 @@ const REFUSED: &[(&str, &str)] = &[
 fn files_in_the_order_of_their_groups(rt: HostRuntime) {
     for (info, lines) in LISTED {
         let given = Given::at_1000(info, &FILES, JUMP);
-        assert_that_at(&rt, given.gives(&rt).ends_with(lines), info);
-        given.comes_back(&rt, 0x1000);
+        assert_that_at(&rt, given.gives(&rt, info).ends_with(lines), info);
+        given.comes_back(&rt, info, 0x1000, JUMP);
     }
     for (info, message) in REFUSED {
         Given::at_1000(info, &FILES, JUMP).is_refused(&rt, message);

@@ -19,65 +19,50 @@ use std::process::Abort;
 
 /// What a run gives: its result, the messages and the listing.
 pub const ROWS: &str = r#"
-= three bytes
-a.bin < A9 01 60
+= three_bytes: a.bin < A9 01 60
 --
-Ok(Done)
-; da65 listing
-
-        .setcpu "6502"
-
         lda     #$01
         rts
-= a target inside a word
--S $1FFF a.bin < AD 03 20 34 12
+= target_inside_a_word: -S $1FFF a.bin < AD 03 20 34 12
 RANGE { START $2002; END $2003; TYPE WORDTABLE; };
 --
-Ok(Done)
-; da65 listing
-
-        .setcpu "6502"
-
         lda     L2002+1
 L2002:  .word   $1234
-= a bit branch of the 65C02
--S $1000 --cpu 65C02 a.bin < 0F 12 FD
+= target_inside_a_word, by a hexadecimal offset: -S $1FFF --hexoffs a.bin < AD 03 20 34 12
+RANGE { START $2002; END $2003; TYPE WORDTABLE; };
 --
-Ok(Done)
-; da65 listing
-
-        .setcpu "65C02"
-
+        lda     L2002+$01
+L2002:  .word   $1234
+= bit_branch_by_cpu, 65C02: -S $1000 --cpu 65C02 a.bin < 0F 12 FD
+-- 65C02
 L1000:  bbr0    $12,L1000
-= a sized name across the zero page
-a.bin < A5 FF AD 00 01
+= bit_branch_by_cpu, 6502: -S $1000 --cpu 6502 a.bin < 0F 12 FD
+--
+        .byte   $0F
+        .byte   $12
+        .byte   $FD
+= sized_name_across_the_zero_page: a.bin < A5 FF AD 00 01
 LABEL { ADDR $FE; NAME "buf"; SIZE 4; };
 --
-Ok(Done)
-; da65 listing
-
-        .setcpu "6502"
-
 buf             := $00FE
 
         lda     buf+1
         lda     buf+2
-= ranges that overlap
-a.bin < EA
+= refused_information_files, ranges that overlap: a.bin < EA
 RANGE { START $1000; END $10FF; TYPE CODE; };
 RANGE { START $10FF; SIZE 2; TYPE SKIP; };
---
-Ok(Refused)
-da65: info:2: ranges overlap
-= a string that is not closed
-a.bin < EA
+-- refused info:2: ranges overlap
+= refused_information_files, a reserved letter: a.bin < EA
+LABEL { ADDR $20; NAME "z"; };
+-- refused info:1: reserved name
+= refused_information_files, the name of another address: a.bin < EA
+LABEL { ADDR $3000; NAME "L2000"; };
+-- refused info:1: reserved name
+= refused_information_files, a string to the end of the line: a.bin < EA
 LABEL { ADDR $20; NAME "ab
 
---
-Ok(Refused)
-da65: info:1: string not closed
-= names of an include file
--S $1000 a.bin < 20 D2 FF
+-- refused info:1: string not closed
+= include_names: -S $1000 a.bin < 20 D2 FF
 ASMINC { FILE "k.inc"; IGNOREUNKNOWN on; };
 k.inc:
 CHROUT = $FFD2
@@ -85,65 +70,40 @@ BSOUT := $FFD2 ; same
 .macro x
 
 --
-Ok(Done)
-; da65 listing
-
-        .setcpu "6502"
-
 CHROUT          := $FFD2
 
         jsr     CHROUT
-= an include file that is refused
--S $1000 a.bin < 20 D2 FF
+= include_names, with IGNOREUNKNOWN off: -S $1000 a.bin < 20 D2 FF
 ASMINC { FILE "k.inc"; };
 k.inc:
 CHROUT = $FFD2
 BSOUT := $FFD2 ; same
 .macro x
 
---
-Ok(Refused)
-da65: include k.inc:3: bad include line
-= an include file in two groups
--S $1000 a.bin < 20 D2 FF
+-- refused include k.inc:3: bad include line
+= an include file in two groups: -S $1000 a.bin < 20 D2 FF
 ASMINC { FILE "k.inc"; }; ASMINC { FILE "k.inc"; };
 k.inc:
 CHROUT = $FFD2
 
 --
-Ok(Done)
-; da65 listing
-
-        .setcpu "6502"
-
 CHROUT          := $FFD2
 
         jsr     CHROUT
-= a segment that is entered again
--S $1000 a.bin < EA EA EA
+= segment_entered_again: -S $1000 a.bin < EA EA EA
 SEGMENT { START $1001; END $1001; NAME "DATA"; };
 --
-Ok(Done)
 da65: warning: a segment is entered again
-; da65 listing
-
-        .setcpu "6502"
-
         nop
         .segment "DATA"
         nop
         .code
         nop
-= tables and skipped bytes
--S $1000 a.bin < EA 01 02 03 FF 41 42
-RANGE { START $1001; SIZE 3; TYPE WORDTABLE; }; RANGE { START $1004; SIZE 1; TYPE SKIP; }; RANGE { START $1005; END $1006; TYPE TEXTTABLE; };
+= tables and skipped bytes: -S $1000 a.bin < EA 01 02 03 FF 41 42
+RANGE { START $1001; SIZE 3; TYPE WORDTABLE; }; RANGE { START $1004; SIZE 1; TYPE SKIP; };
+RANGE { START $1005; END $1006; TYPE TEXTTABLE; };
 --
-Ok(Done)
 da65: warning: skipped bytes, the listing does not assemble to the image
-; da65 listing
-
-        .setcpu "6502"
-
         nop
         .word   $0201
         .byte   $03
@@ -153,6 +113,7 @@ da65: warning: skipped bytes, the listing does not assemble to the image
 /// A run gives what the row says, with each allocation refused in turn until none is.
 /// If one is refused, nothing is written.
 fn assert_row(rt: &(impl AllocGlobal + Abort), row: &Row<'_>) {
+    let text = row.text(rt);
     let mut refusals = Refusals::none();
     for granted in 0..MANY {
         let heap = Refusing::after(rt.alloc(), granted);
@@ -160,12 +121,8 @@ fn assert_row(rt: &(impl AllocGlobal + Abort), row: &Row<'_>) {
         let failed = ran.result == Err(RunFault::Memory);
         refusals.count(rt, &heap, granted, failed);
         let found = ran.shown(rt);
-        let want = if failed {
-            "Err(Memory)\n"
-        } else {
-            row.gives.as_str()
-        };
-        assert_same(rt, found.as_bytes(), want.as_bytes(), &granted);
+        let want = if failed { "Err(Memory)\n" } else { &text };
+        assert_same(rt, found.as_bytes(), want.as_bytes(), &row.name);
         if !failed {
             break;
         }

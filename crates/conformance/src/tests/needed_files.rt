@@ -21,7 +21,7 @@ fn put_needs(out: &mut String, found: &Needs) -> Result<(), AllocError> {
 }
 
 /// The names of the files that a run needs, as text.
-fn needed(rt: &(impl AllocGlobal + Abort), words: &[&str], info: &str) -> String {
+pub fn needed(rt: &(impl AllocGlobal + Abort), words: &[&str], info: &str) -> String {
     let options = options_on(rt, words).expect(rt, "options_on");
     let found = needs(rt.alloc(), &options, info.as_bytes()).expect(rt, "needs");
     let mut out = String::new(rt.alloc());
@@ -37,7 +37,6 @@ const INCLUDING: &str =
 
 /// The words of a command line, an information file, and the names that are needed.
 const ROWS: &[(&[&str], &str, &str)] = &[
-    (&[], BOTH, " input a.bin output b.s"),
     (&[], "", ""),
     (&["-o", "d.s", "c.bin"], "", " input c.bin output d.s"),
     (
@@ -46,7 +45,6 @@ const ROWS: &[(&[&str], &str, &str)] = &[
         " input c.bin output b.s",
     ),
     // nothing is needed where the information file is refused
-    (&[], "FOO { };", ""),
     (&["-o", "d.s", "c.bin"], "FOO { };", ""),
     (&["c.bin"], BOTH, ""),
     // include files, in the order of their groups
@@ -54,11 +52,6 @@ const ROWS: &[(&[&str], &str, &str)] = &[
         &[],
         INCLUDING,
         " input a.bin include b.inc include a.inc include b.inc",
-    ),
-    (
-        &["image.bin"],
-        "ASMINC { FILE \"k.inc\"; IGNOREUNKNOWN on; };",
-        " input image.bin include k.inc",
     ),
     (&[], "ASMINC { FILE \"a.inc\"; }; ASMINC { };", ""),
 ];

@@ -1,6 +1,5 @@
 // Runs over memory, and over devices.
-use crate::tests::asserts::{assert_equal_at, assert_same, assert_that_at};
-use crate::tests::built::builds_map;
+use crate::tests::asserts::{assert_equal_at, assert_same};
 use crate::tests::command_lines::options_on;
 use crate::tests::devices::ByBytes;
 use da65::{File, RunFault, Status, Told, run};
@@ -10,8 +9,11 @@ use std::process::Abort;
 use stmt65::assemble;
 
 /// What is written if a byte of the image is skipped.
-pub const WARNING: &str =
+pub const SKIPPED: &str =
     "da65: warning: skipped bytes, the listing does not assemble to the image\n";
+
+/// What is written if a segment is entered again.
+pub const AGAIN: &str = "da65: warning: a segment is entered again\n";
 
 /// Three bytes, and their listing.
 pub const THREE: &[u8] = &[0xA9, 0x01, 0x60];
@@ -89,8 +91,8 @@ impl<'a> Given<'a> {
     }
 
     /// What it gives as text: its result, its messages and its listing. Writers that take one byte at each write get
-    /// the same. The map of a listing is built by one allocation.
-    pub fn gives(&self, rt: &(impl AllocGlobal + Abort)) -> String {
+    /// the same. `row` is the name of what is shown.
+    pub fn gives(&self, rt: &(impl AllocGlobal + Abort), row: &str) -> String {
         let ran = self.run_in(rt, rt.alloc());
         let mut slow = Ran {
             result: Ok(Status::Done),
@@ -101,25 +103,23 @@ impl<'a> Given<'a> {
         let messages = ByBytes::new(&mut slow.messages);
         slow.result = self.run_on(rt, rt.alloc(), self.input, listing, messages);
         let found = ran.shown(rt);
-        let row = self.info.escape_ascii();
         assert_same(rt, slow.shown(rt).as_bytes(), found.as_bytes(), &row);
-        assert_that_at(rt, builds_map(rt, self) || ran.listing.is_empty(), &row);
         found
     }
 
     /// It is refused with this message.
     pub fn is_refused(&self, rt: &(impl AllocGlobal + Abort), message: &str) {
         let want = format!(in rt.alloc(); "Ok(Refused)\nda65: {message}\n").expect(rt, "format");
-        assert_same(rt, self.gives(rt).as_bytes(), want.as_bytes(), &message);
+        let found = self.gives(rt, message);
+        assert_same(rt, found.as_bytes(), want.as_bytes(), &message);
     }
 
-    /// Its listing assembles from this start to the input.
-    pub fn comes_back(&self, rt: &(impl AllocGlobal + Abort), start: u16) {
+    /// Its listing assembles from this start to this image.
+    pub fn comes_back(&self, rt: &(impl AllocGlobal + Abort), row: &str, start: u16, image: &[u8]) {
         let ran = self.run_in(rt, rt.alloc());
-        let row = self.info.escape_ascii();
         assert_equal_at(rt, &ran.result, &Ok(Status::Done), &row);
         let bytes = assemble(rt.alloc(), &ran.listing, start).expect(rt, "assemble");
-        assert_same(rt, &bytes, self.input, &row);
+        assert_same(rt, &bytes, image, &row);
     }
 }
 

@@ -15,9 +15,9 @@ fn calls(count: usize, at_once: usize) -> usize {
     count.div_ceil(at_once.clamp(1, CHUNK))
 }
 
-/// The messages and the listing of what a row gives.
-fn written(gives: &str) -> (&str, &str) {
-    let (_, written) = gives.split_once("\n").unwrap_or(("", gives));
+/// The messages and the listing of the text of a row.
+fn written(text: &str) -> (&str, &str) {
+    let (_, written) = text.split_once("\n").unwrap_or(("", text));
     match written.find("; da65 listing\n") {
         Some(at) => written.split_at(at),
         None => (written, ""),
@@ -41,7 +41,8 @@ fn assert_calls(rt: &(impl AllocGlobal + Abort), row: &Row<'_>, at_once: usize) 
     let mut messages = Counted::new(at_once);
     let given = row.given();
     let _ = given.run_on(rt, rt.alloc(), &mut input, &mut listing, &mut messages);
-    let (want_messages, want_listing) = written(row.gives.as_str());
+    let text = row.text(rt);
+    let (want_messages, want_listing) = written(&text);
     let reads = if want_listing.is_empty() {
         0
     } else {
@@ -61,7 +62,7 @@ fn assert_calls(rt: &(impl AllocGlobal + Abort), row: &Row<'_>, at_once: usize) 
         want_messages.len(),
         calls(want_messages.len(), at_once),
     ];
-    assert_equal_at(rt, &found, &want, &row.info);
+    assert_equal_at(rt, &found, &want, &row.name);
 }
 
 #[test]
