@@ -16,6 +16,11 @@ def dense():
     return b"".join(bytes((0xA9, a % 256, 0xA2, b // 257)) for a, b in zip(numbers[1::2], numbers[2::2]))
 
 
+def pushed(high, low):
+    """Two loads with an index, each pushed."""
+    return bytes((0xBD, high % 256, high // 256, 0x48, 0xBD, low % 256, low // 256, 0x48))
+
+
 RANDOM = draw.randbytes(65536)
 DATA = {
     "random": RANDOM, "nop": 65536 * b"\xea", "byte": b"\xea", "kilobyte": RANDOM[:1024],
@@ -27,6 +32,12 @@ DATA = {
     "chain": 4 * b"\xea" + b"".join(bytes((0xA9, a % 256, 0xA2, a // 256 & 255, 0xE8, 0xE8, 0xE8, 0x60)) + 8 * b"\xff"
                                     for a in range(20, 65537, 16)),
     "calls": 21845 * b"\x20\xff\xff" + b"\x60",
+    # Two tables of halves of which the first begins in the code: the same for all that read them, and others for each.
+    "table": 8000 * pushed(63900, 64100) + bytes(k * 37 % 256 for k in range(1536)),
+    "tables": b"".join(pushed(63999 - k % 200, 64060 + k // 200) for k in range(8000)) + bytes(
+        k * 37 % 256 for k in range(1536)),
+    # Words that lead to one address, from which code goes on to the end of the image.
+    "words": b"\x4c\x00\x70" + 14335 * b"\x01\x80" + b"\x60" + 36862 * b"\xea",
 }
 PARTS = ((192, 255, "TEXTTABLE"), (256, 319, "WORDTABLE"), (320, 383, "BYTETABLE"), (384, 447, "DBYTETABLE"),
          (448, 511, "CODE"))
@@ -59,6 +70,8 @@ GROUPS = {
     "labels": LABEL, "descending": LABEL, "shuffled": LABEL, "ends": SIZED, "nested": SIZED,
     "ranges": "RANGE {{ START ${0:04X}; END ${0:04X}; TYPE CODE; }};\n",
     "segments": 'SEGMENT{{START ${0:04X};END ${0:04X};NAME "s{0:04x}";}};\n',
+    "tables": "RANGE {{ START ${2:04X}; SIZE 2; TYPE ADDRTABLE; }};\n",
+    "bases": "#: BASE {{ ADDR ${3:04X}; FROM $FFFF; }};\n",
     "definitions": "n{0:04x} := ${0:04X}\n", "inlines": "#: INLINE {{ ADDR ${0:04X}; SIZE 3; }};\n",
 }
 
@@ -66,7 +79,7 @@ GROUPS = {
 def groups(kind, count):
     """That many groups. Labels that are `ends` end at one address, and those that are `nested` lie in each other."""
     return "".join(GROUPS[kind].format({"descending": count - 1 - k, "shuffled": k * 40503 % 65536}.get(kind, k),
-                                       {"ends": count - k, "nested": 65536 - 2 * k}.get(kind, 1))
+                                       {"ends": count - k, "nested": 65536 - 2 * k}.get(kind, 1), 2 * k + 3, 4 * k)
                    for k in range(count))
 
 
@@ -264,10 +277,10 @@ def test_move65_takes(move65, record_property, request, seconds, what):
     assert taken <= seconds, f"{taken} seconds of move65"
 
 
-def test_trace65(trace65, record_property, request, limit, data, groups_):
+def test_trace65(trace65, record_property, request, limit, data, groups_, kind):
     """The whole takes at most 2.3 times what its first half takes, or half of the groups."""
     def count(image, number):
-        info = "#: INLINE { ADDR $FFFF; };\n" if number == 1 else groups("inlines", number)
+        info = "#: INLINE { ADDR $FFFF; };\n" if number == 1 else groups(kind or "inlines", number)
         words = f"-i {write('a.info', info)} " if number else ""
         return instructions(trace65.path, f"-S 0 --entry 0 {words}{write('image.bin', image)}")
 

@@ -30,9 +30,10 @@ FORMS = {
     "test_halves": (r"#: HALVES \{ LOW \$(....); HIGH \$(....); \}; # \$(.*)", r"\1,\2: \3"),  # address and name
     # and what lies after the image
     "test_labels": (r'(?:LABEL|#: AFTER) \{ (?:ADDR|START) \$(....); (?:NAME "|END \$)(.*?)"?; \};', r"\1 \2"),
+    "test_skips": (r"RANGE \{ START \$(....); SIZE 1; TYPE ByteTable; \}; # skips \$(....)", r"\1 \2"),
     "test_shown": (r"RANGE .*; \}; # (.*)", r"\1"),  # what stands after each proposed range
-    "test_misplaced": (r"# ((entry|range) .*)", r"\1"),  # entries and ranges at the wrong place
-    "test_likely": (r"# ((the word|what follows) .*)", r"\1"),
+    "test_misplaced": (r"# ((entry|range|the vectors|the halves) .*)", r"\1"),  # what lies at the wrong place
+    "test_likely": (r"# ((the word|what follows|the operands) .*)", r"\1"),
     "test_unshown": (r"# no item of its own: (.*)", r"\1"),  # reached instructions that the listing does not show
 }
 

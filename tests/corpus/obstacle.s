@@ -1,6 +1,6 @@
 ; Bytes behind the call of a routine keep others from being code: what stops reading there is said, and that something follows the call.
 ; expect: code 7 of 31, constants as code 0 of 3, halves 0 right 0 wrong, rows 0 right 0 wrong, follows 0 of 0, wrong 0, runs 2 of 2
-; shows: # what follows 1 of 1 calls of $BF00 does not decode: INLINE?
+; shows: # what follows 1 of 1 calls of $BF00 does not decode: INLINE { ADDR $BF00; SIZE 3; }, of ProDOS?
 ; shows: # the undefined opcode at @text keeps 19 bytes from being code
         .code
         lda     #$00

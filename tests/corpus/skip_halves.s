@@ -1,5 +1,5 @@
 ; Half of an address in an instruction that the byte $2C hides: the listing has no number there to name.
-; expect: code 65 of 65, constants as code 0 of 8, halves 0 right 0 wrong, rows 0 right 0 wrong, follows 6 of 9, wrong 0, runs 0 of 6
+; expect: code 65 of 65, constants as code 0 of 8, halves 0 right 0 wrong, rows 0 right 0 wrong, follows 6 of 9, wrong 0, runs 0 of 7
         .code
         ldx     #$FF
         txs

@@ -1,5 +1,6 @@
 ; Tables of halves, of which one entry is an instruction in the operand of a `bit`, as the byte $2C makes it.
-; expect: code 42 of 42, constants as code 0 of 8, halves 0 right 0 wrong, rows 0 right 0 wrong, follows 12 of 12, wrong 0, runs 6 of 6
+; A nop before that one is what the byte hides then.
+; expect: code 42 of 42, constants as code 0 of 8, halves 0 right 0 wrong, rows 0 right 0 wrong, follows 12 of 12, wrong 0, runs 6 of 7
         .code
         ldx     #$02
 next:   jsr     call

@@ -20,7 +20,7 @@ WRONG_BODIES = {
     "as65": """bytes_of_a_faulty_listing failed_write_called_a_difference image_cut_short listing_without_bytes_passed_on
         syntax_called_another_fault write_fault_passed_over""",
     "reach65": """no_target_followed range_with_a_taken_byte goes_on_before_its_text""",
-    "trace65": """setting_not_compared proposals_left_out longer_item_passed_over""",
+    "trace65": """setting_not_compared proposals_left_out longer_item_passed_over hidden_instruction_not_reached""",
     "html65": """unescaped_text_read_as_text lost_line_passed_over other_text_passed_over link_to_no_element page_despite_its_fault
         fault_of_a_later_line""",
     "name65": """comments_left_out fill_moves_nothing groups_do_nothing names_stay_above_labels number_kept_in_a_list

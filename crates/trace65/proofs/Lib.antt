@@ -2,3 +2,4 @@ pub mod CommandLemmas
 pub mod CheckLemmas
 pub mod UnshownLemmas
 pub mod ReportLemmas
+pub mod SkipsLemmas

@@ -4,7 +4,7 @@ use Rattle.std.proofs.Math.Seq.{drop-append_seam}
 use Rattle.info65.specs.Words.{InfoView, OptionsView, information}
 use Rattle.info65.specs.declared.information.range.RangeSpec.{RangeSpec}
 use Rattle.map65.specs.Words.{MapView, mapped}
-use Rattle.trace65.specs.Words.{IsReadBack, Says, proposals, unshown_in, unshown_lines}
+use Rattle.trace65.specs.Words.{IsReadBack, Says, proposals, proposed_ranges, unshown_in, unshown_lines}
 use Rattle.trace65.specs.declared.report.Findings.{Findings}
 use Rattle.trace65.specs.declared.report.InfoFile.{InfoFile}
 
@@ -22,11 +22,11 @@ all_text file f text all unshown lines first same more =
 module _ (o : OptionsView) (file : InfoFile) (m : MapView) (f : Findings) (info : InfoView) where
   pub accepted : (text all unshown lines labels : List ℕ) (ranges : List RangeSpec) (shown : MapView)
       → text ≡ file.bytes.now ++ f.proposed.text.items → lines ≡ unshown → all ≡ text ++ unshown_lines lines → information o all ≡ Ok info
-      → ranges ≡ f.proposed.ranges.items → labels ≡ f.proposed.labels.items → Says file.info.now ranges labels info
+      → ranges ≡ proposed_ranges f → labels ≡ f.proposed.labels.items → Says file.info.now ranges labels info
       → shown ≡ mapped info m.image → unshown ≡ unshown_in shown m f.reached → IsReadBack o file m f unshown
   accepted text all unshown lines labels ranges shown first same more accepts are_ranges are_labels says is_map are =
       let P : List RangeSpec → Type 0 = λ l. Says file.info.now l labels info in
-      let Q : List ℕ → Type 0 = λ l. Says file.info.now f.proposed.ranges.items l info in
+      let Q : List ℕ → Type 0 = λ l. Says file.info.now (proposed_ranges f) l info in
       record {
         info = info;
         accepted = ap (information o) (sym (all_text file f text all unshown lines first same more)) ∙ accepts;

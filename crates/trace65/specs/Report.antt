@@ -5,6 +5,7 @@ use Rattle.info65.specs.declared.information.range.RangeSpec.{RangeSpec}
 use Rattle.map65.specs.Words.{MapView, MarksView, is_marked, mapped}
 use Rattle.reach65.specs.Words.{AreInOrder, AreReached, FlowView, HaveAllFree, LieIn, is_code, is_taken}
 use Rattle.trace65.specs.Check.{Says}
+use Rattle.trace65.specs.Skips.{AreSkips}
 use Rattle.trace65.specs.Unshown.{unshown_in, unshown_lines}
 use Rattle.trace65.specs.declared.report.Findings.{Findings}
 use Rattle.trace65.specs.declared.report.InfoFile.{InfoFile}
@@ -27,13 +28,14 @@ abbrev pub HaveTheRest : MapView → MarksView → List RangeSpec → Type 0
 HaveTheRest m reached ranges = HaveAllFree m.image (is_taken m (is_code m (is_marked reached))) ranges
 
 -- What is reached is what the entries lead to, those that were given among them. The ranges have the rest of the image
--- and nothing else, and no two of them share an address.
+-- and nothing else, and no two of them share an address. Each further range is an opcode that hides an instruction.
 pub record AreFindings (flow : FlowView) (asked : Tracing) (f : Findings) : Type 0 where
   pub given_first : Begins f.entries.items asked.entries.items
   pub reached : AreReached flow f.entries.items (is_marked f.reached)
   pub cover : HaveTheRest flow.map f.reached f.proposed.ranges.items
   pub inside : LieIn flow.map.image f.proposed.ranges.items
   pub apart : AreInOrder f.proposed.ranges.items
+  pub skips : AreSkips flow.map f.reached f.proposed.skips.items
 
 -- ---- what is written
 
@@ -42,12 +44,16 @@ pub record AreFindings (flow : FlowView) (asked : Tracing) (f : Findings) : Type
 abbrev pub proposals : Findings → List ℕ → List ℕ
 proposals f unshown = f.proposed.text.items ++ unshown_lines unshown
 
+-- the ranges of the rest, and then those of opcodes
+abbrev pub proposed_ranges : Findings → List RangeSpec
+proposed_ranges f = f.proposed.ranges.items ++ f.proposed.skips.items
+
 -- After the information file this is accepted, and the whole says what the file says, these ranges and these labels. In
 -- the map of all that, each reached instruction is an item that is as long, except those of the list.
 pub record IsReadBack (o : OptionsView) (file : InfoFile) (m : MapView) (f : Findings) (unshown : List ℕ) : Type 0 where
   pub info : InfoView
   pub accepted : information o (file.bytes.now ++ proposals f unshown) ≡ Ok info
-  pub says : Says file.info.now f.proposed.ranges.items f.proposed.labels.items info
+  pub says : Says file.info.now (proposed_ranges f) f.proposed.labels.items info
   pub shown : unshown ≡ unshown_in (mapped info m.image) m f.reached
 
 abbrev pub IsAccepted : OptionsView → InfoFile → MapView → Report → Type 0

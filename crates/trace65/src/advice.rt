@@ -4,20 +4,21 @@ use info65::{Tag, TagKind};
 use map65::Marks;
 use reach65::rules::Steps;
 use reach65::rules::bytes::bases::{Base, bases_of};
+use reach65::rules::bytes::copies::{Copied, copies_of};
 use reach65::rules::bytes::ground::Ground;
 use reach65::rules::bytes::items::items_of;
 use reach65::rules::bytes::labels::labels_of;
-use reach65::rules::bytes::loads::mark_loaded;
+use reach65::rules::bytes::loads::{mark_calls, mark_loaded};
 use reach65::rules::bytes::orphans::mark_orphans;
 use reach65::rules::bytes::pointers::mark_pointers;
 use reach65::rules::bytes::rows::{mark_rows, words_of};
 use reach65::rules::bytes::survey::Survey;
 use reach65::rules::bytes::tables::{Split, mark_tables};
-use reach65::rules::bytes::variables::variables_of;
+use reach65::rules::bytes::variables::{Variables, variables_of};
 use reach65::rules::entries::declared::declared_of;
 use reach65::rules::entries::growth::{Followed, follow};
 use reach65::rules::entries::halves::{Halves, Pair, halves_of};
-use reach65::rules::entries::readers::Table;
+use reach65::rules::entries::readers::{PATIENCE, Table};
 use reach65::rules::entries::starts::entries_of;
 use reach65::rules::image::ends;
 use std::alloc::{AllocError, Global};
@@ -56,10 +57,12 @@ pub struct Advice<'a> {
     pub splits: Vec<Split>,
     /// The halves of the information file.
     pub declared: Vec<Split>,
+    /// The code that is copied and runs elsewhere.
+    pub copies: Vec<Copied>,
     /// The operands that are likely counted from a table behind them.
     pub bases: Vec<Base>,
-    /// The variables right after the image.
-    pub variables: Vec<u16>,
+    /// The variables after the image.
+    pub variables: Variables,
     /// The addresses that get labels.
     pub labels: Vec<u16>,
 }
@@ -113,6 +116,9 @@ fn ground_of<'a>(
     let mut ground = Ground::of(alloc, survey.steps.image(), reach.taken, numbers, texts)?;
     ground.put_vectors(reach.reached);
     let splits = mark_tables(&mut ground, survey, tables)?;
+    for &at in &reach.followed.words {
+        ground.put_word(usize::from(at));
+    }
     Ok((ground, splits))
 }
 
@@ -126,7 +132,7 @@ fn pairs_of(
 ) -> Result<Halves, AllocError> {
     let (_, end) = ends(survey.steps.image());
     let behind = variables.last().map_or(end, |last| usize::from(*last));
-    let items = items_of(survey.steps, taken)?;
+    let items = items_of(survey, taken)?;
     halves_of(survey, &items, said, behind.saturating_add(PAGE))
 }
 
@@ -136,18 +142,34 @@ impl<'a> Advice<'a> {
         let survey = Survey::of(steps, reach.reached, reach.code)?;
         let said = said_places(steps.alloc(), steps.tags())?;
         let readers = &reach.followed.readers;
-        let tables = readers.tables(steps, reach.reached, reach.code)?;
+        let mut left = PATIENCE;
+        let tables = readers.tables(steps, reach.reached, reach.code, &mut left)?;
         let declared = declared_of(steps, &tables)?;
         let (mut ground, splits) = ground_of(&survey, reach, &said, &tables)?;
         let words = words_of(&ground, &survey)?;
         mark_rows(&mut ground, &survey, &words);
         let variables = variables_of(&survey)?;
-        let Halves { sure, likely } = pairs_of(&survey, reach.taken, said, &variables)?;
-        mark_loaded(&mut ground, &survey);
+        let copies = copies_of(&survey)?;
+        let Halves { mut sure, likely } = pairs_of(
+            &survey,
+            reach.taken,
+            said,
+            &variables.addresses,
+        )?;
+        sure.retain(|pair| !copies.iter().any(|copied| copied.hides(pair.low)));
+        mark_loaded(&mut ground, &survey)?;
+        mark_calls(&mut ground, &survey);
         mark_pointers(steps.alloc(), &mut ground)?;
         mark_orphans(&mut ground, &survey, &sure, &words)?;
-        let bases = bases_of(&survey)?;
-        let labels = labels_of(&survey, &sure, &variables, &bases, [&splits, &declared])?;
+        let mut bases = bases_of(&survey)?;
+        bases.retain(|base| !copies.iter().any(|copied| copied.reader == base.reader));
+        let labels = labels_of(
+            &survey,
+            &sure,
+            &variables.addresses,
+            &bases,
+            [&splits, &declared],
+        )?;
         Ok(Advice {
             steps,
             reach,
@@ -158,6 +180,7 @@ impl<'a> Advice<'a> {
             likely,
             splits,
             declared,
+            copies,
             bases,
             variables,
             labels,

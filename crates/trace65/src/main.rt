@@ -8,18 +8,21 @@
 #![tactic(auto)]
 
 mod advice;
+mod calls;
 mod check;
 mod command;
 mod failure;
 mod information;
 mod report;
 mod request;
+mod skips;
 mod text;
 mod unshown;
 
+use calls::lines_of;
 use failure::Failure;
 use files65::{Output, Placeholders, end, information_of, read_information, tags_of, write_text};
-use info65::Info;
+use info65::{Info, Options, Tag};
 use information::{image, information};
 use map65::Map;
 use report::{InfoFile, report_of};
@@ -27,35 +30,61 @@ use request::{Tracing, request_of};
 use std::process::ExitCode;
 use usage65::{Request, words_of};
 
-/// The text that is written of an image, which has this information with that of the include files.
-fn text_of(
-    rt: &HostRuntime,
-    tracing: &Tracing,
-    info: &Info,
-    file: &InfoFile<'_>,
-) -> Result<Vec<u8>, Failure> {
-    let image = image(rt, info)?;
-    let map = Map::build(rt.alloc(), info, &image)?;
-    Ok(report_of(rt.alloc(), &map, file, tracing)?.text)
+/// What is read of an image: an information file, what it says with its include files, and its groups `#: ..`.
+#[derive(Drop)]
+struct Read {
+    bytes: Vec<u8>,
+    info: Info,
+    tags: Vec<Tag>,
 }
 
-/// The text that is written.
+impl Read {
+    /// Reads what an information file of these bytes says.
+    fn of(rt: &HostRuntime, options: &Options, bytes: Vec<u8>) -> Result<Read, Failure> {
+        let info = information(rt, options, &bytes)?;
+        let tags = tags_of(rt.alloc(), &bytes)?;
+        Ok(Read { bytes, info, tags })
+    }
+
+    /// The text that is written of an image of this map.
+    fn text(&self, rt: &HostRuntime, tracing: &Tracing, map: &Map<'_>) -> Result<Vec<u8>, Failure> {
+        // What the file says without the names of its include files, if it has any.
+        let alone = match self.info.includes() {
+            [] => None,
+            _ => Some(information_of(rt.alloc(), &tracing.options, &self.bytes)?),
+        };
+        let file = InfoFile {
+            bytes: &self.bytes,
+            info: alone.as_ref().unwrap_or(&self.info),
+            tags: &self.tags,
+        };
+        Ok(report_of(rt.alloc(), map, &file, tracing)?.text)
+    }
+}
+
+/// The text that is written. What stands behind calls is added to the information file before the rest is found.
 fn traced_text(rt: &HostRuntime, tracing: &Tracing) -> Result<Vec<u8>, Failure> {
-    let options = &tracing.options;
-    let bytes = read_information(rt, options.info.as_deref())?;
-    let info = information(rt, options, &bytes)?;
-    // What the file says without the names of its include files, if it has any.
-    let alone = match info.includes() {
-        [] => None,
-        _ => Some(information_of(rt.alloc(), options, &bytes)?),
-    };
-    let tags = tags_of(rt.alloc(), &bytes)?;
-    let file = InfoFile {
-        bytes: &bytes,
-        info: alone.as_ref().unwrap_or(&info),
-        tags: &tags,
-    };
-    text_of(rt, tracing, &info, &file)
+    let (alloc, options) = (rt.alloc(), &tracing.options);
+    let read = Read::of(rt, options, read_information(rt, options.info.as_deref())?)?;
+    let image = image(rt, &read.info)?;
+    let map = Map::build(alloc, &read.info, &image)?;
+    let mut lines = Vec::new(alloc);
+    if !tracing.plain {
+        lines = lines_of(alloc, &map, &read.tags)?;
+    }
+    if lines.is_empty() {
+        return read.text(rt, tracing, &map);
+    }
+    let mut bytes = Vec::from_slice(alloc, &read.bytes)?;
+    bytes.extend_from_slice(&lines)?;
+    let more = Read::of(rt, options, bytes)?;
+    let map = Map::build(alloc, &more.info, &image)?;
+    let text = more.text(rt, tracing, &map)?;
+    if tracing.whole {
+        return Ok(text);
+    }
+    lines.extend_from_slice(&text)?;
+    Ok(lines)
 }
 
 /// Writes what is found in the image. The output is created once the text is there.

@@ -4,12 +4,13 @@ ghost use Rattle.std.specs.Prelude.{◌≡◌, ◌++◌, ℕ, List, IfOk, Ok, On
 ghost use Rattle.info65.specs.Words.{Adds, information};
 ghost use Rattle.map65.specs.Words.{is_marked};
 ghost use Rattle.reach65.specs.Words.{AreInOrder, HaveAllFree, LieIn};
-ghost use Rattle.trace65.specs.Words.{AreFindings, Begins, HaveTheRest, IsAccepted, IsReadBack, IsWritten, after_file, flow_of, proposals, unshown_lines};
+ghost use Rattle.trace65.specs.Words.{AreFindings, AreSkips, Begins, HaveTheRest, IsAccepted, IsReadBack, IsWritten, after_file, flow_of, proposals, proposed_ranges, unshown_lines};
 
 use crate::advice::{Advice, Reach, followed, given_entries};
 use crate::check::read_back;
 use crate::failure::Failure;
 use crate::request::Tracing;
+use crate::skips::skips_of;
 use crate::text::text_of;
 use crate::unshown::{put_unshown, unshown_of};
 use info65::{Info, Options, RangeSpec, Tag};
@@ -32,6 +33,8 @@ pub struct InfoFile<'a> {
 pub struct Proposals {
     /// The ranges of the bytes that nothing speaks for.
     pub ranges: Vec<RangeSpec>,
+    /// The ranges of opcodes that hide an instruction in their operand.
+    pub skips: Vec<RangeSpec>,
     /// The addresses that get labels.
     pub labels: Vec<u16>,
     /// What is written of all that is found, after the information file.
@@ -87,13 +90,17 @@ fn propose_from<'a>(
         HaveAllFree steps.entry.now.map.image (is_marked reach.entry.taken.now) p.ranges.items) }
     ensures inside { IfOk result (λ p. LieIn steps.entry.now.map.image p.ranges.items) }
     ensures apart { IfOk result (λ p. AreInOrder p.ranges.items) }
+    ensures skips { IfOk result (λ p.
+        AreSkips steps.entry.now.map reach.entry.reached.now p.skips.items) }
 {
     let advice = Advice::of(steps, reach)?;
     let pieces = Pieces::of(steps.alloc(), &advice.ground)?;
     let ranges = ranges_by(steps, reach.taken, &pieces)?;
-    let text = text_of(&advice, given, &ranges)?;
+    let skips = skips_of(steps.alloc(), steps, reach.reached, &advice.survey.skips)?;
+    let text = text_of(&advice, given, &ranges, &skips)?;
     Ok(Proposals {
         ranges,
+        skips,
         labels: Vec::from_slice(steps.alloc(), &advice.labels)?,
         text,
     })
@@ -109,6 +116,7 @@ fn propose(
     ensures cover { IfOk result (λ p. HaveTheRest steps.now.map reached.now p.ranges.items) }
     ensures inside { IfOk result (λ p. LieIn steps.now.map.image p.ranges.items) }
     ensures apart { IfOk result (λ p. AreInOrder p.ranges.items) }
+    ensures skips { IfOk result (λ p. AreSkips steps.now.map reached.now p.skips.items) }
 {
     let code = code_of(steps.alloc(), steps, reached)?;
     let taken = taken_of(steps.alloc(), steps, &code)?;
@@ -159,6 +167,15 @@ fn add_unshown(
     Ok(())
 }
 
+/// All ranges that are proposed. Fails only if an allocation failed.
+fn all_ranges(alloc: Global, found: &Findings) -> Result<Vec<RangeSpec>, AllocError>
+    ensures { IfOk result (λ all. all.items ≡ proposed_ranges found.now) }
+{
+    let mut all = Vec::from_slice(alloc, &found.proposed.ranges)?;
+    all.extend_from_slice(&found.proposed.skips)?;
+    Ok(all)
+}
+
 /// Reads back the information file with what is found after it. Returns where the reached instructions begin that its
 /// listing does not show, and all of that text with the comment on these.
 fn unshown_with(
@@ -175,14 +192,9 @@ fn unshown_with(
 {
     let mut text = Vec::from_slice(alloc, file.bytes)?;
     text.extend_from_slice(&found.proposed.text)?;
-    let info = read_back(
-        alloc,
-        options,
-        file.info,
-        &text,
-        &found.proposed.ranges,
-        &found.proposed.labels,
-    )?;
+    let ranges = all_ranges(alloc, found)?;
+    let labels = &found.proposed.labels;
+    let info = read_back(alloc, options, file.info, &text, &ranges, labels)?;
     let map = Map::build(alloc, &info, steps.image())?;
     let unshown = unshown_of(alloc, &map, steps, &found.reached)?;
     add_unshown(&mut text, alloc, options, &info, &unshown)?;
@@ -223,7 +235,8 @@ pub fn report_of(
     /// (`reached`). The entries begin with those of `--entry` (`given_first`).
     ///
     /// The proposed ranges are disjoint, in order (`apart`), lie in the image (`inside`), and cover exactly its
-    /// bytes that no reached instruction and no range of the information file has (`cover`).
+    /// bytes that no reached instruction and no range of the information file has (`cover`). Each further range has
+    /// one byte, the opcode of a reached instruction at whose operand another one begins (`skips`).
     ensures found { IfOk result (λ r. AreFindings (flow_of map.now file.now) tracing.now r.found) }
     /// The information file, followed by everything that is added to it, is accepted under the options of the
     /// command line (`accepted`). It says what the file says, with exactly the proposed ranges after its own,

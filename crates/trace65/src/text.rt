@@ -6,7 +6,9 @@ mod misplaced;
 mod moves;
 mod picture;
 mod ranges;
+mod room;
 mod tables;
+mod unreached;
 
 use crate::advice::Advice;
 use info65::RangeSpec;
@@ -22,6 +24,8 @@ struct Text<'a> {
     given: &'a [u16],
     /// The ranges that are proposed.
     ranges: &'a [RangeSpec],
+    /// Those of opcodes that only hide an instruction.
+    skips: &'a [RangeSpec],
 }
 
 impl<'a> Text<'a> {
@@ -64,7 +68,10 @@ impl<'a> Text<'a> {
     fn put_all(&mut self) -> Result<(), AllocError> {
         self.put_picture()?;
         self.put_misplaced()?;
+        self.put_vectors()?;
+        self.put_far_halves()?;
         self.put_ranges()?;
+        self.put_skips()?;
         self.put_labels()?;
         self.put_pairs()?;
         self.put_splits()?;
@@ -73,23 +80,29 @@ impl<'a> Text<'a> {
         self.put_pointers()?;
         self.put_words()?;
         self.put_bases()?;
+        self.put_digits()?;
+        self.put_unreached()?;
+        self.put_copies()?;
+        self.put_far()?;
         self.put_calls()?;
         self.put_stops()?;
         self.put_room()
     }
 }
 
-/// Returns the text of what is found, with these entries given, and these ranges proposed.
+/// Returns the text of what is found, with these entries given, and these ranges and skips proposed.
 pub fn text_of(
     advice: &Advice<'_>,
     given: &[u16],
     ranges: &[RangeSpec],
+    skips: &[RangeSpec],
 ) -> Result<Vec<u8>, AllocError> {
     let mut text = Text {
         out: Vec::with_capacity(advice.steps.alloc(), ranges.len().saturating_mul(160))?,
         advice,
         given,
         ranges,
+        skips,
     };
     text.put_all()?;
     Ok(text.out)

@@ -1,6 +1,7 @@
 //! What the bytes are that no code has, in the order in which it is asked.
 //!
 //! - `survey`: what reached code does with addresses.
+//! - `skips`: the opcodes that hide an instruction.
 //! - `ground`: the addresses that nothing speaks for.
 //! - `tables`: the words and halves that reached code reads by an index.
 //! - `rows`: the words in rows that are addresses of routines.
@@ -9,11 +10,13 @@
 //! - `loads`: the words that reached code loads a byte after the other.
 //! - `pointers`: the words in rows that are addresses of texts.
 //! - `orphans`: the words to whose routines nothing else leads.
+//! - `copies`: the code that is copied and runs elsewhere.
 //! - `bases`: the operands that are counted from a table behind them.
 //! - `labels`: the addresses that get labels.
 //! - `pieces`: what is left, cut into pieces. `texts` says which are texts.
 
 pub mod bases;
+pub mod copies;
 pub mod ground;
 pub mod items;
 pub mod labels;
@@ -22,6 +25,7 @@ pub mod orphans;
 pub mod pieces;
 pub mod pointers;
 pub mod rows;
+pub mod skips;
 pub mod survey;
 pub mod tables;
 pub mod texts;

@@ -11,6 +11,12 @@ use std::alloc::AllocError;
 /// How many instructions after a call are looked at.
 const STEPS: usize = 8;
 
+/// Where ProDOS of the Apple II is called.
+const PRODOS: u16 = 0xBF00;
+
+/// What stands behind such a call: its number and the address of its parameters.
+const INLINE_PRODOS: &[u8] = b"INLINE { ADDR $BF00; SIZE 3; }, of ProDOS?\n";
+
 /// The routine of the call at the address, the address, and whether nothing decodes after the call. A call that is not
 /// reached counts if its routine is, or lies outside the image.
 fn call_at(advice: &Advice<'_>, at: u16) -> Option<(u16, u16, bool)> {
@@ -61,7 +67,12 @@ impl Text<'_> {
                 self.put_decimal(b"# what follows ", failing)?;
                 self.put_decimal(b" of ", same.len())?;
                 self.put_address(b" calls of $", routine)?;
-                self.put(b" does not decode: INLINE?\n")?;
+                self.put(b" does not decode: ")?;
+                self.put(if routine == PRODOS {
+                    INLINE_PRODOS
+                } else {
+                    b"INLINE?\n"
+                })?;
             }
         }
         Ok(())

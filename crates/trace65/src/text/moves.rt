@@ -60,7 +60,7 @@ impl Text<'_> {
     /// lies there, and unless the file says it.
     pub fn put_after(&mut self) -> Result<(), AllocError> {
         let advice = self.advice;
-        let mut last = advice.variables.last().copied().unwrap_or(0);
+        let mut last = advice.variables.addresses.last().copied().unwrap_or(0);
         for pair in &advice.pairs {
             last = last.max(pair.address);
         }
@@ -72,5 +72,30 @@ impl Text<'_> {
         put_address(&mut self.out, b"#: AFTER { START $", end)?;
         self.put_address(b"; END $", last)?;
         self.put(b"; };\n")
+    }
+
+    /// Adds a comment for operands that lie far behind the image, if they may be variables of it, unless the file says
+    /// what lies there.
+    pub fn put_far(&mut self) -> Result<(), AllocError> {
+        let far = &self.advice.variables.far;
+        let tags = self.advice.steps.tags();
+        if tags.iter().any(|tag| tag.kind == TagKind::After) {
+            return Ok(());
+        }
+        if let (Some(&first), Some(&last)) = (far.first(), far.last()) {
+            let (_, end) = ends(self.advice.steps.image());
+            let gap = usize::from(first).saturating_sub(end);
+            self.put_address(b"# the operands $", first)?;
+            self.put_address(b" to $", last)?;
+            self.put_decimal(b" lie ", gap)?;
+            put_address(
+                &mut self.out,
+                b" bytes after the image: AFTER { START $",
+                end,
+            )?;
+            self.put_address(b"; END $", last)?;
+            self.put(b"; }?\n")?;
+        }
+        Ok(())
     }
 }

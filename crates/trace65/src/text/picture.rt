@@ -30,7 +30,8 @@ fn character(len: usize, code: usize, both: usize) -> u8 {
 
 impl Text<'_> {
     /// Adds a picture of the image, with what its characters stand for, and the counts of its bytes; and what usually
-    /// helps, in the order that helped, if code and ranges have less than half of the image.
+    /// helps, in the order that helped, if code and ranges have less than half of the image
+    /// without its filler.
     pub fn put_picture(&mut self) -> Result<(), AllocError> {
         self.put(b"# a character for 64 bytes: # code that is reached, + partly,\n")?;
         self.put(b"# r in a range of the information file, . neither\n")?;
@@ -63,7 +64,8 @@ impl Text<'_> {
         self.put_decimal(b" bytes of code that is reached, ", ranges)?;
         self.put_decimal(b" in ranges, ", len.saturating_sub(both))?;
         self.put(b" in neither\n")?;
-        if len <= both.saturating_mul(2) || len < ROW {
+        let filled = len.saturating_sub(self.filler_len());
+        if filled <= both.saturating_mul(2) || len < ROW {
             return Ok(());
         }
         self.put(HELP)

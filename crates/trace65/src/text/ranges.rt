@@ -8,9 +8,6 @@ use std::alloc::AllocError;
 /// How many bytes of a range are shown.
 const SHOWN: usize = 32;
 
-/// The least number of bytes that are room.
-const LEAST: usize = 16;
-
 /// A byte as it is shown: a dot stands for what is no character of ASCII.
 fn shown(byte: u8) -> u8 {
     match byte {
@@ -89,16 +86,13 @@ impl Text<'_> {
         Ok(())
     }
 
-    /// Adds a comment for each range where there is room for new code: it is filler, equal bytes, 16 at least.
-    pub fn put_room(&mut self) -> Result<(), AllocError> {
-        for &range in self.ranges {
-            let bytes = self.bytes(range);
-            let is_filler = bytes.iter().all(|byte| Some(byte) == bytes.first());
-            if LEAST <= bytes.len() && is_filler {
-                self.put_decimal(b"# room: ", bytes.len())?;
-                self.put_address(b" bytes at $", range.first)?;
-                self.put(b"\n")?;
-            }
+    /// Adds the lines of the opcodes that only hide an instruction.
+    pub fn put_skips(&mut self) -> Result<(), AllocError> {
+        for &range in self.skips {
+            self.put_address(b"RANGE { START $", range.first)?;
+            let inner = range.first.saturating_add(1);
+            self.put_address(b"; SIZE 1; TYPE ByteTable; }; # skips $", inner)?;
+            self.put(b"\n")?;
         }
         Ok(())
     }

@@ -49,8 +49,11 @@ impl Text<'_> {
             let Some(to) = split.table.entry(map.image(), index) else {
                 continue;
             };
-            if !map.is_code(to) || advice.survey.reached.get(to) || *left == 0 {
+            if !map.is_code(to) || advice.survey.reached.get(to) {
                 continue;
+            }
+            if *left == 0 {
+                break;
             }
             *left -= 1;
             if !split.table.has_words() && reads_on(steps, Some(to), ADDRESSES) {
@@ -66,20 +69,21 @@ impl Text<'_> {
     }
 
     /// Adds a comment for each address in a table of the information file to which reading does not lead, at most 16
-    /// for each range, and for all tables of halves.
+    /// for all ranges, and for all tables of halves.
     pub fn put_pointers(&mut self) -> Result<(), AllocError> {
         let advice = self.advice;
+        let mut left = MOST;
         for &range in advice.steps.map().info().ranges() {
-            let mut left = MOST;
             match range.role {
                 RangeType::AddrTable => self.put_table(table_of(range, 0), &mut left)?,
                 RangeType::RtsTable => self.put_table(table_of(range, 1), &mut left)?,
                 _ => {}
             }
         }
-        let mut left = MOST;
+        let (mut left, mut entries) = (MOST, ADDRESSES);
         for &split in &advice.declared {
-            if split.table.is_code && 1 < split.count {
+            entries = entries.saturating_sub(split.count);
+            if split.table.is_code && 1 < split.count && 0 < entries {
                 self.put_table(split, &mut left)?;
             }
         }

@@ -1,10 +1,11 @@
 //! Operands that lie in code right before a table, which they are likely counted from.
 
-use crate::rules::Step;
 use crate::rules::bytes::survey::{Survey, writes};
 use crate::rules::image::{address, ends};
+use crate::rules::{Step, Steps};
 use info65::TagKind;
 use isa65::Mode;
+use map65::Marks;
 use std::alloc::AllocError;
 
 /// How far a table may lie behind the operand that is counted from it.
@@ -18,23 +19,37 @@ pub struct Base {
     pub table: u16,
 }
 
-/// The table from which the operand of an instruction is counted: it lies in code, and the table behind that code.
-fn base_of(survey: &Survey<'_>, reader: u16, step: &Step) -> Option<Base> {
+/// The operand of an instruction that reads with an index, if it lies in code.
+fn operand_in_code(survey: &Survey<'_>, step: &Step) -> Option<u16> {
     let operand = step.operand?;
-    let from = usize::from(operand);
-    let (_, end) = ends(survey.steps.image());
-    if !matches!(step.op.mode, Mode::Absx | Mode::Absy)
-        || writes(step.op.mnemonic)
-        || !survey.code.get_at(from)
-    {
-        return None;
+    let reads = matches!(step.op.mode, Mode::Absx | Mode::Absy) && !writes(step.op.mnemonic);
+    (reads && survey.code.get(operand)).then_some(operand)
+}
+
+/// Marks of the instructions that groups BASE have.
+fn given(steps: &Steps<'_>) -> Result<Marks, AllocError> {
+    let mut marks = Marks::none(steps.alloc())?;
+    for tag in steps.tags() {
+        if let (TagKind::Base, Some(reader)) = (tag.kind, tag.address) {
+            marks.set(reader);
+        }
     }
-    let table = (from..end.min(from.saturating_add(FAR))).find(|at| !survey.code.get_at(*at))?;
-    Some(Base {
-        reader,
-        operand,
-        table: address(table)?,
-    })
+    Ok(marks)
+}
+
+/// For each byte of the image the address where the code ends that has it, or its own address.
+fn code_ends(survey: &Survey<'_>) -> Result<Vec<usize>, AllocError> {
+    let (start, end) = ends(survey.steps.image());
+    let mut found = Vec::with_capacity(survey.steps.alloc(), end.saturating_sub(start))?;
+    let mut behind = end;
+    for at in (start..end).rev() {
+        if !survey.code.get_at(at) {
+            behind = at;
+        }
+        found.push(behind)?;
+    }
+    found.reverse();
+    Ok(found)
 }
 
 /// Returns the operands with an index that are likely counted from a table behind them, but for those of groups BASE.
@@ -42,13 +57,32 @@ pub fn bases_of(survey: &Survey<'_>) -> Result<Vec<Base>, AllocError> {
     let steps = survey.steps;
     let mut found = Vec::new(steps.alloc());
     for &reader in &survey.users {
-        if let Some(step) = steps.at(reader)
-            && let Some(base) = base_of(survey, reader, step)
-            && !steps.tags().iter().any(|tag| tag.kind == TagKind::Base
-                && tag.address == Some(reader))
+        if let Some(operand) = steps
+            .at(reader)
+            .and_then(|step| operand_in_code(survey, step))
         {
-            found.push(base)?;
+            found.push(Base {
+                reader,
+                operand,
+                table: operand,
+            })?;
         }
     }
+    if found.is_empty() {
+        return Ok(found);
+    }
+    let (start, end) = ends(steps.image());
+    let (given, code_ends) = (given(steps)?, code_ends(survey)?);
+    for base in found.as_mut_slice() {
+        let from = usize::from(base.operand);
+        let table = code_ends
+            .get(from.saturating_sub(start))
+            .copied()
+            .unwrap_or(end);
+        if table < end.min(from.saturating_add(FAR)) {
+            base.table = address(table).unwrap_or(base.operand);
+        }
+    }
+    found.retain(|base| base.table != base.operand && !given.get(base.reader));
     Ok(found)
 }

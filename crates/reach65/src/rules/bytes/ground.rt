@@ -68,6 +68,15 @@ impl<'i> Ground<'i> {
         clear_span(&mut self.plain, from, to);
     }
 
+    /// Marks the word at the address, if it is an address of the image and nothing speaks for it.
+    pub fn put_word(&mut self, at: usize) {
+        if let Some(word) = self.word(at)
+            && is_inside(self.image, usize::from(word))
+        {
+            self.put_words(0, at, at.saturating_add(2));
+        }
+    }
+
     /// Marks the addresses from one to before another as halves of addresses.
     pub fn put_numbers(&mut self, from: usize, to: usize) {
         self.numbers.set_span(from, to);

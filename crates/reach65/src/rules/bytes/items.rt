@@ -1,13 +1,15 @@
 //! Which instructions are listed as such.
 
-use crate::rules::Steps;
+use crate::rules::bytes::survey::Survey;
 use crate::rules::image::{address, ends};
 use map65::Marks;
 use std::alloc::AllocError;
 
 /// Returns marks of where the instructions begin that are listed: each begins where the one before it ends, and neither
-/// a range nor a border of a segment cuts it. Ranges will have what neither the information file nor reached code has.
-pub fn items_of(steps: &Steps<'_>, taken: &Marks) -> Result<Marks, AllocError> {
+/// a range nor a border of a segment cuts it. Ranges will have what neither the information file nor reached code has,
+/// and opcodes that only hide an instruction.
+pub fn items_of(survey: &Survey<'_>, taken: &Marks) -> Result<Marks, AllocError> {
+    let steps = survey.steps;
     let (alloc, map) = (steps.alloc(), steps.map());
     let mut borders = Vec::new(alloc);
     for segment in map.info().segments() {
@@ -20,7 +22,7 @@ pub fn items_of(steps: &Steps<'_>, taken: &Marks) -> Result<Marks, AllocError> {
     let (start, end) = ends(steps.image());
     for at in start..end {
         let first = at as u16;
-        if at < next || !taken.get(first) {
+        if at < next || !taken.get(first) || survey.is_skip(first) {
             continue;
         }
         let after = at.saturating_add(steps.len_at(first));

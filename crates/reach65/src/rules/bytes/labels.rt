@@ -1,5 +1,6 @@
 //! The addresses that get labels with default names.
 
+use crate::rules::Steps;
 use crate::rules::bytes::bases::Base;
 use crate::rules::bytes::survey::Survey;
 use crate::rules::bytes::tables::Split;
@@ -7,6 +8,7 @@ use crate::rules::entries::declared::addresses_of;
 use crate::rules::entries::halves::Pair;
 use crate::rules::image::address;
 use info65::TagKind;
+use map65::Marks;
 use std::alloc::AllocError;
 
 /// The address that gets a label for one that a group HALVES has: the one after it, if a routine begins there and no
@@ -18,9 +20,25 @@ fn meant(survey: &Survey<'_>, address: u16) -> u16 {
     }
 }
 
+/// Marks of the addresses that names and groups ENTRY of the information file have.
+fn named_of(steps: &Steps<'_>) -> Result<Marks, AllocError> {
+    let mut marks = Marks::none(steps.alloc())?;
+    let info = steps.map().info();
+    for k in 0..info.given_count() {
+        marks.set(info.given(k).address);
+    }
+    for tag in steps.tags() {
+        if let (TagKind::Entry, Some(address)) = (tag.kind, tag.address) {
+            marks.set(address);
+        }
+    }
+    Ok(marks)
+}
+
 /// Returns the addresses that get labels, in order: of the pairs and the variables, of the tables from which operands
 /// are counted, in tables of halves, and those that groups HALVES and BASE give by themselves, but for those that a
-/// name of the file covers.
+/// name of the file covers, and those that are no variable right before an address with a name or a group ENTRY: these
+/// are rather that name less one.
 pub fn labels_of(
     survey: &Survey<'_>,
     pairs: &[Pair],
@@ -49,8 +67,16 @@ pub fn labels_of(
             wanted.push(meant)?;
         }
     }
+    if wanted.is_empty() {
+        return Ok(wanted);
+    }
     wanted.sort()?;
     wanted.dedup();
-    wanted.retain(|address| info.covering(*address).is_none());
+    let named = named_of(steps)?;
+    wanted.retain(|address| {
+        let is_variable = variables.binary_search(address).is_ok();
+        let next = usize::from(*address).saturating_add(1);
+        info.covering(*address).is_none() && (is_variable || !named.get_at(next))
+    });
     Ok(wanted)
 }

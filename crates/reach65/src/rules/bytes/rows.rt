@@ -32,6 +32,38 @@ fn row_len(ground: &Ground<'_>, survey: &Survey<'_>, less: u16, from: usize, end
     if ROW <= count { count } else { 0 }
 }
 
+/// Whether the word at the address leads to code, this much after it: to a reached instruction.
+fn leads(ground: &Ground<'_>, survey: &Survey<'_>, less: u16, at: usize) -> bool {
+    ground.word(at).is_some_and(|word| {
+        let to = usize::from(word).saturating_add(usize::from(less));
+        survey.reached.get_at(to) && survey.code.get_at(to)
+    })
+}
+
+/// Marks the words of a row of so many at the address, and those right behind and right before them that lead to code.
+fn put_row(
+    ground: &mut Ground<'_>,
+    survey: &Survey<'_>,
+    less: u16,
+    (start, from, end): (usize, usize, usize),
+    count: usize,
+) {
+    let behind = from.saturating_add(count.saturating_mul(2));
+    let more = (behind..end).step_by(2);
+    let more = more
+        .take_while(|at| leads(ground, survey, less, *at))
+        .count();
+    let mut first = from;
+    for _ in start..from {
+        let before = first.saturating_sub(2);
+        if before < start || first < 2 || !leads(ground, survey, less, before) {
+            break;
+        }
+        first = before;
+    }
+    ground.put_words(less, first, behind.saturating_add(more.saturating_mul(2)));
+}
+
 /// Returns where words begin that may be an address of a routine, or less one, or that of a name.
 pub fn words_of(ground: &Ground<'_>, survey: &Survey<'_>) -> Result<Vec<u16>, AllocError> {
     let (alloc, info) = (survey.steps.alloc(), survey.steps.map().info());
@@ -54,14 +86,16 @@ pub fn words_of(ground: &Ground<'_>, survey: &Survey<'_>) -> Result<Vec<u16>, Al
 }
 
 /// Marks the words of rows that are addresses of routines, and those of rows that are such addresses less
-/// one. `words` has where rows may begin.
+/// one, with the words beside them that lead to any code. `words` has where rows may begin.
 pub fn mark_rows(ground: &mut Ground<'_>, survey: &Survey<'_>, words: &[u16]) {
-    let (_, end) = ends(ground.image);
+    let (start, end) = ends(ground.image);
     for &first in words {
         let at = usize::from(first);
         for less in [0u16, 1] {
-            let len = row_len(ground, survey, less, at, end);
-            ground.put_words(less, at, at.saturating_add(len.saturating_mul(2)));
+            let count = row_len(ground, survey, less, at, end);
+            if 0 < count {
+                put_row(ground, survey, less, (start, at, end), count);
+            }
         }
     }
 }

@@ -1,6 +1,8 @@
 //! What reached code does with addresses.
 
+use crate::rules::bytes::skips::skips_of;
 use crate::rules::entries::halves::may_begin;
+use crate::rules::entries::sound::holder_of;
 use crate::rules::image::{address, byte, ends};
 use crate::rules::{Placed, Steps};
 use isa65::Mnemonic::{self, Asl, Dec, Inc, Jsr, Lsr, Rol, Ror, Sta, Stx, Sty, Stz, Trb, Tsb};
@@ -15,6 +17,8 @@ pub struct Survey<'a> {
     pub reached: &'a Marks,
     /// One has it.
     pub code: &'a Marks,
+    /// Where opcodes stand that only hide an instruction, in order.
+    pub skips: Vec<u16>,
     /// One goes on to it: it leads there as the next one, or branches there.
     pub gone_on: Marks,
     /// One goes to it by its operand.
@@ -70,6 +74,7 @@ impl<'a> Survey<'a> {
             steps,
             reached,
             code,
+            skips: skips_of(steps, reached)?,
             gone_on: Marks::none(alloc)?,
             goals: Marks::none(alloc)?,
             called: Marks::none(alloc)?,
@@ -89,9 +94,24 @@ impl<'a> Survey<'a> {
         Ok(survey)
     }
 
+    /// Returns whether the opcode at the address only hides an instruction.
+    pub fn is_skip(&self, address: u16) -> bool {
+        self.skips.binary_search(&address).is_ok()
+    }
+
+    /// Returns where the reached instruction begins that the address lies inside of, unless that only hides one.
+    pub fn holder_of(&self, address: u16) -> Option<u16> {
+        let holder = holder_of(self.steps, self.reached, address)?;
+        (!self.is_skip(holder)).then_some(holder)
+    }
+
     /// Marks what the instruction does.
     fn put(&mut self, placed: Placed<'_>) -> Result<(), AllocError> {
         let Placed { at, step } = placed;
+        if self.is_skip(at) {
+            set_some(&mut self.gone_on, step.next);
+            return Ok(());
+        }
         if may_begin(step.op) {
             self.firsts.push(at)?;
         }

@@ -66,11 +66,23 @@ impl Alphabet {
     }
 }
 
-/// How many characters follow each other, and how many of them are letters or blanks.
+/// Whether two characters are digits of which one comes after the other.
+fn are_next_digits(one: u8, two: u8) -> bool {
+    one.abs_diff(two) == 1 && matches!(one % 128, 0x30..=0x39) && matches!(two % 128, 0x30..=0x39)
+}
+
+/// How many digits stand in their order before others count as letters.
+const DIGITS: u32 = 3;
+
+/// How many characters follow each other, and how many of them are letters or blanks, or digits in a row of four.
 #[derive(Clone, Copy)]
 pub struct Chars {
     pub count: u32,
     letters: u32,
+    /// The last one.
+    last: u8,
+    /// How many digits before it are in their order.
+    digits: u32,
 }
 
 impl Chars {
@@ -79,21 +91,29 @@ impl Chars {
         Chars {
             count: 0,
             letters: 0,
+            last: 0,
+            digits: 0,
         }
     }
 
     /// These characters, and one beside them.
     pub fn with(self, alphabet: Alphabet, byte: u8) -> Chars {
+        let digits = if are_next_digits(self.last, byte) {
+            self.digits.saturating_add(1)
+        } else {
+            0
+        };
+        let counts = alphabet.is_letter(byte) || DIGITS <= digits;
         Chars {
             count: self.count.saturating_add(1),
-            letters: self
-                .letters
-                .saturating_add(u32::from(alphabet.is_letter(byte))),
+            letters: self.letters.saturating_add(u32::from(counts)),
+            last: byte,
+            digits,
         }
     }
 
     /// Returns whether they are a text of the alphabet: there are five at least, or eight with the high bit set, and
-    /// half of them are letters or blanks.
+    /// half of them are letters or blanks, or digits in a row of four.
     pub fn are_text(self, alphabet: Alphabet) -> bool {
         let least = if alphabet == Alphabet::High { 8 } else { 5 };
         least <= self.count && self.count <= self.letters.saturating_mul(2)

@@ -1,16 +1,47 @@
 //! The variables right after an image.
 
-use crate::rules::bytes::survey::Survey;
+use crate::rules::bytes::survey::{Survey, writes};
 use crate::rules::image::{address, ends};
 use info65::Info;
-use map65::ADDRESSES;
+use map65::{ADDRESSES, Marks};
 use std::alloc::AllocError;
 
 /// How far a variable may lie after the one before it.
-const GAP: usize = 4096;
+const GAP: usize = 2048;
 
-/// Where machines have registers and other ROMs rather than variables.
+/// How far the first one may lie after the image to be one without a question.
+const NEAR: usize = 256;
+
+/// How many of them are both read and written, if the first may lie farther.
+const USED: usize = 8;
+
+/// Where machines have cartridges, other ROMs and registers rather than variables of a program that ends before.
+const BORDERS: [usize; 3] = [0x8000, 0x9000, 0xC000];
+
+/// How far behind the one before the first variable from such a border on may lie.
+const CLOSE: usize = 32;
+
+/// Where machines have registers and other ROMs whatever the program is.
 const REGISTERS: usize = 0xD000;
+
+/// The variables after an image.
+#[derive(Drop)]
+pub struct Variables {
+    /// The addresses, in order.
+    pub addresses: Vec<u16>,
+    /// Those that may be some: the first lies far from the image.
+    pub far: Vec<u16>,
+}
+
+/// How far after the one before a variable of this address may lie, of an image that ends there.
+fn gap_before(end: usize, last: usize, at: usize) -> usize {
+    let goes_over = |border: &usize| end <= *border && last < *border && *border <= at;
+    if BORDERS.iter().any(goes_over) {
+        CLOSE
+    } else {
+        GAP
+    }
+}
 
 /// The first address from this one on that a name covers.
 fn first_named(info: &Info, from: usize) -> usize {
@@ -25,18 +56,28 @@ fn first_named(info: &Info, from: usize) -> usize {
     first
 }
 
-/// Returns the variables right after the image: from its end on the operands, each at most 4,096 bytes after the one
-/// before, up to where a name of the information file covers one, and before $D000. An image that ends in the zero page
-/// has none, and one that writes to none of them has none.
-pub fn variables_of(survey: &Survey<'_>) -> Result<Vec<u16>, AllocError> {
+/// Whether so many of these addresses are both read and written that they are variables, however far they lie.
+fn are_used(survey: &Survey<'_>, addresses: &[u16]) -> Result<bool, AllocError> {
+    let mut read = Marks::none(survey.steps.alloc())?;
+    for &at in &survey.users {
+        if let Some(step) = survey.steps.at(at)
+            && let Some(operand) = step.operand
+            && !writes(step.op.mnemonic)
+        {
+            read.set(operand);
+        }
+    }
+    let is_used = |address: &&u16| read.get(**address) && survey.written.get(**address);
+    Ok(USED <= addresses.iter().filter(is_used).count())
+}
+
+/// The operands after the image that are its variables. Empty if the image writes to none of them.
+fn operands_after(survey: &Survey<'_>) -> Result<Vec<u16>, AllocError> {
     let map = survey.steps.map();
     let mut found = Vec::new(survey.steps.alloc());
     let (_, end) = ends(map.image());
-    if end <= 0x100 {
-        return Ok(found);
-    }
     let mut last = end;
-    let mut writes = false;
+    let mut has_written = false;
     for at in end..first_named(map.info(), end).min(REGISTERS) {
         let Some(address) = address(at) else {
             break;
@@ -45,13 +86,37 @@ pub fn variables_of(survey: &Survey<'_>) -> Result<Vec<u16>, AllocError> {
             break;
         }
         if survey.operands.get(address) {
+            if last.saturating_add(gap_before(end, last, at)) < at {
+                break;
+            }
             found.push(address)?;
-            writes = writes || survey.written.get(address);
+            has_written = has_written || survey.written.get(address);
             last = at;
         }
     }
-    if !writes {
+    if !has_written {
         found.clear();
     }
     Ok(found)
+}
+
+/// Returns the variables after the image: from its end on the operands, each at most 2,048 bytes after the one before,
+/// up to where a name of the information file covers one, and before $D000. Where the image ends before $8000, $9000 or
+/// $C000, the first from there on lies at most 32 bytes after the one before. Where the first of all lies more than 256
+/// bytes after the image they only may be some, unless eight of them are both read and written. An image that ends in
+/// the zero page has none, and one that writes to none of them has none.
+pub fn variables_of(survey: &Survey<'_>) -> Result<Variables, AllocError> {
+    let alloc = survey.steps.alloc();
+    let (_, end) = ends(survey.steps.image());
+    let (mut addresses, mut far) = (Vec::new(alloc), Vec::new(alloc));
+    if 0x100 < end {
+        let found = operands_after(survey)?;
+        let first = found.first().map_or(end, |first| usize::from(*first));
+        if first <= end.saturating_add(NEAR) || are_used(survey, &found)? {
+            addresses = found;
+        } else {
+            far = found;
+        }
+    }
+    Ok(Variables { addresses, far })
 }

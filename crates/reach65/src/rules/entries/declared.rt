@@ -4,7 +4,7 @@ use crate::rules::Steps;
 use crate::rules::bytes::tables::Split;
 use crate::rules::entries::readers::Table;
 use info65::TagKind;
-use map65::Marks;
+use map65::{ADDRESSES, Marks};
 use std::alloc::AllocError;
 
 /// The table whose halves begin at these addresses: as code reads it, if it is one of these, which are in order; else
@@ -45,12 +45,16 @@ pub fn declared_of(steps: &Steps<'_>, tables: &[Table]) -> Result<Vec<Split>, Al
     Ok(found)
 }
 
-/// Returns the addresses in these tables, each once.
+/// Returns the addresses in these tables, each once. At most as many entries count as there are addresses: no more
+/// have bytes of their own.
 pub fn addresses_of(steps: &Steps<'_>, splits: &[Split]) -> Result<Vec<u16>, AllocError> {
     let mut marks = Marks::none(steps.alloc())?;
     let mut found = Vec::new(steps.alloc());
+    let mut left = ADDRESSES;
     for split in splits {
-        for index in 0..split.count {
+        let count = split.count.min(left);
+        left = left.saturating_sub(count);
+        for index in 0..count {
             if let Some(address) = split.table.entry(steps.image(), index)
                 && !marks.get(address)
             {

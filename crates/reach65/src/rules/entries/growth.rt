@@ -5,6 +5,7 @@ use crate::rules::entries::halves::{may_begin, pairs_at};
 use crate::rules::entries::obstacles::{Obstacle, worst_of};
 use crate::rules::entries::readers::{Readers, Table};
 use crate::rules::entries::search::{Least, Search};
+use crate::rules::entries::sound::is_passed;
 use crate::rules::entries::starts::pointers_of;
 use crate::rules::entries::words::DataWords;
 use crate::rules::image::address;
@@ -55,7 +56,9 @@ impl Search<'_> {
             if let Some(end) = step.end
                 && self.is_open(end)
             {
-                found.push((end, true))?;
+                let passed = step.next.is_some() && is_passed(self.steps, end);
+                let after = end.saturating_add(u16::from(passed));
+                found.push((after, true))?;
             }
         }
         Ok(())
@@ -149,10 +152,13 @@ impl Search<'_> {
     }
 
     /// Lets the sound beginnings join to which the entries of a table lead that reached code reads, up to one that
-    /// leads to no code, unless it is whole.
+    /// leads to no code, unless it is whole. If the first three words lead to what reads as code, code of any length
+    /// counts.
     fn join_table(&mut self, table: Table) -> Result<(), AllocError> {
         let mut is_whole = false;
-        for index in 0..table.most() {
+        let is_row = table.has_words() && table.begins(self.steps);
+        for index in 0..table.most().min(self.entries_left) {
+            self.entries_left = self.entries_left.saturating_sub(1);
             let (low, high) = table.places(index);
             let Some(to) = table.entry(self.steps.image(), index) else {
                 break;
@@ -160,8 +166,9 @@ impl Search<'_> {
             if self.code.get_at(low) || self.code.get_at(high) {
                 break;
             }
-            let joins = self.join_entry(to, IN_TABLE)?;
-            is_whole = is_whole || !joins && table.is_whole(self.steps);
+            let least = if is_row { 1 } else { IN_TABLE };
+            let joins = self.join_entry(to, least)?;
+            is_whole = is_whole || !joins && table.is_whole(self.steps, &mut self.entries_left);
             if !joins && !is_whole {
                 break;
             }
@@ -169,16 +176,25 @@ impl Search<'_> {
         Ok(())
     }
 
+    /// Whether the entries of a table have been looked at: what has failed once would fail again.
+    fn is_known(&self, table: Table) -> bool {
+        self.tables.binary_search(&table).is_ok()
+    }
+
     /// Lets the sound beginnings join to which the entries of tables lead, of those that reached code reads, and of
     /// those that the information file has in halves.
     fn join_tables(&mut self) -> Result<(), AllocError> {
         let steps = self.steps;
-        let tables = self.readers.tables(steps, &self.marks, &self.code)?;
+        let left = &mut self.entries_left;
+        let tables = self.readers.tables(steps, &self.marks, &self.code, left)?;
         for &table in &tables {
-            if table.is_code {
+            if table.is_code && !self.is_known(table) {
                 self.join_table(table)?;
             }
         }
+        self.tables.clear();
+        self.tables.extend_from_slice(&tables)?;
+        self.tables.sort()?;
         let mut declared = declared_of(steps, &tables)?;
         declared.retain(|split| split.table.is_code && 1 < split.count);
         for &to in &addresses_of(steps, &declared)? {
@@ -202,6 +218,8 @@ impl Search<'_> {
         for _scan in 0..SCANS {
             self.join_tables()?;
             words.join_rows(self)?;
+            words.join_fields(self)?;
+            self.join_named(&words)?;
             self.join_jumps()?;
             self.join_candidates(&mut words.behind_rows(self)?)?;
             if self.looked == self.joined.len() {
@@ -219,6 +237,8 @@ impl Search<'_> {
 pub struct Followed {
     pub entries: Vec<u16>,
     pub readers: Readers,
+    /// The places of words of data that lead to some of them, alone or behind texts.
+    pub words: Vec<u16>,
     /// The three worst obstacles.
     pub obstacles: Vec<Obstacle>,
     /// The calls that were read in trials that failed, once for each.
@@ -238,6 +258,7 @@ pub fn follow(steps: &Steps<'_>, entries: &[u16], plain: bool) -> Result<Followe
     Ok(Followed {
         entries: search.entries,
         readers: search.readers,
+        words: search.words,
         obstacles,
         calls: search.calls,
     })

@@ -4,7 +4,8 @@ use crate::rules::bytes::survey::Survey;
 use crate::rules::entries::sound::holder_of;
 use crate::rules::{Placed, Step, Steps};
 use isa65::Mnemonic::{
-    Adc, Clc, Dey, Iny, Jsr, Lda, Ldx, Ldy, Pha, Pla, Sta, Stx, Sty, Tax, Tay, Txa, Tya,
+    Adc, Clc, Cmp, Cpx, Cpy, Dey, Iny, Jsr, Lda, Ldx, Ldy, Pha, Pla, Sbc, Sec, Sta, Stx, Sty, Tax,
+    Tay, Txa, Tya,
 };
 use isa65::{Mode, Op};
 use map65::Marks;
@@ -13,11 +14,23 @@ use std::alloc::AllocError;
 /// How many instructions may stand between two stores through a pointer.
 const BETWEEN: usize = 8;
 
+/// How many instructions behind a store may use its pointer with an index.
+const NEAR: usize = 4;
+
+/// How many instructions behind a comparison the one with the other half may be.
+const APART: usize = 3;
+
+/// The rank of bytes that are added.
+const ADDED: u8 = 8;
+
 /// The rank of bytes that are pushed.
 const PUSHED: u8 = 9;
 
+/// The rank of bytes that are compared with.
+const COMPARED: u8 = 10;
+
 /// What the rank of a pair is more that is only likely.
-const LIKELY: u8 = 10;
+const LIKELY: u8 = 11;
 
 /// Where the first of two stores through a pointer goes, as if the pointer were known.
 const PLACE: u16 = 0x80;
@@ -35,7 +48,7 @@ pub struct Pair {
     pub less: u16,
     /// How likely it is meant, if other pairs have one of its bytes: of two the one of the lower rank is likelier. It
     /// is 0 for bytes that are stored to neighbours, 1 to 6 by the registers, 7 through a pointer, 8 for bytes that are
-    /// added, and 9 for bytes that are pushed.
+    /// added, 9 for bytes that are pushed, and 10 for bytes that are compared with.
     rank: u8,
 }
 
@@ -81,11 +94,13 @@ impl Pair {
     }
 
     /// Returns whether it is an address more often than two numbers: its low half is not zero, its high half is not in
-    /// A if the low one is in X or Y, and the first load is not one of Y and the second one of X.
+    /// A if the low one is in X or Y, the first load is not one of Y and the second one of X, and they are not
+    /// compared with.
     pub fn is_plausible(&self) -> bool {
         self.meant() % 256 != 0
             && self.rank != 4
             && self.rank != 5
+            && self.rank != COMPARED
             && !(self.rank == 6 && self.low < self.high)
             && !(self.rank == 2 && self.high < self.low)
     }
@@ -98,7 +113,12 @@ fn is_load(op: Op) -> bool {
 
 /// Returns whether a pair may begin with the instruction.
 pub fn may_begin(op: Op) -> bool {
-    is_load(op) || op.mnemonic == Clc
+    is_load(op) || matches!(op.mnemonic, Clc | Sec) || is_sum(op) || is_compare(op)
+}
+
+/// Whether it compares a register with an immediate, or takes one away from A.
+fn is_compare(op: Op) -> bool {
+    op.mode == Mode::Imm && matches!(op.mnemonic, Cmp | Cpx | Cpy | Sbc)
 }
 
 /// Whether it adds an immediate.
@@ -111,6 +131,15 @@ pub fn stored_to(step: &Step) -> Option<u16> {
     match (step.op.mnemonic, step.op.mode) {
         (Sta | Stx | Sty, Mode::Abs) => step.operand,
         (Sta | Stx | Sty, Mode::Zp) => step.byte.map(u16::from),
+        _ => None,
+    }
+}
+
+/// The address from which the instruction loads a register, if it does.
+fn loaded_from(step: &Step) -> Option<u16> {
+    match (step.op.mnemonic, step.op.mode) {
+        (Lda | Ldx | Ldy, Mode::Abs) => step.operand,
+        (Lda | Ldx | Ldy, Mode::Zp) => step.byte.map(u16::from),
         _ => None,
     }
 }
@@ -187,20 +216,160 @@ impl<'a> Code<'a> {
         let high = self.behind(brings)?;
         let keeps = keeps_carry(takes.step.op) && keeps_carry(brings.step.op);
         let adds = is_sum(low.step.op) && is_sum(high.step.op);
-        (keeps && adds).then_some(Pair::of(8, low, high)?)
+        (keeps && adds).then_some(Pair::of(ADDED, low, high)?)
+    }
+
+    /// The pair that is added without a `clc` before it: `adc #`, a store, and what brings the high half of a number,
+    /// to which `adc #` adds the other one; or `lda #` brings that, and `adc #0` adds the carry. A store follows.
+    fn added_on(&self, low: Placed<'a>) -> Option<Pair> {
+        let takes = self.behind(low)?;
+        let brings = self.behind(takes)?;
+        let sum = self.behind(brings)?;
+        let last = self.behind(sum)?;
+        let fits = takes.step.op.mnemonic == Sta
+            && matches!(brings.step.op.mnemonic, Lda | Txa | Tya)
+            && is_sum(sum.step.op)
+            && last.step.op.mnemonic == Sta;
+        let is_carry = is_load(brings.step.op) && sum.step.byte == Some(0);
+        let high = if is_carry { brings } else { sum };
+        fits.then_some(Pair::of(ADDED, low, high)?)
+    }
+
+    /// The pair whose low half is an index: `adc #` adds the high one, which is stored to the high byte of a pointer,
+    /// `ldy #` loads the low one, and one of the next instructions uses the pointer with it.
+    fn indexed_through(&self, high: Placed<'a>) -> Option<Pair> {
+        let store = self.behind(high)?;
+        let to = match (store.step.op.mnemonic, store.step.op.mode) {
+            (Sta, Mode::Zp) => store.step.byte?,
+            _ => return None,
+        };
+        let mut low = None;
+        let mut then = store;
+        for _ in 0..NEAR {
+            then = self.steps.marked(self.marks, then.step.next?)?;
+            let op = then.step.op;
+            if then.step.to.is_some() {
+                return None;
+            }
+            if op.mnemonic == Ldy && op.mode == Mode::Imm && low.is_none() {
+                low = Some(then);
+            } else if op.mode == Mode::Indy && then.step.byte == to.checked_sub(1) {
+                return Pair::of(ADDED, low?, high);
+            }
+        }
+        None
+    }
+
+    /// Where the instruction right before this one loads a register from, if it does.
+    fn loaded_before(&self, placed: Placed<'a>) -> Option<u16> {
+        [2u16, 3].iter().find_map(|&distance| {
+            let before = self
+                .steps
+                .marked(self.marks, placed.at.checked_sub(distance)?)?;
+            (before.step.end == Some(placed.at)).then_some(loaded_from(before.step)?)
+        })
+    }
+
+    /// The pair that is taken away: `sec`, `sbc #`, and `sbc #` again, with one instruction between them that takes
+    /// the low half away, and one that brings the high half of the number.
+    fn taken_twice(&self, first: Placed<'a>) -> Option<Pair> {
+        if first.step.op.mnemonic != Sec {
+            return None;
+        }
+        let low = self.behind(first)?;
+        let takes = self.behind(low)?;
+        let brings = self.behind(takes)?;
+        let high = self.behind(brings)?;
+        let keeps = keeps_carry(takes.step.op) && keeps_carry(brings.step.op);
+        let takes_away = |op: Op| op.mode == Mode::Imm && op.mnemonic == Sbc;
+        let fits = keeps && takes_away(low.step.op) && takes_away(high.step.op);
+        fits.then_some(Pair::of(COMPARED, low, high)?)
+    }
+
+    /// The pair from which a number is taken away: `lda #`, `sec`, `sbc`, what keeps the low half, and `lda #` and
+    /// `sbc` again, with no more than an instruction that changes Y before each `sbc`.
+    fn taken_from(&self, low: Placed<'a>) -> Option<Pair> {
+        let sec = self.behind(low)?;
+        if low.step.op.mnemonic != Lda || sec.step.op.mnemonic != Sec {
+            return None;
+        }
+        let keeps = self.behind(self.less(sec)?)?;
+        let high = self.behind(keeps)?;
+        self.less(high)?;
+        let fits = keeps_carry(keeps.step.op)
+            && is_load(high.step.op)
+            && high.step.op.mnemonic == Lda;
+        fits.then_some(Pair::of(COMPARED, low, high)?)
+    }
+
+    /// The `sbc` behind the instruction, with no more than one that changes Y between.
+    fn less(&self, placed: Placed<'a>) -> Option<Placed<'a>> {
+        let then = self.behind(placed)?;
+        let sum = match then.step.op.mnemonic {
+            Ldy | Iny | Dey => self.behind(then)?,
+            _ => then,
+        };
+        (sum.step.op.mnemonic == Sbc).then_some(sum)
+    }
+
+    /// The pair with which A and another register are compared, with a branch between: the low half is in A.
+    fn compared_registers(&self, one: Placed<'a>) -> Option<Pair> {
+        let branch = self.behind(one)?;
+        let two = self.behind(branch)?;
+        let is_in_a = |op: Op| op.mnemonic == Cmp;
+        if branch.step.op.mode != Mode::Rel
+            || !is_compare(two.step.op)
+            || is_in_a(one.step.op) == is_in_a(two.step.op)
+        {
+            return None;
+        }
+        let (low, high) = if is_in_a(one.step.op) {
+            (one, two)
+        } else {
+            (two, one)
+        };
+        Pair::of(COMPARED, low, high)
+    }
+
+    /// The pair of an end: one half of a pointer is loaded and compared with an immediate, and little later so is the
+    /// other half, which may be taken away.
+    fn compared_twice(&self, one: Placed<'a>) -> Option<Pair> {
+        let from = self.loaded_before(one)?;
+        let mut then = one;
+        for _ in 0..APART {
+            then = self.steps.marked(self.marks, then.step.next?)?;
+            if then.step.op.mnemonic == Jsr {
+                return None;
+            }
+            if is_compare(then.step.op) {
+                let other = self.loaded_before(then)?;
+                return Pair::of_neighbours(COMPARED, (one, from), (then, other));
+            }
+        }
+        None
     }
 
     /// The pairs of which this instruction is the first.
     fn pairs_of(&self, one: Placed<'a>) -> [Option<Pair>; 3] {
+        if is_sum(one.step.op) {
+            return [self.added_on(one), self.indexed_through(one), None];
+        }
+        if is_compare(one.step.op) {
+            return [self.compared_twice(one), self.compared_registers(one), None];
+        }
         if !is_load(one.step.op) {
-            return [self.added_twice(one), None, None];
+            return [self.added_twice(one).or(self.taken_twice(one)), None, None];
         }
         let Some(two) = self.behind(one) else {
             return [None; 3];
         };
         if !is_load(two.step.op) {
             let kept = self.kept_twice(one, two);
-            return [kept.or(self.stored_twice(one, two)), None, None];
+            return [
+                kept.or(self.stored_twice(one, two)),
+                self.taken_from(one),
+                None,
+            ];
         }
         if one.step.op == two.step.op {
             return [None; 3];

@@ -6,20 +6,41 @@ use crate::rules::entries::sound::reads_on;
 use crate::rules::image::{address, byte};
 use crate::rules::{Placed, Step, Steps};
 use isa65::{Mnemonic, Mode};
-use map65::{Image, Marks};
+use map65::{Image, Marks, is_inside};
 use std::alloc::{AllocError, Global};
 
 /// The most entries of a table that an index of a byte reaches.
 const MOST: usize = 256;
 
+/// How many entries before the first one the operands may lie, in data: an index often begins at 1.
+const BEFORE: usize = 4;
+
+/// How far apart the words of records may stand.
+const APART: usize = 8;
+
+/// How many bytes may be copied to where jumps lead through.
+const COPIED: u16 = 64;
+
+/// How many entries a table may have that is loaded into two registers.
+const REGISTERS: usize = 64;
+/// How many entries of tables are looked at, all together. Few programs come near it. It keeps the time in proportion
+/// to the image, whatever that has.
+pub const PATIENCE: usize = 0x1_0000;
+
 /// A table of addresses that reached code reads: where its low and its high bytes begin, how much less they are than
 /// the addresses, and whether code begins there.
-#[derive(Clone, Copy)]
+#[derive(Clone, Copy, PartialEq, Eq, PartialOrd, Ord)]
 pub struct Table {
     pub low: u16,
     pub high: u16,
     pub less: u16,
     pub is_code: bool,
+    /// How many entries before these the operands lie.
+    pub before: usize,
+    /// How far apart two words of it stand: other bytes of a record may stand between them.
+    pub apart: usize,
+    /// How many entries it has at most.
+    pub limit: usize,
 }
 
 impl Table {
@@ -30,6 +51,9 @@ impl Table {
             high,
             less,
             is_code: true,
+            before: 0,
+            apart: 2,
+            limit: MOST,
         }
     }
 
@@ -38,10 +62,14 @@ impl Table {
         usize::from(self.high) == usize::from(self.low) + 1
     }
 
+    /// How far one entry is behind the one before it.
+    fn step(&self) -> usize {
+        if self.has_words() { self.apart } else { 1 }
+    }
+
     /// Returns the places of the low and the high byte of an entry.
     pub fn places(&self, index: usize) -> (usize, usize) {
-        let step = if self.has_words() { 2 } else { 1 };
-        let offset = index.saturating_mul(step);
+        let offset = index.saturating_mul(self.step());
         (
             usize::from(self.low).saturating_add(offset),
             usize::from(self.high).saturating_add(offset),
@@ -58,18 +86,19 @@ impl Table {
     /// Returns how many entries it may have: the two tables of halves do not meet.
     pub fn most(&self) -> usize {
         if self.has_words() {
-            return MOST;
+            return self.limit;
         }
-        usize::from(self.low.abs_diff(self.high)).min(MOST)
+        usize::from(self.low.abs_diff(self.high)).min(self.limit)
     }
 
     /// Returns whether one of two tables of halves begins right behind the other: three quarters of the entries up to
-    /// there lead to what reads as code.
-    pub fn is_whole(&self, steps: &Steps<'_>) -> bool {
-        if !self.is_code || self.has_words() {
+    /// there lead to what reads as code. `left` is how many entries may still be looked at.
+    pub fn is_whole(&self, steps: &Steps<'_>, left: &mut usize) -> bool {
+        let count = self.most();
+        if !self.is_code || self.has_words() || *left < count {
             return false;
         }
-        let count = self.most();
+        *left = left.saturating_sub(count);
         let bad = (0..count)
             .filter(|index| !reads_on(steps, self.entry(steps.image(), *index), IN_TABLE))
             .take(count / 4 + 1)
@@ -77,10 +106,75 @@ impl Table {
         1 < count && bad <= count / 4
     }
 
+    /// Returns whether the first entry leads to what reads as code, and so do the next ones, as many as a row has at
+    /// least.
+    pub fn begins(&self, steps: &Steps<'_>) -> bool {
+        (0..IN_TABLE.min(self.most())).all(|index| reads_on(
+            steps,
+            self.entry(steps.image(), index),
+            IN_TABLE,
+        ))
+    }
+
+    /// The table from its first entry on that leads to code, as the next ones do, if that is one of a few, and the
+    /// first leads to none: the index begins at 1 or so.
+    fn from_first(self, steps: &Steps<'_>) -> Table {
+        if !self.is_code || reads_on(steps, self.entry(steps.image(), 0), IN_TABLE) {
+            return self;
+        }
+        for before in 1..=BEFORE {
+            let (low, high) = self.places(before);
+            let (Some(low), Some(high)) = (address(low), address(high)) else {
+                return self;
+            };
+            let later = Table {
+                low,
+                high,
+                before,
+                ..self
+            };
+            if later.begins(steps) {
+                return later;
+            }
+        }
+        self
+    }
+
+    /// The table with its words as far apart as records are, if the word right behind the first one leads to no code,
+    /// but three at another distance do, each to other code.
+    fn of_records(self, steps: &Steps<'_>) -> Table {
+        let image = steps.image();
+        let is_alone = self.is_code
+            && self.has_words()
+            && self.before == 0
+            && self.limit == MOST
+            && reads_on(steps, self.entry(image, 0), IN_TABLE)
+            && !reads_on(steps, self.entry(image, 1), IN_TABLE);
+        if !is_alone {
+            return self;
+        }
+        for apart in 3..=APART {
+            let table = Table { apart, ..self };
+            let [one, two, three] = [0, 1, 2].map(|index| table.entry(image, index));
+            if table.begins(steps) && one != two && two != three && one != three {
+                return table;
+            }
+        }
+        self
+    }
+
+    /// Returns whether the operand of an instruction that reads the table is at the address.
+    pub fn is_read_at(&self, at: usize) -> bool {
+        let (low, high) = self.places(0);
+        let at = at.saturating_add(self.before.saturating_mul(self.step()));
+        at == low || at == high
+    }
+
     /// Returns the tables of halves without the entries that code has, if it has the first one: an index
     /// may begin at another number than 0.
-    fn behind(self, code: &Marks) -> Table {
-        for index in 0..MOST {
+    fn behind(self, code: &Marks, left: &mut usize) -> Table {
+        for index in 0..MOST.min(left.saturating_add(1)) {
+            *left = left.saturating_sub(index.min(1));
             let (low, high) = self.places(index);
             if !code.get_at(low)
                 && !code.get_at(high)
@@ -99,6 +193,40 @@ fn indexed(step: &Step) -> Option<u16> {
         (Mnemonic::Lda | Mnemonic::Ldx | Mnemonic::Ldy, Mode::Absx | Mode::Absy) => step.operand,
         _ => None,
     }
+}
+
+/// Whether the second instruction stores the register that the first one loads.
+fn is_kept(first: &Step, second: &Step) -> bool {
+    matches!(
+        (first.op.mnemonic, second.op.mnemonic),
+        (Mnemonic::Lda, Mnemonic::Sta)
+            | (Mnemonic::Ldx, Mnemonic::Stx)
+            | (Mnemonic::Ldy, Mnemonic::Sty)
+    )
+}
+
+/// The table of halves that two instructions load into two registers, of A, X and Y the one before into the low half:
+/// one of its two parts begins right behind the other, and all its entries are addresses of the image.
+fn loaded_table(steps: &Steps<'_>, first: &Step, second: &Step) -> Option<Table> {
+    let (one, other) = (indexed(first)?, indexed(second)?);
+    let is_low = match (first.op.mnemonic, second.op.mnemonic) {
+        (Mnemonic::Lda, Mnemonic::Ldx | Mnemonic::Ldy) | (Mnemonic::Ldx, Mnemonic::Ldy) => true,
+        (Mnemonic::Ldx | Mnemonic::Ldy, Mnemonic::Lda) | (Mnemonic::Ldy, Mnemonic::Ldx) => false,
+        _ => return None,
+    };
+    let (low, high) = if is_low { (one, other) } else { (other, one) };
+    let table = Table {
+        is_code: false,
+        ..Table::of_code(low, high, 0)
+    };
+    let image = steps.image();
+    let fits = first.op.mode == second.op.mode
+        && (2..=REGISTERS).contains(&table.most())
+        && (0..table.most()).all(|index| {
+            let entry = table.entry(image, index);
+            entry.is_some_and(|entry| is_inside(image, usize::from(entry)))
+        });
+    fits.then_some(table)
 }
 
 /// Which reached instructions may read tables, and what reached code does with pointers.
@@ -149,6 +277,9 @@ impl Readers {
         }
         let one = indexed(first.step)?;
         let keeps = steps.behind(reached, first)?;
+        if indexed(keeps.step).is_some() {
+            return loaded_table(steps, first.step, keeps.step);
+        }
         let second = steps.behind(reached, keeps)?;
         let other = indexed(second.step)?;
         let last = steps.behind(reached, second)?;
@@ -168,23 +299,62 @@ impl Readers {
         Some(Table { is_code, ..table })
     }
 
-    /// Returns the tables that reached code reads, which has these bytes, in the order of the instructions.
+    /// Adds the words that this instruction and the one behind it copy to where a jump leads through: a load and a
+    /// store with the same index.
+    fn put_copied(
+        &self,
+        found: &mut Vec<(Table, u16)>,
+        steps: &Steps<'_>,
+        reached: &Marks,
+        at: u16,
+    ) -> Result<(), AllocError> {
+        let Some(first) = steps.marked(reached, at) else {
+            return Ok(());
+        };
+        if let Some(from) = indexed(first.step)
+            && let Some(second) = steps.behind(reached, first)
+            && second.step.op.mode == first.step.op.mode
+            && let Some(to) = second.step.operand
+            && is_kept(first.step, second.step)
+        {
+            for offset in 0..COPIED {
+                let place = from.saturating_add(offset);
+                if self.jumps.get(to.saturating_add(offset)) {
+                    let word = Table::of_code(place, place.saturating_add(1), 0);
+                    found.push((Table { limit: 1, ..word }, at))?;
+                }
+            }
+        }
+        Ok(())
+    }
+
+    /// Returns the tables that reached code reads, which has these bytes, each once, in the order of the instructions.
+    /// `left` is how many entries may still be looked at.
     pub fn tables(
         &self,
         steps: &Steps<'_>,
         reached: &Marks,
         code: &Marks,
+        left: &mut usize,
     ) -> Result<Vec<Table>, AllocError> {
         let alloc = steps.alloc();
-        let mut readers = Vec::from_slice(alloc, &self.readers)?;
-        readers.sort()?;
-        let mut found = Vec::new(alloc);
-        for &at in &readers {
+        let mut read = Vec::new(alloc);
+        for &at in &self.readers {
             if let Some(table) = self.table_at(steps, reached, at) {
-                let behind = table.behind(code);
-                let is_better = behind.low != table.low && behind.is_whole(steps);
-                found.push(if is_better { behind } else { table })?;
+                read.push((table, at))?;
+            } else {
+                self.put_copied(&mut read, steps, reached, at)?;
             }
+        }
+        read.sort()?;
+        read.dedup_by_key(|one| one.0);
+        read.sort_by_key(|one| one.1)?;
+        let mut found = Vec::new(alloc);
+        for &(table, _) in &read {
+            let behind = table.behind(code, left);
+            let is_better = behind.low != table.low && behind.is_whole(steps, left);
+            let table = if is_better { behind } else { table };
+            found.push(table.from_first(steps).of_records(steps))?;
         }
         Ok(found)
     }

@@ -3,8 +3,8 @@
 
 use crate::rules::bytes::texts::ALPHABETS;
 use crate::rules::entries::obstacles::{Obstacle, obstacle_of};
-use crate::rules::entries::readers::Readers;
-use crate::rules::entries::sound::{is_apart, is_fine};
+use crate::rules::entries::readers::{self, Readers, Table};
+use crate::rules::entries::sound::{is_apart, is_fine, is_passed};
 use crate::rules::image::bytes_at;
 use crate::rules::{Placed, Steps};
 use isa65::Mnemonic;
@@ -46,6 +46,12 @@ pub struct Search<'a> {
     pub looked: usize,
     /// Those that have joined and read tables.
     pub readers: Readers,
+    /// The places of words of data that lead to what has joined, alone or behind texts.
+    pub words: Vec<u16>,
+    /// The tables whose entries were looked at, sorted.
+    pub tables: Vec<Table>,
+    /// How many entries of tables may still be looked at.
+    pub entries_left: usize,
     todo: Vec<u16>,
     added: Vec<u16>,
     /// Those that were marked since the last trial began.
@@ -88,6 +94,9 @@ impl<'a> Search<'a> {
             joined: Vec::new(alloc),
             looked: 0,
             readers: Readers::none(alloc)?,
+            words: Vec::new(alloc),
+            tables: Vec::new(alloc),
+            entries_left: readers::PATIENCE,
             todo: Vec::new(alloc),
             added: Vec::new(alloc),
             fresh: Marks::none(alloc)?,
@@ -143,6 +152,7 @@ impl<'a> Search<'a> {
                     self.put(step.next)?;
                     self.put(step.goal)?;
                 }
+                None if fine && is_passed(steps, address) => self.put(address.checked_add(1))?,
                 _ if fine => return Ok(Some(obstacle_of(steps, address))),
                 _ => {}
             }
@@ -233,12 +243,16 @@ impl<'a> Search<'a> {
         is_vain
     }
 
-    /// Keeps where the trial could not go on, and the calls that it had read.
+    /// Keeps where the trial could not go on, how many bytes its instructions have, and the calls that it had read.
     fn put_obstacle(&mut self, address: u16) -> Result<(), AllocError> {
+        self.added.sort()?;
         let mut bytes = 0usize;
+        let mut behind = 0usize;
         for &at in self.added.as_slice() {
             if let Some(step) = self.steps.at(at) {
-                bytes = bytes.saturating_add(step.len());
+                let end = usize::from(at).saturating_add(step.len());
+                bytes = bytes.saturating_add(end.saturating_sub(behind.max(usize::from(at))));
+                behind = behind.max(end);
                 if step.op.mnemonic == Mnemonic::Jsr {
                     self.calls.push(at)?;
                 }
@@ -248,13 +262,15 @@ impl<'a> Search<'a> {
         Ok(())
     }
 
-    /// Marks what the instructions have that were added.
+    /// Marks what the instructions have that were added. What stands behind a byte that was passed over is an entry.
     fn keep(&mut self) -> Result<(), AllocError> {
         for &at in self.added.as_slice() {
             if let Some(step) = self.steps.at(at) {
                 let from = usize::from(at);
                 self.code.set_span(from, from.saturating_add(step.len()));
                 self.readers.put(Placed { at, step })?;
+            } else if is_passed(self.steps, at) {
+                self.entries.push(at.saturating_add(1))?;
             }
         }
         self.joined.extend_from_slice(self.added.as_slice())

@@ -2,7 +2,8 @@
 
 use crate::flow::is_last;
 use crate::rules::{Step, Steps};
-use isa65::{Mnemonic, Mode, OperandKind, Row};
+use info65::RangeType;
+use isa65::{Mnemonic, Mode, Op, OperandKind, Row};
 use map65::Marks;
 
 /// Returns whether an instruction begins at the address, if there is one.
@@ -54,11 +55,12 @@ fn leads_well(steps: &Steps<'_>, stored: &Marks, step: &Step) -> bool {
             || is_filled(steps, stored, to))
 }
 
-/// Returns whether the instruction is no `brk`, and instructions begin where it leads. `stored` has the addresses of
+/// Returns whether the instruction is no `brk`, and instructions begin where it leads, but for one byte that is passed
+/// over. `stored` has the addresses of
 /// the zero page that the image stores to.
 pub fn is_fine(steps: &Steps<'_>, stored: &Marks, step: &Step) -> bool {
     step.op.mnemonic != Mnemonic::Brk
-        && (is_last(step.op.mnemonic) || begins(steps, step.next))
+        && (is_last(step.op.mnemonic) || goes_on(steps, step.next))
         && leads_well(steps, stored, step)
 }
 
@@ -70,14 +72,43 @@ pub fn holder_of(steps: &Steps<'_>, marks: &Marks, address: u16) -> Option<u16> 
     })
 }
 
-/// Whether the operand of a `bit` at the first address is an instruction at the second one, which ends where the `bit`
-/// ends: `.byte $2C` skips that instruction.
-fn hides(steps: &Steps<'_>, outer: u16, inner: u16) -> bool {
+/// Returns whether the instruction may hide another one in its operand, as `.byte $2C` does: `bit`, and a load or a
+/// comparison with a number.
+pub fn hides(op: Op) -> bool {
+    match op.mnemonic {
+        Mnemonic::Bit => matches!(op.mode, Mode::Abs | Mode::Zp | Mode::Imm),
+        Mnemonic::Lda | Mnemonic::Ldx | Mnemonic::Ldy => op.mode == Mode::Imm,
+        Mnemonic::Cmp | Mnemonic::Cpx | Mnemonic::Cpy => op.mode == Mode::Imm,
+        _ => false,
+    }
+}
+
+/// Whether the operand at the first address is an instruction at the second one, and both end there: the opcode skips
+/// that instruction.
+fn is_hidden(steps: &Steps<'_>, outer: u16, inner: u16) -> bool {
     steps.at(outer).is_some_and(|step| {
-        step.op.mnemonic == Mnemonic::Bit
-            && (step.op.mode == Mode::Abs || step.op.mode == Mode::Zp)
-            && steps.len_at(inner).saturating_add(1) == step.len()
+        hides(step.op) && steps.len_at(inner).saturating_add(1) == step.len()
     })
+}
+
+/// Returns whether code goes on behind the byte at the address: a range of the information file has this byte alone,
+/// and what stands right before and behind it is none of another type than code.
+pub fn is_passed(steps: &Steps<'_>, address: u16) -> bool {
+    let map = steps.map();
+    let role = map.role(address);
+    role.is_some()
+        && role != Some(RangeType::Code)
+        && map.is_code(address.saturating_sub(1))
+        && map.is_code(address.saturating_add(1))
+}
+
+/// Returns whether code may go on at the address, if there is one: an instruction begins there, or behind a byte that
+/// is passed over.
+fn goes_on(steps: &Steps<'_>, address: Option<u16>) -> bool {
+    begins(steps, address)
+        || address.is_some_and(|at| {
+            is_passed(steps, at) && steps.at(at.saturating_add(1)).is_some()
+        })
 }
 
 /// Whether the instruction of the address has the one so far behind it, where another one begins: that
@@ -86,11 +117,11 @@ fn clashes(steps: &Steps<'_>, marks: &Marks, outer: u16, distance: u16) -> bool 
     let inner = outer.saturating_add(distance);
     marks.get(inner)
         && usize::from(distance) < steps.len_at(outer)
-        && !(distance == 1 && hides(steps, outer, inner))
+        && !(distance == 1 && is_hidden(steps, outer, inner))
 }
 
 /// Returns whether the instruction of the address, which is marked, shares no byte with another one, but for one in the
-/// operand of a `bit`: with none that begins behind it, and with none of those before it that have `code`.
+/// operand of one that hides it: with none that begins behind it, and with none of those before it that have `code`.
 pub fn is_apart(steps: &Steps<'_>, marks: &Marks, code: &Marks, address: u16) -> bool {
     let is_code = code.get(address);
     [1u16, 2].iter().all(|&distance| {

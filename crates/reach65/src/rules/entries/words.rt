@@ -4,6 +4,7 @@ use crate::flow::is_last;
 use crate::rules::Steps;
 use crate::rules::entries::growth::{Candidate, IN_TABLE};
 use crate::rules::entries::search::{Least, Search};
+use crate::rules::entries::sound::is_passed;
 use crate::rules::image::{address, ends, word};
 use isa65::Mnemonic;
 use map65::{ADDRESSES, Image, Marks};
@@ -20,6 +21,10 @@ pub struct DataWords<'i> {
     hopeful: Marks,
     /// Where two words begin that may lead to code.
     worth: Vec<u16>,
+    /// Where a word begins right behind which the code may begin that it leads to.
+    fields: Vec<u16>,
+    /// Where one begins behind what may be a name.
+    pub named: Vec<u16>,
 }
 
 /// Whether the bytes are two words that differ, and both may lead to code, themselves or as one less.
@@ -34,19 +39,43 @@ fn is_worth(hopeful: &Marks, bytes: &[u8]) -> bool {
             || hopeful.get_at(one + 1) && hopeful.get_at(two + 1))
 }
 
+/// Whether the first two bytes, which stand at the address, are the address right behind them, where code may begin.
+fn is_field(hopeful: &Marks, at: usize, bytes: &[u8]) -> bool {
+    let &[low, high, ..] = bytes else {
+        return false;
+    };
+    let to = usize::from(u16::from_le_bytes([low, high]));
+    to == at.saturating_add(2) && hopeful.get_at(to)
+}
+
+/// Whether the bytes are the end of a name, which is a zero byte or has the high bit, and a word of where code may
+/// begin.
+fn is_named(hopeful: &Marks, second: u8, before: u8, bytes: &[u8]) -> bool {
+    let &[low, high, ..] = bytes else {
+        return false;
+    };
+    (before == 0 || 0xA0 <= before)
+        && matches!(second, 0x20..=0x7E)
+        && hopeful.get(u16::from_le_bytes([low, high]))
+}
+
 /// Whether code may go on at a later address, if there is one: an earlier one is not known yet.
-fn is_hopeful_after(marks: &Marks, address: u16, later: Option<u16>) -> bool {
-    later.map_or(true, |later| later <= address || marks.get(later))
+fn is_hopeful_after(steps: &Steps<'_>, marks: &Marks, address: u16, later: Option<u16>) -> bool {
+    later.map_or(
+        true,
+        |later| later <= address || marks.get(later) || is_passed(steps, later),
+    )
 }
 
 /// Whether code may begin with an instruction of the address.
 fn is_hopeful(steps: &Steps<'_>, marks: &Marks, address: u16) -> bool {
-    steps.at(address).is_some_and(|step| {
-        step.op.mnemonic != Mnemonic::Brk
-            && (step.next.is_some() || is_last(step.op.mnemonic))
-            && is_hopeful_after(marks, address, step.next)
-            && is_hopeful_after(marks, address, step.goal)
-    })
+    let Some(step) = steps.at(address) else {
+        return false;
+    };
+    step.op.mnemonic != Mnemonic::Brk
+        && (step.next.is_some() || is_last(step.op.mnemonic))
+        && is_hopeful_after(steps, marks, address, step.next)
+        && is_hopeful_after(steps, marks, address, step.goal)
 }
 
 /// Whether a reached instruction right before the address goes on to it.
@@ -64,8 +93,8 @@ fn is_entered(search: &Search<'_>, less: u16, address: u16) -> bool {
     search.steps.at(address).is_some() && (less == 0 || !is_gone_on(search, address))
 }
 
-/// Whether code begins at the address, of a word that is this much less.
-fn begins_code(search: &mut Search<'_>, less: u16, address: u16) -> Result<bool, AllocError> {
+/// Returns whether code begins at the address, of a word that is this much less.
+pub fn begins_code(search: &mut Search<'_>, less: u16, address: u16) -> Result<bool, AllocError> {
     if search.marks.get(address) {
         return Ok(is_entered(search, less, address));
     }
@@ -93,21 +122,65 @@ impl<'i> DataWords<'i> {
                 hopeful.set(here);
             }
         }
-        let mut worth = Vec::new(alloc);
-        for (at, words) in (start..end).zip(image.bytes().windows(4)) {
-            if is_worth(&hopeful, words)
-                && let Some(at) = address(at)
-                && search.is_open(at)
-            {
-                worth.push(at)?;
-            }
-        }
-        Ok(DataWords {
+        let mut words = DataWords {
             image,
             given,
             hopeful,
-            worth,
-        })
+            worth: Vec::new(alloc),
+            fields: Vec::new(alloc),
+            named: Vec::new(alloc),
+        };
+        words.put_all(search)?;
+        Ok(words)
+    }
+
+    /// Adds where words begin that may lead to code.
+    fn put_all(&mut self, search: &Search<'_>) -> Result<(), AllocError> {
+        let (start, end) = ends(self.image);
+        let (mut second, mut before) = (0u8, 0u8);
+        for (at, bytes) in (start..end).zip(self.image.bytes().windows(4)) {
+            let is_worth = is_worth(&self.hopeful, bytes);
+            let is_field = is_field(&self.hopeful, at, bytes);
+            let is_named = is_named(&self.hopeful, second, before, bytes);
+            (second, before) = (before, bytes.first().copied().unwrap_or(0));
+            if (is_worth || is_field || is_named)
+                && let Some(at) = address(at)
+                && search.is_open(at)
+            {
+                if is_worth {
+                    self.worth.push(at)?;
+                }
+                if is_field {
+                    self.fields.push(at)?;
+                }
+                if is_named {
+                    self.named.push(at)?;
+                }
+            }
+        }
+        Ok(())
+    }
+
+    /// Lets the code join that begins right behind words which are its address, if there are three of these at least:
+    /// the code fields of threaded code, as of Forth.
+    pub fn join_fields(&self, search: &mut Search<'_>) -> Result<(), AllocError> {
+        let mut found = Vec::new(search.steps.alloc());
+        for &at in &self.fields {
+            if let Some(to) = self.target(search, 0, usize::from(at))
+                && begins_code(search, 0, to)?
+            {
+                found.push((at, to))?;
+            }
+        }
+        if found.len() < ROW {
+            return Ok(());
+        }
+        for &(at, to) in &found {
+            if search.marks.get(to) || search.join(to, Least::Count(IN_TABLE))? {
+                search.words.push(at)?;
+            }
+        }
+        Ok(())
     }
 
     /// Whether nothing speaks for the address.
@@ -115,8 +188,9 @@ impl<'i> DataWords<'i> {
         at < ADDRESSES && !self.given.get_at(at) && !search.code.get_at(at)
     }
 
-    /// The address to which the word at the address leads, if nothing speaks for its bytes and code may begin there.
-    fn target(&self, search: &Search<'_>, less: u16, at: usize) -> Option<u16> {
+    /// Returns the address to which the word at the address leads, if nothing speaks for its bytes and code may begin
+    /// there.
+    pub fn target(&self, search: &Search<'_>, less: u16, at: usize) -> Option<u16> {
         let to = word(self.image, at)?.checked_add(less)?;
         let is_open = self.is_open(search, at) && self.is_open(search, at.saturating_add(1));
         (is_open && self.hopeful.get(to)).then_some(to)
@@ -144,8 +218,28 @@ impl<'i> DataWords<'i> {
         Ok(false)
     }
 
-    /// Lets the sound beginnings among the words of a row join, up to one that leads to no
-    /// code. Marks where the words begin.
+    /// Lets the sound beginning join to which the word at the address leads, of so many instructions at least. Marks
+    /// where the word begins, and returns whether it leads to code.
+    fn join_word(
+        &self,
+        search: &mut Search<'_>,
+        rows: &mut Marks,
+        less: u16,
+        at: usize,
+        least: usize,
+    ) -> Result<bool, AllocError> {
+        let Some(to) = self.target(search, less, at) else {
+            return Ok(false);
+        };
+        if !search.marks.get(to) && !search.join(to, Least::Count(least))? {
+            return Ok(false);
+        }
+        rows.set_span(at, at.saturating_add(1));
+        Ok(true)
+    }
+
+    /// Lets the sound beginnings among the words of a row join, up to one that leads to no code, and among those before
+    /// it. Behind the first three, and before them, code of any length counts. Marks where the words begin.
     fn join_row(
         &self,
         search: &mut Search<'_>,
@@ -153,17 +247,23 @@ impl<'i> DataWords<'i> {
         less: u16,
         from: usize,
     ) -> Result<(), AllocError> {
-        let (_, end) = ends(self.image);
-        let mut at = from;
-        for _ in from..end {
-            let Some(to) = self.target(search, less, at) else {
-                break;
-            };
-            if !search.marks.get(to) && !search.join(to, Least::Count(IN_TABLE))? {
+        let (start, end) = ends(self.image);
+        let sure = from.saturating_add(2 * ROW);
+        for at in (from..end).step_by(2) {
+            let least = if at < sure { IN_TABLE } else { 1 };
+            if !self.join_word(search, rows, less, at, least)? {
+                if at < sure {
+                    return Ok(());
+                }
                 break;
             }
-            rows.set_span(at, at.saturating_add(1));
-            at = at.saturating_add(2);
+        }
+        let mut at = from;
+        for _ in start..from {
+            at = at.saturating_sub(2);
+            if at < start || !self.join_word(search, rows, less, at, 1)? {
+                break;
+            }
         }
         Ok(())
     }

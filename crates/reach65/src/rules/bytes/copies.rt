@@ -1,0 +1,133 @@
+//! Code that is copied and run elsewhere: reached code loads with an index from the image and stores with the same
+//! index, and jumps or calls to where that begins. Inside the image it does so to the first byte alone, outside of it
+//! to one of 256 bytes.
+
+use crate::rules::Placed;
+use crate::rules::bytes::survey::Survey;
+use isa65::{Mnemonic, Mode};
+use map65::is_inside;
+use std::alloc::AllocError;
+
+/// How many bytes a loop copies at most.
+const MOST: u16 = 256;
+
+/// How many pieces of code are told.
+const TOLD: usize = 16;
+
+/// Code that is copied: where it stands, where it runs, how many bytes it has at most, and which instruction loads it.
+#[derive(Clone, Copy)]
+pub struct Copied {
+    pub from: u16,
+    pub to: u16,
+    pub len: u16,
+    pub reader: u16,
+    /// Whether it runs where the image lies.
+    pub is_over: bool,
+}
+
+impl Copied {
+    /// Returns whether code that overwrites the image has the address where it stands: what it refers to is not what
+    /// the image has there.
+    pub fn hides(&self, address: u16) -> bool {
+        let index = address.checked_sub(self.from);
+        self.is_over && index.is_some_and(|index| index < self.len)
+    }
+}
+
+/// The address from which the instruction loads with an index, and that to which the one behind it stores.
+fn moved(survey: &Survey<'_>, load: Placed<'_>) -> Option<(u16, u16)> {
+    let store = survey.steps.behind(survey.reached, load)?;
+    if (load.step.op.mnemonic, store.step.op.mnemonic) != (Mnemonic::Lda, Mnemonic::Sta) {
+        return None;
+    }
+    let to = match (load.step.op.mode, store.step.op.mode) {
+        (Mode::Absx, Mode::Absx) | (Mode::Absy, Mode::Absy) => store.step.operand?,
+        (Mode::Absx, Mode::Zpx) => u16::from(store.step.byte?),
+        _ => return None,
+    };
+    Some((load.step.operand?, to))
+}
+
+/// How many bytes the loop copies in which the instruction loads: an index counts down from a number right before it,
+/// or up to one that is compared in the next four instructions, or else all.
+fn len_of(survey: &Survey<'_>, load: Placed<'_>) -> u16 {
+    let (steps, reached) = (survey.steps, survey.reached);
+    let before = steps.marked(reached, load.at.saturating_sub(2));
+    if let Some(first) = before
+        && matches!(first.step.op.mnemonic, Mnemonic::Ldx | Mnemonic::Ldy)
+        && first.step.op.mode == Mode::Imm
+        && let Some(count) = first.step.byte
+        && 0 < count
+    {
+        return u16::from(count).saturating_add(1);
+    }
+    let mut at = load;
+    for _ in 0..4 {
+        let Some(next) = steps.behind(reached, at) else {
+            break;
+        };
+        if matches!(next.step.op.mnemonic, Mnemonic::Cpx | Mnemonic::Cpy)
+            && next.step.op.mode == Mode::Imm
+            && let Some(count) = next.step.byte
+        {
+            return u16::from(count);
+        }
+        at = next;
+    }
+    MOST
+}
+
+/// Where reached jumps and calls lead by an address, in order.
+fn goals_of(survey: &Survey<'_>) -> Result<Vec<u16>, AllocError> {
+    let mut found = Vec::new(survey.steps.alloc());
+    for &at in &survey.users {
+        if let Some(to) = survey.steps.at(at).and_then(|step| step.to) {
+            found.push(to)?;
+        }
+    }
+    found.sort()?;
+    Ok(found)
+}
+
+/// Where the code begins that is copied to this address, if a jump leads there. An index may end at 1: then it is the
+/// address behind that.
+fn more_of(survey: &Survey<'_>, goals: &[u16], to: u16) -> Option<u16> {
+    let is_in = is_inside(survey.steps.image(), usize::from(to));
+    let most = if is_in { 1 } else { MOST };
+    let goal = goals
+        .get(goals.partition_point(|goal| *goal < to))
+        .copied()?;
+    let less = goal.saturating_sub(to);
+    (less < most.saturating_add(1)).then_some(u16::from(less == 1))
+}
+
+/// Returns the code that is copied, 16 pieces at most, in the order of the instructions that load it.
+pub fn copies_of(survey: &Survey<'_>) -> Result<Vec<Copied>, AllocError> {
+    let steps = survey.steps;
+    let mut found = Vec::new(steps.alloc());
+    let mut goals = Vec::new(steps.alloc());
+    let mut has_goals = false;
+    for &reader in &survey.users {
+        if found.len() < TOLD
+            && let Some(load) = steps.marked(survey.reached, reader)
+            && let Some((from, to)) = moved(survey, load)
+            && from != to
+            && is_inside(steps.image(), usize::from(from))
+        {
+            if !has_goals {
+                goals = goals_of(survey)?;
+                has_goals = true;
+            }
+            if let Some(more) = more_of(survey, &goals, to) {
+                found.push(Copied {
+                    from: from.saturating_add(more),
+                    to: to.saturating_add(more),
+                    len: len_of(survey, load),
+                    reader,
+                    is_over: is_inside(steps.image(), usize::from(to)),
+                })?;
+            }
+        }
+    }
+    Ok(found)
+}

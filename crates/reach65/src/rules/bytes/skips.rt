@@ -1,0 +1,74 @@
+//! Opcodes that hide an instruction: code is reached in the operand of a reached `bit`, or of a load or a comparison
+//! with a number, and ends where that operand ends. Not one whose operand is an address that other code uses, or that
+//! has a name, and none in a range of the information file.
+
+use crate::rules::entries::sound::hides;
+use crate::rules::image::{address, ends};
+use crate::rules::{Placed, Steps};
+use map65::Marks;
+use std::alloc::AllocError;
+
+/// Whether reached instructions fill the operand of this one.
+fn is_filled(steps: &Steps<'_>, reached: &Marks, outer: Placed<'_>) -> bool {
+    let end = usize::from(outer.at).saturating_add(outer.step.len());
+    let mut at = usize::from(outer.at).saturating_add(1);
+    for _ in 0..2 {
+        if at < end
+            && reached.get_at(at)
+            && let Some(inner) = address(at)
+        {
+            at = at.saturating_add(steps.len_at(inner));
+        }
+    }
+    at == end
+}
+
+/// Marks of the absolute operands of the reached instructions but for these.
+fn used(steps: &Steps<'_>, reached: &Marks, outers: &[u16]) -> Result<Marks, AllocError> {
+    let mut marks = Marks::none(steps.alloc())?;
+    let (start, end) = ends(steps.image());
+    for at in start..end {
+        if let Some(placed) = steps.marked(reached, at as u16)
+            && let Some(operand) = placed.step.operand
+            && outers.binary_search(&placed.at).is_err()
+        {
+            marks.set(operand);
+        }
+    }
+    Ok(marks)
+}
+
+/// Marks of what the ranges of the information file have.
+fn given(steps: &Steps<'_>) -> Result<Marks, AllocError> {
+    let mut marks = Marks::none(steps.alloc())?;
+    for range in steps.map().info().ranges() {
+        marks.set_span(usize::from(range.first), usize::from(range.last) + 1);
+    }
+    Ok(marks)
+}
+
+/// Returns where such opcodes stand, in order.
+pub fn skips_of(steps: &Steps<'_>, reached: &Marks) -> Result<Vec<u16>, AllocError> {
+    let mut found = Vec::new(steps.alloc());
+    let (start, end) = ends(steps.image());
+    for at in start..end {
+        if reached.get_at(at.saturating_add(1))
+            && let Some(outer) = steps.marked(reached, at as u16)
+            && hides(outer.step.op)
+            && is_filled(steps, reached, outer)
+        {
+            found.push(outer.at)?;
+        }
+    }
+    if found.is_empty() {
+        return Ok(found);
+    }
+    let used = used(steps, reached, &found)?;
+    let given = given(steps)?;
+    let info = steps.map().info();
+    found.retain(|at| {
+        let operand = steps.at(*at).and_then(|step| step.operand);
+        !given.get(*at) && operand.map_or(true, |to| !used.get(to) && info.covering(to).is_none())
+    });
+    Ok(found)
+}

@@ -1,0 +1,46 @@
+//! What stands behind the calls of routines that pull their return address, as lines for the information file, before
+//! the code is followed.
+
+use files65::put_address;
+use info65::Tag;
+use map65::Map;
+use reach65::rules::entries::pulls::{PRODOS, Pulls, Words, pulls_of};
+use std::alloc::{AllocError, Global};
+
+/// Adds a RANGE for the words behind a call.
+fn put_words(lines: &mut Vec<u8>, words: Words) -> Result<(), AllocError> {
+    let call = usize::from(words.call);
+    put_address(lines, b"RANGE { START $", call.saturating_add(3))?;
+    put_address(lines, b"; END $", usize::from(words.end).saturating_sub(1))?;
+    put_address(lines, b"; TYPE AddrTable; }; # behind the call at $", call)?;
+    lines.extend_from_slice(b"\n")
+}
+
+/// Returns a group INLINE for each routine that reads the texts behind its calls, and a RANGE for the words behind each
+/// call of one that jumps through them.
+pub fn lines_of(alloc: Global, map: &Map<'_>, tags: &[Tag]) -> Result<Vec<u8>, AllocError> {
+    let Pulls {
+        texts,
+        words,
+        calls_prodos,
+    } = pulls_of(alloc, map, tags)?;
+    let mut lines = Vec::new(alloc);
+    if calls_prodos {
+        lines.extend_from_slice(b"# ProDOS reads a command and an address behind each call:\n")?;
+        put_address(&mut lines, b"#: INLINE { ADDR $", usize::from(PRODOS))?;
+        lines.extend_from_slice(b"; SIZE 3; };\n")?;
+    }
+    if !texts.is_empty() || !words.is_empty() {
+        lines.extend_from_slice(
+            b"# by their form these routines read what stands behind their calls:\n",
+        )?;
+    }
+    for &routine in &texts {
+        put_address(&mut lines, b"#: INLINE { ADDR $", usize::from(routine))?;
+        lines.extend_from_slice(b"; };\n")?;
+    }
+    for &table in &words {
+        put_words(&mut lines, table)?;
+    }
+    Ok(lines)
+}
