@@ -1,24 +1,31 @@
 """html65 on real files: its messages, and the page. The page is read by Python's own reader of HTML, references are
 counted from the listing by patterns, and what the page looks like is left to tidy and to a browser."""
-import base64, collections, html.parser, random, re, shutil, socket, struct, subprocess
+import base64, collections, html, html.parser, json, random, re, shutil, socket, struct, subprocess
 import pytest
 from conftest import BROWSER, CPUS, IMAGES, INFORMATION, ROOT, read, tables, write
 
 REPAIR = tables(__name__)[0]["REPAIR"]
 
 
+# What the page says of those who refer to something.
+SAID = {"called by": "call", "jumped to by": "jump", "branched to by": "branch", "read by": "read",
+        "written by": "write", "changed by": "change", "pointer of": "pointer", "in the table at": "table",
+        "half in": "half", "value in": "value"}
+
+
 class Page(html.parser.HTMLParser):
-    """A page as a reader of HTML sees it: `text` of the listing, of each line the `left` remark and the `links`: the
-    numbers of lines to which its operands lead, and `uses`: (way, line) of the remark behind it. `inside` are the
-    elements that are open: pre is that of the listing, and i a remark."""
+    """A page as a reader of HTML sees it: `text` of the listing; of each line the `left` remark, its `address` as an
+    id, and the `links`: the numbers of lines and the rows to which its operands lead; and `uses`: (way, line) of the
+    remark above it. `rows` has the same of the row of an address, or of the name of a line. `inside` are the elements
+    that are open: pre is that of the listing, and i a remark."""
 
     def __init__(self, page):
         super().__init__()
         self.text, self.hrefs, self.attributes, self.images = "", [], set(), []
         self.tags, self.ids = collections.Counter(), collections.Counter()
-        self.left = collections.defaultdict(str)
-        self.links, self.uses = collections.defaultdict(list), collections.defaultdict(list)
-        self.inside, self.line, self.way, self.is_first = set(), 0, "", True
+        self.left, self.address = collections.defaultdict(str), {}
+        self.links, self.uses, self.rows = (collections.defaultdict(list) for _ in range(3))
+        self.inside, self.line, self.way, self.row = set(), 0, "", None
         self.feed(page.decode("latin-1"))
         self.close()
 
@@ -26,37 +33,51 @@ class Page(html.parser.HTMLParser):
         values = dict(attributes)
         self.tags[tag] += 1
         self.attributes |= {(tag, name) for name in values}
-        if "id" in values:
-            self.ids[values["id"]] += 1
-        if "href" in values:
-            self.hrefs.append(values["href"])
+        name, target = values.get("id", ""), values.get("href", "")
+        if name:
+            self.ids[name] += 1
+        if target:
+            self.hrefs.append(target)
         if tag == "img":
             self.images.append((self.line, values))
-        if tag != "pre" or values.get("id") == "listing":
+        if tag != "pre" or name == "listing":
             self.inside.add(tag)
-        if "pre" in self.inside and values.get("id", "").startswith("l") and tag == "span":
-            self.line, self.is_first = int(values["id"][1:]), True
-        if "pre" in self.inside and tag == "a":
-            target = int(values["href"][2:])
-            if "i" in self.inside:
-                self.uses[self.line].append((self.way, target))
+        if tag == "i" and values.get("class") == "r":
+            self.inside.add("r")
+        if tag == "tr":
+            self.row = self.row if values.get("class") == "u" else name
+            self.inside |= {"u"} if values.get("class") == "u" else set()
+        if name and "pre" in self.inside and tag in ("span", "i"):
+            if tag == "span":
+                self.line = int(name[1:])
             else:
-                self.links[self.line].append(target)
+                self.address[self.line] = name
+        number = int(target[2:]) if target[:2] == "#l" else target[1:]
+        if tag == "a" and "pre" in self.inside:
+            if "i" not in self.inside:
+                self.links[self.line].append(number)
+            elif target[:2] == "#l":
+                self.uses[self.line].append((self.way, number))
+        elif tag == "a" and "tr" in self.inside and target[:2] == "#l":
+            if "u" in self.inside:
+                self.rows[self.row].append((self.way, number))
+            else:
+                self.row = number
 
     def handle_endtag(self, tag):
         self.inside.discard(tag)
-        if tag == "i":
-            self.is_first = False
+        if tag in ("i", "table"):
+            self.inside -= {"r", "u"}
 
     def handle_data(self, data):
-        if "pre" not in self.inside:
-            return
-        if "i" not in self.inside:
+        if said := re.findall("|".join(SAID), data):
+            self.way = SAID[said[-1]]
+        if "\n" in data:
+            self.inside.discard("u")
+        if "pre" in self.inside and "i" not in self.inside:
             self.text += data
-        elif self.is_first:
+        elif "pre" in self.inside and "r" not in self.inside:
             self.left[self.line] += data
-        elif "a" not in self.inside and (words := re.findall("[a-z]+", data.replace("more", ""))):
-            self.way = words[-1]
 
 
 @pytest.fixture
@@ -70,9 +91,11 @@ def whole(page_of):
     """The page of a listing, which gives it back, and each of whose links leads to one line."""
     def read_back(listing, words="-S 0x1000"):
         page = Page(page_of(listing, words))
-        assert page.text == (listing if isinstance(listing, str) else listing.decode("latin-1"))
+        text = listing if isinstance(listing, str) else listing.decode("latin-1")
+        assert page.text == text.replace("\0", "\ufffd")
         assert all(page.ids[href[1:]] == 1 and href[0] == "#" for href in page.hrefs)
         assert set(page.ids.values()) == {1}
+        assert page.address == {line: f"a{left[:4]}" for line, left in page.left.items() if left.strip()}
         return page
     return read_back
 
@@ -128,6 +151,12 @@ def way(operation, operands, operand, start, at):
     return "value" if "#" in operands else "pointer" if "(" in operands else WAYS.get(operation, "read")
 
 
+def nearest(line, uses):
+    """Those of the uses that stand above the line: the first ten by their ways, and of each way the nearest first."""
+    by_way = sorted(uses, key=lambda use: (list(SAID.values()).index(use[0]), abs(use[1] - line), use[1]))
+    return sorted(by_way[:10])
+
+
 def test_text(da65, as65, whole):
     """Each listing comes back: of all examples, of small texts and of random bytes. The links are those of the listing,
     and CR, blanks and a last line without a line feed stay."""
@@ -143,10 +172,15 @@ def test_text(da65, as65, whole):
     assert len(listings) > 31
     for words, listing in listings:
         page = whole(listing, words)
-        assert page.ids.keys() >= {f"l{number}" for number in range(1, len(listing.splitlines()) + 1)}, words
+        lines = listing.split(b"\n")
+        assert page.ids.keys() >= {f"l{number}" for number, line in enumerate(lines, 1) if line}, words
         defined, uses, links = expected(listing.decode("latin-1"))
-        in_order = [{line: sorted(found) for line, found in some.items()} for some in (page.uses, uses)]
-        assert in_order[0] == in_order[1] and dict(page.links) == dict(links), words
+        assert {line: sorted(page.rows[line]) for line, found in uses.items() if len(found) > 10} == {
+            line: sorted(found) for line, found in uses.items() if len(found) > 10}, words
+        assert {line: sorted(found) for line, found in page.uses.items()} == {
+            line: nearest(line, found) for line, found in uses.items()}, words
+        assert {line: found for line, some in page.links.items()
+                if (found := [one for one in some if isinstance(one, int)])} == dict(links), words
     for listing in ("nop", "\n\nnop\n\n", " \tnop ; x\r\n", "lda #'<'\nlda #'&' ; 'x\n.byte \"\",$00\n"):
         whole(listing)
 
@@ -161,7 +195,7 @@ def test_hostile(html65, whole, text):
         string = re.sub(r'[^ -~]|"', "", text) or "a"
         return f'v := $12 ; {text}\n; {text}\nL: lda v ; {text}\n.byte "{string}" ; {text}\n'
 
-    page, plain = whole(made(text)), whole(made("a"))
+    page, plain = whole(made(text)), whole(made("a" * len(text)))
     assert page.tags == plain.tags and page.attributes == plain.attributes and page.hrefs == plain.hrefs
     assert all(values["src"].startswith("data:image/bmp;base64,") for _, values in page.images)
     name = write(text.replace("/", "_").replace("\0", "") + ".s", made(text))
@@ -186,29 +220,61 @@ def rows_of(page, title):
     text = page.decode("latin-1")
     part = text[text.index(f"<summary>{title} ("):]
     part = part[:part.index("</table>")]
-    return [re.sub("<[^>]*>", "", re.sub("<td>", "|", row)).strip("|\n") for row in part.split("<tr>")[1:]]
+    return [re.sub("<[^>]*>", "", re.sub("<td[^>]*>", "|", row.partition(">")[2])).strip("|\n")
+            for row in part.split("<tr")[1:]]
 
 
-def test_tables(page_of):
+def test_lists(page_of):
+    """Names and addresses by their values: counts of reads, writes, changes, pointers, jumps and data. Below the row of
+    an address, and of a name that more than ten lines refer to, stands who does, by way and routine."""
     page = page_of(REPAIR)
-    assert rows_of(page, "Names") == [
-        "COUNT|$0003|2 value", "ptr|$0010|1 read, 2 write, 1 pointer", "start|$1000|1 table, 1 half|begins",
-        "loop|$100A|1 branch",
-        "print|$1015|1 call, 1 branch, 1 table, 1 half", "text|$101D|1 table, 3 half, 1 value|the length",
-        "end|$1021|1 table, 1 value",
-        "vec|$1023|1 pointer", "out|$FFD2|1 jump"]
     group = 'LABEL { ADDR $0012; NAME ""; };'
-    rows = rows_of(page, "Addresses without a name")
-    assert rows[0] == f"$0012|change 1015 {group}" and rows[-1] == f" 1 groups to copy{group}"
-    assert rows_of(page, "Calls") == ["start|calls print", "print|calls out|called by start"]
-    assert "<td><em>none</em>\n" in page_of("L: nop\nM: jmp L\n").decode()
+    assert rows_of(page, "Before the image") == [
+        "$0003|COUNT||||||d2", "$0010|ptr|r1|w2||p1", "$0012||||c1", f"changed by print 1015 {group}"]
+    assert rows_of(page, "In the image") == [
+        "$1000|start||||||d2|begins", "$100A|loop|||||j1", "$1015|print|||||j2|d2", "$101D|text||||||d5|the length",
+        "$1021|end||||||d2", "$1023|vec||||p1"]
+    assert rows_of(page, "After the image") == ["$FFD2|out|||||j1"]
+    assert rows_of(page, "Routines") == [
+        "$1000|$1014|21|start", "calls print", "$1015|$101C|8|print", "calls out called by start"]
+    assert f"Groups to copy (1)</summary><code>{group}\n</code>" in page.decode()
+    assert rows_of(page_of("L: nop\nM: jmp L\n"), "In the image") == ["$1000|L|||||j1", "$1001|M|none"]
     inside = page_of("start: jsr in\n rts\nin := *+1\n bit $01A9\n rts\n")
-    assert rows_of(inside, "Calls") == ["start|calls in", "in||called by start"]
-    assert rows_of(page_of("L: nop\nM: jmp L\n"), "Names") == ["L|$1000|1 jump", "M|$1001|none"]
+    assert rows_of(inside, "Routines") == ["$1000|$1004|5|start", "calls in", "$1005|$1007|3|in", " called by start"]
 
 
 def test_rows(page_of, listing, title, rows):
     assert rows_of(page_of(listing), title) == rows.split(", ")
+
+
+# Lines that use an address, and the row and the lines of its uses; and what is no routine of its own.
+NUMBERS = """dump: lda $20
+ beq done
+ sta $20
+ jmp dump
+done: inc $20
+ rts
+show: sta $0020
+ jmp ($20)
+ sta $2000,x
+ lda #$20
+ .addr $20
+ .word $20
+table: .byte 1
+"""
+
+
+def test_numbers(whole, page_of):
+    """An operand that is the number of an address leads to its row, and the row back to each use."""
+    page = whole(NUMBERS)
+    assert {line: found for line, found in page.links.items() if any(isinstance(one, str) for one in found)} == {
+        1: ["r0020"], 3: ["r0020"], 5: ["r0020"], 7: ["r0020"], 8: ["r0020"], 9: ["r2000"], 11: ["r0020"]}
+    assert page.rows["r0020"] == [("read", 1), ("write", 3), ("write", 7), ("change", 5), ("pointer", 8), ("table", 11)]
+    rows = rows_of(page_of(NUMBERS), "Before the image")
+    assert rows[:2] == ["$0020||r1|w2|c1|p1||d1",
+                        "read by dump 1000; written by dump 1004, show 100C; changed by dump 1009; "
+                        'pointer of show 100E; in the table at 1016 LABEL { ADDR $0020; NAME ""; };']
+    assert [row.split("|")[3] for row in rows_of(page_of(NUMBERS), "Routines")[::2]] == ["dump", "show"]
 
 
 def test_styles(page_of):
@@ -219,10 +285,32 @@ def test_styles(page_of):
 
 
 def test_folded(page_of, whole):
-    """More than a dozen references fold, and none of them is lost."""
-    listing = "L: nop\n" + "jmp L\n" * 13 + "jsr L\n" * 2
-    assert page_of(listing).count(b'<label><input type="checkbox">3 more<b>') == 1
-    assert sorted(whole(listing).uses[1]) == sorted([("jump", 2 + k) for k in range(13)] + [("call", 15), ("call", 16)])
+    """Of more than ten references the nearest stand above the line, and a link leads to the row that has all."""
+    listing = "jmp L\n" * 7 + "L: nop\n" + "jmp L\n" * 6 + "jsr L\n"
+    above = re.search(r'<i class="r">(.*)\n</i>', page_of(listing).decode())[1]
+    assert re.sub("<[^>]*>", "", above) == (
+        "called by 1028 L; jumped to by 1012 , 1016 L, 100F , 1019 L, 100C , 101C L, 1009 , 101F L, 1006 ; 4 more"
+        ).replace(" ,", ",").replace(" ;", ";")
+    assert sorted(whole(listing).rows[8]) == sorted(
+        [("jump", line) for line in (1, 2, 3, 4, 5, 6, 7, 9, 10, 11, 12, 13, 14)] + [("call", 15)])
+
+
+def test_filler(whole, page_of):
+    """Filler of eight lines folds in the listing, and no less. Its whole rows are one row of the map."""
+    line = " .byte " + ",".join(8 * ["$FF"]) + "\n"
+    page = page_of("nop\n" + 9 * line + "rts\n" + 8 * line, "-S 0x1000").decode()
+    assert page.count('<b class="f">') == 1 and "72 bytes of filler" in page
+    assert whole("nop\n" + 9 * line).text.count(line) == 9
+    page = page_of("nop\n.res 1023,255\nnop\n", "-S 0x1000").decode()
+    assert 'viewBox="0 -.5 64 3"' in page and page.count("M0 1h64") == 1
+
+
+def test_glyphs(whole):
+    """Eight equal bytes do not end what is no filler, nor does a set begin after a blank."""
+    blank, glyph = " .byte 0,0,0,0,0,0,0,0\n", " .byte 1,2,3,4,5,6,7,8\n"
+    page = whole("nop\n" + blank + glyph + blank + glyph)
+    assert {line for line, _ in page.images} == {2}
+    assert {values["height"] for _, values in page.images if values["alt"] == "cells of 8 by 8"} == {"16"}
 
 
 def test_left(da65, whole):
@@ -238,29 +326,38 @@ def test_left(da65, whole):
 
 
 def runs_of(page):
-    """The runs of the map, which is no image but a group: line, addresses, kind, class, and what its lines cover."""
+    """The runs of the map that are links: line, addresses, kind, class, and what its lines cover; and of each kind what
+    the lines of those cover that are none. Rows are counted from the top, as far as they are shown."""
     text, base = page.decode("latin-1"), None
     wide = int(re.search(r'viewBox="0 -.5 (\d+) [^>]* role="group"', text)[1])
+    base = int(re.search(r"</h1> \$(\w{4}) to", text)[1], 16) // wide * wide
+
+    def covered(shape):
+        return [base + int(y) * wide + int(x) + column
+                for x, y, width in re.findall(r"M(\d+) (\d+)h(\d+)", shape) for column in range(int(width))]
+
     title = r'<title>(\w+) \$(\w{4})(?: to \$(\w{4}), (\d+) bytes)?(?:: \w+)?</title>'
     path = rf'<a href="#l(\d+)" class="(\w+)">{title}<path d="([^"]*)"/></a>'
+    runs = []
     for line, kind, named, first, last, count, shape in re.findall(path, text):
         first, last = int(first, 16), int(last or first, 16)
         assert int(count or 1) == last - first + 1
-        base = first // wide * wide if base is None else base
-        yield int(line), first, last, named, kind, [
-            base + int(y) * wide + int(x) + column
-            for x, y, width in re.findall(r"M(\d+) (\d+)h(\d+)", shape) for column in range(int(width))]
+        runs.append((int(line), first, last, named, kind, covered(shape)))
+    return runs, {kind: covered(shape) for kind, shape in re.findall(r'<path class="(\w+)" d="([^"]*)"/>', text)}
 
 
 def test_map(da65, page_of, listing, words, kinds, rows):
-    """Each run is a link, and covers its addresses; the view box has as many rows as there are."""
+    """Each run is a link, but for the short ones of a large image; the view box has as many rows as are shown."""
     page = page_of(listing or da65(words, 0, None).out, words)
-    assert re.search(r'viewBox="0 -.5 (\d+ \d+)"', page.decode("latin-1"))[1] == rows
     kinds = [(kind, int(first, 16), int(last, 16)) for kind, first, last in re.findall(r"(\w+) (\w+)-(\w+)", kinds)]
-    runs = list(runs_of(page))
-    assert [(named, first, last) for _, first, last, named, _, _ in runs] == kinds
+    runs, others = runs_of(page)
+    is_small = kinds[-1][2] - kinds[0][1] < 4096
+    assert re.search(r'viewBox="0 -.5 (\d+ \d+)"', page.decode("latin-1"))[1] == f"{64 if is_small else 256} {rows}"
+    linked = [run for run in kinds if is_small or run[2] - run[1] >= 15]
+    assert [(named, first, last) for _, first, last, named, _, _ in runs] == linked
+    assert {kind for kind, *_ in kinds if kind not in [run[0] for run in linked]} <= others.keys()
     for line, first, last, named, kind, cells in runs:
-        assert named == kind and sorted(cells) == list(range(first, last + 1))
+        assert named == kind and (sorted(cells) == list(range(first, last + 1)) or named == "filler")
         assert Page(page).left[line].startswith(f"{first:04X} ")
     total = collections.Counter(named for named, first, last in kinds for _ in range(first, last + 1))
     head = re.sub("<[^>]*>", " ", re.search("<header>.*?</header>", page.decode("latin-1"), re.S)[0])
@@ -272,6 +369,13 @@ def test_titles(page_of):
     """The title of a stretch names the label at its first address, and no constant."""
     titles = re.findall("<title>(.*?)</title>", page_of("K := $1000\nL: nop\n .byte 1\n").decode())
     assert titles[1:] == ["code $1000: L", "bytes $1001"]
+
+
+def test_pages(page_of):
+    """Each page of 256 bytes leads to the first line that has bytes of it."""
+    page = page_of("; x\n nop\n .res 600\n nop\n", "-S 0x10FE").decode()
+    assert re.findall(r'<a href="#l(\d+)">(\w\w)</a>', page[:page.index("<svg")]) == [
+        ("2", "10"), ("3", "11"), ("3", "12"), ("3", "13")]
 
 
 def test_pictures(whole):
@@ -287,7 +391,7 @@ def test_pictures(whole):
         bitmap = base64.b64decode(values["src"].partition(",")[2], validate=True)
         magic, size, _, offset, head, wide, high, planes, bits = struct.unpack("<2sIIIIIIHH", bitmap[:30])
         assert (magic, size, offset, head, planes, bits) == (b"BM", len(bitmap), 62, 40, 1, 1)
-        assert (int(values["width"]), int(values["height"])) == (wide, high)
+        assert (int(values["width"]), int(values["height"])) == (2 * wide, 2 * high)
         line = (wide + 31) // 32 * 4
         shown = [bitmap[offset + line * (high - 1 - y):][:wide // 8] for y in range(high)]
         assert [row[:len(want)] for row, want in zip(shown, lines)] == lines and high == len(lines)
@@ -338,9 +442,27 @@ def test_browser(da65, page_of, folder):
         server.accept()
 
 
+@pytest.mark.browser
+def test_copied(page_of, folder):
+    """What a browser marks in the listing is the listing: without what the page adds, also above lines and in folded
+    filler, and with the CR at the end of a line. For a NUL it has U+FFFD."""
+    listing = "v := $12 ; x\r\nL: lda v ; a\0b\n\n\nM: jsr L\n" + 9 * " .byte 0,0,0,0,0,0,0,0\n" + "jmp M\n"
+    script = b"""<script>addEventListener("load", () => {
+        getSelection().selectAllChildren(document.getElementById("listing"))
+        document.title = JSON.stringify(getSelection().toString()) })</script></body>"""
+    page = re.sub(b"<meta http-equiv[^>]*>", b"", page_of(listing))
+    write("a.html", page.replace(b"</body>", script))
+    got = subprocess.run([BROWSER, "--headless", "--no-sandbox", "--disable-gpu", f"--user-data-dir={folder}/profile",
+                          "--dump-dom", f"file://{folder}/a.html"], capture_output=True, timeout=120)
+    title = html.unescape(re.search("<title>(.*?)</title>", got.stdout.decode(), re.S)[1])
+    assert json.loads(title).rstrip("\n") == listing.replace("\0", "\ufffd").rstrip("\n")
+
+
 def test_large(page_of):
-    """As much as is read: 16 MiB of comments, and two million empty lines, each with its own element."""
+    """As much as is read: 16 MiB of comments, and lines. Empty lines that follow each other are one element."""
     lines = ("; " + "x" * 97 + "\n") * 167_771 + "nop"
-    for listing, count in (lines.ljust(16 * 1024 * 1024), 167_772), ("\n" * 2_000_000 + "nop", 2_000_001):
-        page = page_of(listing, "-S 0")
-        assert page.count(b'<span id="l') == count and page.count(b'<span id="l%d">' % count) == 1
+    page = page_of(lines.ljust(16 * 1024 * 1024), "-S 0")
+    assert page.count(b'<span id="l') == 167_772 and page.count(b'<span id="l167772">') == 1
+    page = page_of("\n" * 1_048_576 + "nop", "-S 0")
+    assert page.count(b'<span id="l') == 2 and page.count(b'<span id="l1048577">') == 1
+    assert len(page) < 1_100_000

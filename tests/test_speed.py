@@ -191,6 +191,7 @@ def files(what, kind, count):
         "values": lambda: {"s": "".join(f"n{n} := 4\n" for n in numbers) + "".join(
             f" .byte n{n * 7919 % count}\n" for n in numbers)},
         "references": lambda: {"s": "v := 4\n" + count * " .byte v\n"},
+        "leads": lambda: {"s": "t: nop\nr: jsr r\n" + count * f" {kind} t\n"},
         "texts": lambda: {"s": count * ' .byte "&<>"\n .byte 1,2\n'},
         # Groups of 256 low bytes, and 16 times as many numbers elsewhere.
         "numbers": lambda: {"s": "start:\n" + 32 * count * " .byte 0,0,0,0,0,0,0,0\n", "info": "".join(
@@ -236,7 +237,7 @@ def test_html65(as65, html65, shows, text):
     """The page is at most seven times as long as the listing of random bytes."""
     listing = text("random")
     ours = instructions(html65.path, f"-S 0 -o a.html {write('a.s', listing)}")
-    shows(311, ours, instructions(as65.path, "-S 0 -o ours.bin a.s"))
+    shows(359, ours, instructions(as65.path, "-S 0 -o ours.bin a.s"))
     assert len(read("a.html")) <= 7 * len(listing)
 
 

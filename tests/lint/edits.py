@@ -21,8 +21,8 @@ WRONG_BODIES = {
         syntax_called_another_fault write_fault_passed_over""",
     "reach65": """no_target_followed range_with_a_taken_byte goes_on_before_its_text""",
     "trace65": """setting_not_compared proposals_left_out longer_item_passed_over hidden_instruction_not_reached""",
-    "html65": """unescaped_text_read_as_text lost_line_passed_over other_text_passed_over link_to_no_element page_despite_its_fault
-        fault_of_a_later_line""",
+    "html65": """unescaped_text_read_as_text lost_line_passed_over other_text_passed_over link_to_no_element
+        link_to_another_line page_despite_its_fault fault_of_a_later_line""",
     "name65": """comments_left_out fill_moves_nothing groups_do_nothing names_stay_above_labels number_kept_in_a_list
         used_constants_left_out""",
     "run65": """program_counter_overflows decimal_difference_overflows""",

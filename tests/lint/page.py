@@ -25,7 +25,7 @@ SHOWN = {
     "da65": "Groups Statements Listing Outcome RunLaw",
     "reach65": "Inlines Flow Reached Taken",
     "name65": "Marks Changes",
-    "html65": "Pieces PageText",
+    "html65": "Pieces PageText Operands",
 }
 
 

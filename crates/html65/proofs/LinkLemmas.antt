@@ -1,16 +1,22 @@
 -- What stands in a tag and in a page, step by step, and the numbers of ids.
-use Rattle.std.proofs.Common.{◌≡◌, ◌+◌, ◌-◌, ◌<◌, ℕ, Bool, Bor, cond, List, [], ◌∷◌, None, Some, drop, length, take, true, false, refl, sym, ap, arith, ◌&&◌, ◌∙◌, get_or, suc, zero, ◌≢◌, ◌++◌, append_assoc, Option, option_to_list, inl, inr}
-use Rattle.std.specs.Prelude.{nat_eq, not, ◌==◌}
-use Rattle.std.specs.List.{filter_map, prefix_len, slice_get, starts_with}
+use Rattle.std.proofs.Common.{◌≡◌, ◌+◌, ◌-◌, ◌<◌, ℕ, Bool, Bor, List, [], ◌∷◌, None, Some, drop, length, take, true, false, refl, sym, ap, arith, ◌&&◌, ◌∙◌, get_or, min, suc, zero, ◌≢◌, ◌++◌, ◌≤◌, append_assoc, Option, option_to_list, inl, inr}
+use Rattle.std.specs.Prelude.{nat_eq, nat_le, not, set, ◌==◌, ◌||◌}
+use Rattle.std.specs.List.{filter_map, list_any, prefix_len, slice_get, starts_with}
 use Rattle.std.specs.Str.{bytes_eq}
 use Rattle.std.proofs.lemmas.Slice.Eq.{bytes_eq-Decides}
-use Rattle.std.proofs.lemmas.Bool.{and_parts, eq-eqb, eqb-true, false_from_ne_true, ne_eqb}
+use Rattle.std.proofs.lemmas.Bool.{and_parts, eq-eqb, eqb-true, false_from_ne_true, leb-true, ne_eqb}
+use Rattle.std.proofs.lemmas.Bool.{cases_eq}
 use Rattle.std.proofs.lemmas.Bool.Decides.{eqb_tells}
-use Rattle.std.proofs.lemmas.List.{append-nil, take-append-drop, take_rest}
-use Rattle.html65.specs.Links.{are_numbered, count_in, is_found, number_in, quoted_after, texts}
-use Rattle.html65.specs.PageText.{after_tag, kept, text_from}
+use Rattle.std.proofs.lemmas.List.{append-nil, get_or-set_other, get_or-set_same, length-set, take-append-drop, take_rest}
+use Rattle.html65.specs.Links.{are_ascending, count_in, is_found, kind_of, number_in, quoted_after, texts}
+use Rattle.html65.specs.Operands.{PlacedView, defines, is_line_of, placed_by, placed_from}
+use Rattle.html65.specs.PageText.{after_tag, kept, region_after, text_from}
 use Rattle.html65.specs.Pieces.{Piece, Tag, Text, is_other}
+use Rattle.html65.specs.Views.{places_of}
 use Rattle.html65.specs.declared.faults.Region.{Region}
+use Rattle.html65.specs.declared.operands.Placed.{Placed}
+use Rattle.stmt65.specs.Words.{parts}
+use Rattle.stmt65.specs.declared.language.Language.TheVariants.{Repair}
 
 pub quoted_none : (key tag : List ℕ) → length tag ≡ 0 → None ≡ quoted_after key tag
 unfolding quoted_after
@@ -100,40 +106,119 @@ passed_whole place (b ∷ bs) listing whole ps none empty before = absurd (omega
 
 pub ruleset read_back = (taken_more, taken_whole, passed_on, passed_whole)
 
+-- ---- what is taken down of the pieces of the listing
+
+-- a piece, and what is left
+pub placed_more : (key : List ℕ) (place behind : Region) (left left' : List ℕ) (taken new whole : List PlacedView) (p : Piece) (ps rest : List Piece) → ps ≡ p ∷ rest → behind ≡ region_after place p
+    → ((more : List Piece) → text_from behind more ≡ left' → text_from place (p ∷ more) ≡ left) → (text_from place ps ≡ left → taken ++ placed_from key place ps ≡ whole)
+    → new ≡ taken ++ placed_by key behind left' p → text_from behind rest ≡ left' → new ++ placed_from key behind rest ≡ whole
+unfolding placed_from
+placed_more key place behind left left' taken new whole p ps rest step next passes before is same =
+    let all = before (rw step (passes rest same)) in
+    let all' = rw (step, ← next, same) at all in
+    rw (is, append_assoc) all'
+
+-- no piece is left
+pub placed_whole : (key : List ℕ) (place : Region) (left : List ℕ) (taken whole : List PlacedView) (ps : List Piece) → ps ≡ [] → length left ≡ 0
+    → (text_from place ps ≡ left → taken ++ placed_from key place ps ≡ whole) → taken ≡ whole
+unfolding placed_from text_from
+placed_whole key place [] taken whole ps none empty before = rw (none, append-nil) at (before (rw none refl))
+placed_whole key place (b ∷ bs) taken whole ps none empty before = absurd (omega arith)
+
+pub ruleset placed_back = (placed_more, placed_whole)
+
 -- ---- the numbers of ids
 
--- ids of two numbers differ
-differs : (id other : List ℕ) → number_in id ≢ number_in other → bytes_eq id other ≡ false
-differs id other apart = false_from_ne_true _ (λ is. apart (ap number_in ((bytes_eq-Decides id other).0 is)))
+-- the least numbers after an id
+abbrev next_least : List ℕ → List ℕ → List ℕ
+next_least least id = set least (kind_of id) (number_in id + 1)
 
--- an id of a lower number is not among them
-lower : (id : List ℕ) (n : ℕ) (ids : List (List ℕ)) → are_numbered n ids ≡ true → number_in id < n → count_in id ids ≡ 0
-unfolding are_numbered count_in
-lower id n [] are lt = refl
-lower id n (x ∷ xs) are lt =
-    let both = and_parts (number_in x == n) (are_numbered (suc n) xs) are in
-    let number : number_in x ≡ n = eqb-true (number_in x) n both.0 in
-    let apart : bytes_eq id x ≡ false = differs id x (λ same. absurd (omega arith)) in
-    rw (apart, lower id (suc n) xs both.1 (omega arith)) refl
+-- the number after that of an id is the least of its kind then
+here_above : (x least : List ℕ) → length least ≡ 4 → number_in x < get_or (next_least least x) (kind_of x) 0
+here_above x least four =
+    let e = get_or-set_same least (kind_of x) (number_in x + 1) 0 (omega arith) in
+    rw e (omega arith)
 
--- an id is among them once, and tells its place
-once : (id : List ℕ) (n i : ℕ) (ids : List (Bor (List ℕ))) (d : Bor (List ℕ)) → are_numbered n (texts ids) ≡ true → i < length ids → (get_or ids i d).now ≡ id
-    → (count_in id (texts ids) ≡ 1) × (number_in id ≡ n + i)
-unfolding are_numbered count_in
-once id n i [] d are lt is = absurd (omega arith)
-once id n zero (x ∷ xs) d are lt is =
-    let both = and_parts (number_in x.now == n) (are_numbered (suc n) (texts xs)) are in
-    let number : number_in id ≡ n = rw is at (eqb-true (number_in x.now) n both.0) in
+-- that of another kind stays
+other_kind : (id x least : List ℕ) → kind_of id ≢ kind_of x → get_or (next_least least x) (kind_of id) 0 ≡ get_or least (kind_of id) 0
+other_kind id x least apart = get_or-set_other least (kind_of x) (kind_of id) (number_in x + 1) 0 apart
+
+same_kind : (id x least : List ℕ) → length least ≡ 4 → kind_of id ≡ kind_of x → get_or (next_least least x) (kind_of id) 0 ≡ number_in x + 1
+same_kind id x least four same = rw same (get_or-set_same least (kind_of x) (number_in x + 1) 0 (omega arith))
+
+below_itself : (id x least : List ℕ) → id ≡ x → number_in id < get_or least (kind_of id) 0 → get_or least (kind_of x) 0 ≤ number_in x → ⊥
+below_itself id x least same lt le = let lt' = rw same at lt in omega arith
+
+still_below : (id x least : List ℕ) → length least ≡ 4 → number_in id < get_or least (kind_of id) 0 → get_or least (kind_of x) 0 ≤ number_in x → number_in id < get_or (next_least least x) (kind_of id) 0
+still_below id x least four lt le = elim (cases_eq (kind_of id) (kind_of x)) [
+  | inl same ↦ let lt' = rw same at lt in rw (same_kind id x least four same) (omega arith)
+  | inr other ↦ rw (other_kind id x least other) lt
+]
+
+above_itself : (id x least : List ℕ) → length least ≡ 4 → id ≡ x → get_or (next_least least x) (kind_of id) 0 ≤ number_in id → ⊥
+above_itself id x least four same le =
+    let le' = rw same at le in
+    let e = here_above x least four in
+    omega arith
+
+least_before : (id x least : List ℕ) → length least ≡ 4 → get_or least (kind_of x) 0 ≤ number_in x → get_or (next_least least x) (kind_of id) 0 ≤ number_in id → get_or least (kind_of id) 0 ≤ number_in id
+least_before id x least four le more = elim (cases_eq (kind_of id) (kind_of x)) [
+  | inl same ↦ let more' = rw (same_kind id x least four same) at more in rw same (omega arith)
+  | inr other ↦ rw (other_kind id x least other) at more
+]
+
+-- an id of a number below the least of its kind is not among them
+lower : (id least : List ℕ) (ids : List (List ℕ)) → length least ≡ 4 → are_ascending least ids ≡ true → number_in id < get_or least (kind_of id) 0 → count_in id ids ≡ 0
+unfolding are_ascending count_in
+lower id least [] four are lt = refl
+lower id least (x ∷ xs) four are lt =
+    let both = and_parts (nat_le (get_or least (kind_of x) 0) (number_in x)) (are_ascending (next_least least x) xs) are in
+    let le : get_or least (kind_of x) 0 ≤ number_in x = leb-true _ _ both.0 in
+    let apart : bytes_eq id x ≡ false = false_from_ne_true _ (λ is. below_itself id x least ((bytes_eq-Decides id x).0 is) lt le) in
+    let later : number_in id < get_or (next_least least x) (kind_of id) 0 = still_below id x least four lt le in
+    rw (apart, lower id (next_least least x) xs (length-set _ _ _ ∙ four) both.1 later) refl
+
+-- an id is among them once, and its number is at least the least of its kind
+once : (id least : List ℕ) (i : ℕ) (ids : List (Bor (List ℕ))) (d : Bor (List ℕ)) → length least ≡ 4 → are_ascending least (texts ids) ≡ true → i < length ids → (get_or ids i d).now ≡ id
+    → (count_in id (texts ids) ≡ 1) × (get_or least (kind_of id) 0 ≤ number_in id)
+unfolding are_ascending count_in
+once id least i [] d four are lt is = absurd (omega arith)
+once id least zero (x ∷ xs) d four are lt is =
+    let both = and_parts (nat_le (get_or least (kind_of x.now) 0) (number_in x.now)) (are_ascending (next_least least x.now) (texts xs)) are in
+    let le : get_or least (kind_of x.now) 0 ≤ number_in x.now = leb-true _ _ both.0 in
+    let le' : get_or least (kind_of id) 0 ≤ number_in id = rw is at le in
     let same : bytes_eq id x.now ≡ true = (bytes_eq-Decides id x.now).1 (sym is) in
-    (rw (same, lower id (suc n) (texts xs) both.1 (omega arith)) refl, omega arith)
-once id n (suc i) (x ∷ xs) d are lt is =
-    let both = and_parts (number_in x.now == n) (are_numbered (suc n) (texts xs)) are in
-    let number : number_in x.now ≡ n = eqb-true (number_in x.now) n both.0 in
-    let more = once id (suc n) i xs d both.1 (omega arith) is in
-    let place : number_in id ≡ suc n + i = more.1 in
-    let apart : bytes_eq id x.now ≡ false = differs id x.now (λ same. absurd (omega arith)) in
-    (rw (apart, more.0) refl, omega arith)
+    let above : number_in id < get_or (next_least least x.now) (kind_of id) 0 = rw (← is) (here_above x.now least four) in
+    (rw (same, lower id (next_least least x.now) (texts xs) (length-set _ _ _ ∙ four) both.1 above) refl, le')
+once id least (suc i) (x ∷ xs) d four are lt is =
+    let both = and_parts (nat_le (get_or least (kind_of x.now) 0) (number_in x.now)) (are_ascending (next_least least x.now) (texts xs)) are in
+    let le : get_or least (kind_of x.now) 0 ≤ number_in x.now = leb-true _ _ both.0 in
+    let more = once id (next_least least x.now) i xs d (length-set _ _ _ ∙ four) both.1 (omega arith) is in
+    let apart : bytes_eq id x.now ≡ false = false_from_ne_true _ (λ same. above_itself id x.now least four ((bytes_eq-Decides id x.now).0 same) more.1) in
+    (rw (apart, more.0) refl, least_before id x.now least four le more.1)
 
-pub one_is_found : (ids : List (Bor (List ℕ))) (id : List ℕ) (i : ℕ) (d : Bor (List ℕ)) → are_numbered 0 (texts ids) ≡ true → i < length ids
+pub one_is_found : (ids : List (Bor (List ℕ))) (id : List ℕ) (i : ℕ) (d : Bor (List ℕ)) → are_ascending (0 ∷ 0 ∷ 0 ∷ 0 ∷ []) (texts ids) ≡ true → i < length ids
     → bytes_eq (get_or ids i d).now id ≡ true → is_found (texts ids) id ≡ true
-one_is_found ids id i d are lt same = rw (once id 0 i ids d are lt ((bytes_eq-Decides (get_or ids i d).now id).0 same)).0 refl
+one_is_found ids id i d are lt same = rw (once id (0 ∷ 0 ∷ 0 ∷ 0 ∷ []) i ids d refl are lt ((bytes_eq-Decides (get_or ids i d).now id).0 same)).0 refl
+
+-- ---- the number of an address
+
+-- a number that is held is itself, if it is below 2^32
+pub same_number : (n m : ℕ) → (min n 18446744073709551615 == m) ≡ true → m < 4294967296 → (n == m) ≡ true
+same_number n m is lt =
+    let e : min n 18446744073709551615 ≡ m = eqb-true _ m is in
+    let same : n ≡ m = omega arith in
+    eq-eqb n m same
+
+-- ---- the line of a name
+
+or_true : (b : Bool) → (b || true) ≡ true
+or_true true = refl
+or_true false = refl
+
+-- a line of the target that defines the name is one of them
+pub line_at : (lines : List Placed) (i : ℕ) (d : Placed) (target name : List ℕ) → i < length lines → bytes_eq (get_or lines i d).name.now target ≡ true
+    → defines name (parts Repair (get_or lines i d).text.now) ≡ true → list_any (is_line_of target name) (places_of lines) ≡ true
+line_at [] i d target name lt same is = absurd (omega arith)
+line_at (x ∷ xs) zero d target name lt same is = rw (same, is) refl
+line_at (x ∷ xs) (suc i) d target name lt same is = rw (line_at xs i d target name (omega arith) same is) (or_true _)

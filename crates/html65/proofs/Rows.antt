@@ -39,3 +39,12 @@ twice = refl
 number : number_in (codes "l120") ≡ 120
 unfolding number_in
 number = refl
+
+address : number_in (codes "aFC95") ≡ 0xFC95
+unfolding number_in
+address = refl
+
+-- a CR and a NUL
+control : text_of (codes "<pre id=\"listing\"><i class=\"r\">x</i>a&#13;&#0;</pre>") ≡ 97 ∷ 13 ∷ 0 ∷ []
+unfolding pieces_after piece_at entity_at text_from
+control = refl

@@ -1,6 +1,6 @@
 -- The links within a page.
-use Rattle.std.specs.Prelude.{◌++◌, map, true, IsTrue, ◌≡◌, ℕ, suc, Bool, cond, ◌&&◌, ◌+◌, ◌-◌, ◌*◌, ◌%◌, List, [], ◌∷◌, Option, option_to_list, None, Some, codes, drop, fold, length, nat_eq, take, not, ◌==◌, if◌then◌else◌}
-use Rattle.std.specs.Char.{is_ascii_digit}
+use Rattle.std.specs.Prelude.{◌++◌, map, true, IsTrue, ◌≡◌, ℕ, Bool, cond, ◌&&◌, ◌+◌, ◌*◌, ◌%◌, List, [], ◌∷◌, Option, option_to_list, None, Some, codes, drop, fold, get_or, length, nat_eq, nat_le, take, set, not, ◌==◌, if◌then◌else◌}
+use Rattle.std.specs.Char.{digit_value, is_ascii_hexdigit}
 use Rattle.std.specs.List.{filter_map, list_all, prefix_len, starts_with}
 use Rattle.std.specs.Str.{bytes_eq}
 use Rattle.std.specs.Borrow.{Bor}
@@ -42,18 +42,26 @@ is_found ids id = count_in id ids == 1
 abbrev pub AreLinksWhole : List ℕ → Type 0
 AreLinksWhole page = IsTrue (list_all (is_found (ids_in (pieces page))) (targets_in (pieces page)))
 
+-- the kind of an id, by its first byte: `l` of a line, `a` of an address and `r` of a row have different ones
+abbrev pub kind_of : List ℕ → ℕ
+kind_of id = get_or id 0 0 % 4
+
+-- numbers of lines are decimal, and addresses hexadecimal
+abbrev pub radix_of : List ℕ → ℕ
+radix_of id = if kind_of id == 0 then 10 else 16
+
 -- the number after a byte of an id
-abbrev pub with_digit : ℕ → ℕ → ℕ
-with_digit n b = if is_ascii_digit b then (n * 10 % 18446744073709551616 + (b - 48)) % 18446744073709551616 else n
+abbrev pub with_digit : ℕ → ℕ → ℕ → ℕ
+with_digit radix n b = if is_ascii_hexdigit b then (n * radix % 4294967296 + digit_value b) % 4294967296 else n
 
--- the number that the digits of an id make
+-- the number that the digits of an id after its first byte make
 unfoldable pub number_in : List ℕ → ℕ
-number_in = fold with_digit 0
+number_in id = fold (with_digit (radix_of id)) 0 (drop 1 id)
 
--- the number of each id is its place, from this one on
-unfoldable pub are_numbered : ℕ → List (List ℕ) → Bool
-are_numbered n [] = true
-are_numbered n (id ∷ ids) = number_in id == n && are_numbered (suc n) ids
+-- the numbers of the ids of each kind ascend, from the least one that the kind may have next
+unfoldable pub are_ascending : List ℕ → List (List ℕ) → Bool
+are_ascending least [] = true
+are_ascending least (id ∷ ids) = nat_le (get_or least (kind_of id) 0) (number_in id) && are_ascending (set least (kind_of id) (number_in id + 1)) ids
 
 -- what stands there, of each
 abbrev pub texts : List (Bor (List ℕ)) → List (List ℕ)

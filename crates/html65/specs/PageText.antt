@@ -1,7 +1,8 @@
 -- The text of a page: that of the listing in it.
 --
 -- The listing stands in `<pre id="listing">`. What the page adds to it stands in elements `<i>`.
-use Rattle.std.specs.Prelude.{ℕ, List, [], ◌∷◌, ◌++◌, codes, if◌then◌else◌}
+use Rattle.std.specs.Prelude.{ℕ, List, [], ◌∷◌, ◌++◌, ◌||◌, codes, nat_eq, if◌then◌else◌}
+use Rattle.std.specs.List.{starts_with}
 use Rattle.std.specs.Str.{bytes_eq}
 use Rattle.html65.specs.Pieces.{Piece, Tag, Text, pieces}
 use Rattle.html65.specs.declared.faults.Region.{Region}
@@ -10,9 +11,14 @@ use Rattle.html65.specs.declared.faults.Region.TheVariants.{After, Before, Listi
 -- where the text after a tag stands: before the listing, in it, in a remark of the page, or after it
 abbrev pub after_tag : Region → List ℕ → Region
 after_tag Before tag = if bytes_eq tag (codes "pre id=\"listing\"") then Listing else Before
-after_tag Listing tag = if bytes_eq tag (codes "i") then Remark else (if bytes_eq tag (codes "/pre") then After else Listing)
+after_tag Listing tag = if bytes_eq tag (codes "i") || starts_with nat_eq tag (codes "i ") then Remark else (if bytes_eq tag (codes "/pre") then After else Listing)
 after_tag Remark tag = if bytes_eq tag (codes "/i") then Listing else Remark
 after_tag After tag = After
+
+-- where what follows a piece stands
+abbrev pub region_after : Region → Piece → Region
+region_after place (Tag tag) = after_tag place tag
+region_after place (Text text) = place
 
 -- what of a text is the listing's
 abbrev pub kept : Region → List ℕ → List ℕ

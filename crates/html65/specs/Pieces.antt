@@ -1,7 +1,7 @@
 -- The pieces of a page: its tags, and the text between them.
 --
 -- A tag is what stands from a `<` to the next `>`, and text is all else. In text `&amp;`, `&lt;`
--- and `&gt;` stand for `&`, `<` and `>`.
+-- and `&gt;` stand for `&`, `<` and `>`, `&#13;` for a CR and `&#0;` for a NUL.
 use Rattle.std.specs.Prelude.{ℕ, zero, suc, ◌-◌, ◌+◌, Bool, ◌||◌, not, List, [], ◌∷◌, codes, nat_eq, take, ◌==◌, if◌then◌else◌}
 use Rattle.std.specs.List.{prefix_len, starts_with}
 
@@ -28,7 +28,9 @@ entity_at bytes =
     if starts_with nat_eq bytes (codes "&amp;") then (38 ∷ [], 5)
     else (if starts_with nat_eq bytes (codes "&lt;") then (60 ∷ [], 4)
     else (if starts_with nat_eq bytes (codes "&gt;") then (62 ∷ [], 4)
-    else (38 ∷ [], 1)))
+    else (if starts_with nat_eq bytes (codes "&#13;") then (13 ∷ [], 5)
+    else (if starts_with nat_eq bytes (codes "&#0;") then (0 ∷ [], 4)
+    else (38 ∷ [], 1)))))
 
 -- the piece that begins with the first byte, and its length
 unfoldable pub piece_at : ℕ → List ℕ → Piece × ℕ

@@ -1,6 +1,6 @@
-//! The calls of a page: whom each routine calls, and who calls it.
+//! The routines of a page: whom each calls, and who calls it.
 
-use crate::markup::{Link, Put, Result, put};
+use crate::markup::{Address, Link, Put, Result, put};
 use crate::survey::{Named, Reference, Survey};
 use crate::tables::{TABLE, TABLE_END};
 use crate::way::Way;
@@ -9,27 +9,16 @@ use std::alloc::Global;
 /// A place among the names, whether the other one calls it or it the other one, and the place of the other one.
 type Call = (usize, bool, usize);
 
-/// Whether a name is a routine: a label of code that something calls, or that only tables and halves refer to, or
-/// nothing. It ends where the next one begins.
-fn is_routine(survey: &Survey<'_, '_>, named: &Named<'_>) -> bool {
-    let uses = survey.to_name(named.place);
-    let is_called = uses.iter().any(|one| one.way == Way::Call);
-    let is_led_to = |one: &Reference| matches!(one.way, Way::Table | Way::Half);
-    let is_entry = uses.iter().all(is_led_to);
-    !named.definition.constant && survey.is_code(named.definition.value) && (is_called || is_entry)
-}
-
 /// Who calls whom, in order and each once: by `jsr`, or by a jump to another routine or to a constant.
-fn calls_of(alloc: Global, survey: &Survey<'_, '_>, routines: &[Named<'_>]) -> Result<Vec<Call>> {
+fn calls_of(alloc: Global, survey: &Survey<'_, '_>) -> Result<Vec<Call>> {
     let mut calls = Vec::new(alloc);
-    for Reference { to, way, line, .. } in &survey.to_names {
-        let begun = routines.partition_point(|named| named.line <= *line);
-        let (Some(from), Some(named)) = (routines.get(begun.wrapping_sub(1)), survey.names.get(*to))
-        else {
+    for one in &survey.to_names {
+        let Reference { to, way, .. } = one;
+        let (Some(from), Some(named)) = (survey.routine_of(one), survey.names.get(*to)) else {
             continue;
         };
         let may_jump = *way == Way::Jump && from.place != *to;
-        let is_jump = may_jump && (named.definition.constant || is_routine(survey, named));
+        let is_jump = may_jump && (named.definition.constant || named.is_routine);
         if *way == Way::Call || is_jump {
             calls.push((from.place, false, *to))?;
             calls.push((*to, true, from.place))?;
@@ -49,8 +38,8 @@ fn put_others(
 ) -> Result<()> {
     let from = calls.partition_point(|call| (call.0, call.1) < key);
     let to = calls.partition_point(|call| (call.0, call.1) <= key);
-    let text = if key.1 { "called by" } else { "calls" };
-    put!(out; "<td>", if from < to { text } else { "" });
+    let text = if key.1 { " called by" } else { "calls" };
+    put!(out; if from < to { text } else { "" });
     for (_, _, other) in calls.get(from..to).unwrap_or(&[]) {
         if let Some(named) = survey.names.get(*other) {
             put!(out; " ", Link(named.line, named.definition.name));
@@ -59,17 +48,27 @@ fn put_others(
     Ok(())
 }
 
-/// Appends whom each routine calls, and who calls it.
-pub fn put_calls(alloc: Global, out: &mut Vec<u8>, survey: &Survey<'_, '_>) -> Result<()> {
-    let mut routines = Vec::from_slice(alloc, &survey.names)?;
-    routines.retain(|named| is_routine(survey, named));
-    if routines.is_empty() {
+/// Where a routine ends: where the next one begins, or its code.
+fn end_of(survey: &Survey<'_, '_>, routine: &Named<'_>, next: Option<&Named<'_>>) -> u64 {
+    let begin = routine.definition.value;
+    let end = survey.run_at(begin).map_or(begin, |run| run.end as u64);
+    let next = next.map_or(u64::MAX, |next| next.definition.value);
+    if begin < next { end.min(next) } else { end }
+}
+
+/// Appends the routines: where each begins, how many bytes it has, whom it calls, and who calls it.
+pub fn put_routines(alloc: Global, out: &mut Vec<u8>, survey: &Survey<'_, '_>) -> Result<()> {
+    if survey.routines.is_empty() {
         return Ok(());
     }
-    let calls = calls_of(alloc, survey, &routines)?;
-    put!(out; ("<details><summary>Calls (", routines.len()), TABLE);
-    for named in &routines {
-        put!(out; "<tr><td>", Link(named.line, named.definition.name));
+    let calls = calls_of(alloc, survey)?;
+    put!(out; ("<details open><summary>Routines (", survey.routines.len()), TABLE);
+    for (place, named) in survey.routines.iter().enumerate() {
+        let begin = named.definition.value;
+        let end = end_of(survey, named, survey.routines.get(place.saturating_add(1)));
+        put!(out; ("<tr><td>$", Address(begin as usize)), ("<td>$", Address(end.saturating_sub(1) as usize)));
+        put!(out; ("<td>", end.saturating_sub(begin) as usize), "<td>", Link(named.line, named.definition.name));
+        put!(out; "\n<tr class=\"v\"><td colspan=\"4\">");
         put_others(out, survey, &calls, (named.place, false))?;
         put_others(out, survey, &calls, (named.place, true))?;
         put!(out; "\n");

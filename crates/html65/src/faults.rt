@@ -1,13 +1,16 @@
-//! Reads a page back: whether its text is that of the listing, and each link within it leads to one element.
+//! Reads a page back: whether its text is that of the listing, each link within it leads to one element, and each link
+//! of an operand to the line that defines the name there, or to the row of the address.
 
-ghost use Rattle.std.specs.Prelude.{◌≡◌, ◌++◌, ◌∷◌, List, None, IfOk, IfSome, IsTrue, OnOk, codes, true};
-ghost use Rattle.std.specs.List.{list_all};
+ghost use Rattle.std.specs.Prelude.{◌≡◌, ◌++◌, ◌∷◌, List, None, IfOk, IfSome, IsTrue, OnOk, codes};
 ghost use Rattle.std.specs.Option.{option_copied};
-ghost use Rattle.html65.specs.Links.{Adds, AreLinksWhole, are_numbered, found_in, is_found, number_in, quoted_after, texts, with_digit};
-ghost use Rattle.html65.specs.PageText.{after_tag, kept, text_from, text_of};
+ghost use Rattle.html65.specs.Links.{Adds, AreLinksWhole, found_in, quoted_after};
+ghost use Rattle.html65.specs.Operands.{AreOperandsLed, is_listing, placed_by, placed_in};
+ghost use Rattle.html65.specs.PageText.{after_tag, kept, region_after, text_from, text_of};
 ghost use Rattle.html65.specs.Pieces.{Piece as APiece};
-ghost use Rattle.html65.specs.Views.{piece_of};
+ghost use Rattle.html65.specs.Views.{AddsPlaced, AreAllFound, AreAllLed, piece_of};
 
+use crate::ids::{are_found, index_of};
+use crate::operands::{Placed, are_led};
 use crate::pieces::{Piece, first_piece, len_before};
 use std::alloc::{AllocError, Global};
 
@@ -37,7 +40,7 @@ fn after_tag(place: Region, tag: &[u8]) -> Region
 {
     match place {
         Region::Before if tag == b"pre id=\"listing\"".as_slice() => Region::Listing,
-        Region::Listing if tag == b"i".as_slice() => Region::Remark,
+        Region::Listing if tag == b"i".as_slice() || tag.starts_with(b"i ") => Region::Remark,
         Region::Listing if tag == b"/pre".as_slice() => Region::After,
         Region::Remark if tag == b"/i".as_slice() => Region::Listing,
         _ => place,
@@ -59,8 +62,9 @@ fn left_after<'t>(place: Region, left: &'t [u8], text: &[u8]) -> Option<&'t [u8]
 /// Where the text after a piece stands and what is left of the listing there, if the
 /// piece has no other text than the listing.
 fn passed<'t>(place: Region, left: &'t [u8], piece: Piece<'_>) -> Option<(Region, &'t [u8])>
-    ensures { IfSome result (λ f. (rest : List APiece) → text_from f.0 rest ≡ f.1.now
+    ensures text { IfSome result (λ f. (rest : List APiece) → text_from f.0 rest ≡ f.1.now
         → text_from place (piece_of piece.entry ∷ rest) ≡ left.now) }
+    ensures region { IfSome result (λ f. f.0 ≡ region_after place (piece_of piece.entry)) }
 {
     match piece {
         Piece::Tag(tag) => Some((after_tag(place, tag), left)),
@@ -90,127 +94,135 @@ fn quoted_after<'a>(more: &[u8], tag: &'a [u8]) -> Option<&'a [u8]>
     None
 }
 
-/// Takes down what stands so in a tag, if it has it.
-#[inline(always)]
-fn take<'p>(found: &mut Vec<&'p [u8]>, more: &[u8], tag: &'p [u8]) -> Result<(), AllocError>
-    ensures { OnOk result (Adds found.old.items found.new.items
-        (quoted_after (32 ∷ more.now) tag.now)) }
+/// Whether a text is the listing's.
+fn is_listing(place: Region) -> bool
+    ensures { result ≡ is_listing place }
 {
-    if let Some(id) = quoted_after(more, tag) {
-        found.push(id)?;
+    match place {
+        Region::Listing => true,
+        Region::Before | Region::Remark | Region::After => false,
     }
+}
+
+/// Takes down what stands so in a tag, if it has it; in the listing also with the text of the listing from there on.
+#[inline(always)]
+#[tactic(auto)]
+fn take<'p>(
+    all: &mut Vec<&'p [u8]>,
+    placed: &mut Vec<Placed<'p>>,
+    more: &[u8],
+    tag: &'p [u8],
+    is_in: bool,
+    text: &'p [u8],
+) -> Result<(), AllocError>
+    ensures all { OnOk result (Adds all.old.items all.new.items
+        (quoted_after (32 ∷ more.now) tag.now)) }
+    ensures placed { OnOk result (AddsPlaced placed.old.items placed.new.items
+        (placed_in is_in text.now (quoted_after (32 ∷ more.now) tag.now))) }
+{
+    let Some(name) = quoted_after(more, tag) else {
+        return Ok(());
+    };
+    all.push(name)?;
+    if !is_in {
+        return Ok(());
+    }
+    placed.push(Placed { name, text })?;
     Ok(())
+}
+
+/// The ids and the targets of a page, and those in its listing with the text from there on.
+#[derive(Drop)]
+struct Found<'p> {
+    ids: Vec<&'p [u8]>,
+    targets: Vec<&'p [u8]>,
+    lines: Vec<Placed<'p>>,
+    links: Vec<Placed<'p>>,
 }
 
 /// Takes down the id and the target of a piece, if it is a tag that has them. Neither stands before its first blank.
 #[tactic(auto, using(crate::proofs::LinkLemmas::quoted_from_blank))]
 fn take_both<'p>(
-    ids: &mut Vec<&'p [u8]>,
-    targets: &mut Vec<&'p [u8]>,
+    found: &mut Found<'p>,
     piece: Piece<'p>,
+    place: Region,
+    left: &'p [u8],
 ) -> Result<(), AllocError>
-    ensures ids { OnOk result (Adds ids.old.items ids.new.items
+    ensures ids { OnOk result (Adds found.old.ids.items found.new.ids.items
         (found_in (codes " id=\"") (piece_of piece.entry))) }
-    ensures targets { OnOk result (Adds targets.old.items targets.new.items
+    ensures targets { OnOk result (Adds found.old.targets.items found.new.targets.items
         (found_in (codes " href=\"#") (piece_of piece.entry))) }
+    ensures lines { OnOk result (AddsPlaced found.old.lines.items found.new.lines.items
+        (placed_by (codes " id=\"") place left.now (piece_of piece.entry))) }
+    ensures links { OnOk result (AddsPlaced found.old.links.items found.new.links.items
+        (placed_by (codes " href=\"#") place left.now (piece_of piece.entry))) }
 {
     if let Piece::Tag(tag) = piece {
         let tag = &tag[len_before(b' ', tag)..];
-        take(ids, b"id=\"", tag)?;
-        take(targets, b"href=\"#", tag)?;
+        let is_in = is_listing(place);
+        take(&mut found.ids, &mut found.lines, b"id=\"", tag, is_in, left)?;
+        take(
+            &mut found.targets,
+            &mut found.links,
+            b"href=\"#",
+            tag,
+            is_in,
+            left,
+        )?;
     }
     Ok(())
 }
 
-fn with_digit(number: usize, byte: u8) -> usize
-    ensures { result ≡ with_digit number byte }
+/// Whether the ids of each kind are in order, and the links of a page of which these are all lead where they should.
+fn are_whole(alloc: Global, found: &Found<'_>) -> Result<bool, AllocError>
+    ensures links { IfOk result (λ whole. IsTrue whole
+        → AreAllFound found.now.ids.items found.now.targets.items) }
+    ensures operands { IfOk result (λ whole. IsTrue whole
+        → AreAllLed found.now.lines.items found.now.links.items) }
 {
-    if byte.is_ascii_digit() {
-        let digit = usize::from(byte - b'0');
-        return number.wrapping_mul(10).wrapping_add(digit);
+    let Some(index) = index_of(alloc, &found.ids)? else {
+        return Ok(false);
+    };
+    if are_found(&found.ids, &index, &found.targets) {
+        return Ok(are_led(&found.lines, &index, &found.links));
     }
-    number
+    Ok(false)
 }
 
-/// The number that the digits of an id make.
-#[tactic(auto, using(std::proofs::lemmas::List::Sums::fold_more), unfolding(crate::specs::Links::number_in))]
-fn number_in(id: &[u8]) -> usize
-    ensures { result ≡ number_in id.now }
-{
-    let mut number = 0;
-    'bytes: for byte in id {
-        number = with_digit(number, *byte);
-    }
-    number
-}
-
-/// Whether the number of each id is its place among them, so that they differ.
-#[tactic(auto, unfolding(crate::specs::Links::are_numbered))]
-fn are_numbered(ids: &[&[u8]]) -> bool
-    ensures { result ≡ are_numbered 0 (texts ids.now) }
-{
-    let mut rest = ids;
-    let mut number = 0;
-    'ids: while let [id, after @ ..] = rest {
-        if number_in(id) != number {
-            return false;
-        }
-        number += 1;
-        rest = after;
-    }
-    true
-}
-
-/// Whether the id whose number a target has is the target.
-#[tactic(auto, using(crate::proofs::LinkLemmas::one_is_found))]
-fn is_found(ids: &[&[u8]], target: &[u8]) -> bool
-    requires { are_numbered 0 (texts ids.now) ≡ true }
-    ensures { IsTrue result → IsTrue (is_found (texts ids.now) target.now) }
-{
-    let place = number_in(target);
-    place < ids.len() && ids[place] == target
-}
-
-/// Whether each target is found among the ids.
-fn are_found(ids: &[&[u8]], targets: &[&[u8]]) -> bool
-    requires { are_numbered 0 (texts ids.now) ≡ true }
-    ensures { IsTrue result → IsTrue (list_all (is_found (texts ids.now)) (texts targets.now)) }
-{
-    'targets: for target in targets {
-        if !is_found(ids, target) {
-            return false;
-        }
-    }
-    true
-}
-
-/// The first promise that a page does not keep for this listing. The ids have to be numbered,
+/// The first promise that a page does not keep for this listing. The ids of each kind have to be in order,
 /// whether a link leads to them or not.
-#[tactic(auto, using(crate::proofs::LinkLemmas::read_back))]
+#[tactic(auto, using(crate::proofs::LinkLemmas::read_back, crate::proofs::LinkLemmas::placed_back))]
 pub fn fault_in(alloc: Global, page: &[u8], listing: &[u8]) -> Result<Option<Fault>, AllocError>
-    /// If it finds no fault in any bytes, these are a page whose text is the listing, and each link within it is
-    /// the `id` of exactly one element.
+    /// If it finds no fault in any bytes, these are a page whose text is the listing, each link within it is
+    /// the `id` of exactly one element, and each link of an operand leads to the line that defines the name there,
+    /// or to the row of the address.
     ensures text { IfOk result (λ fault. fault ≡ None → text_of page.now ≡ listing.now) }
     ensures links { IfOk result (λ fault. fault ≡ None → AreLinksWhole page.now) }
+    ensures operands { IfOk result (λ fault. fault ≡ None → AreOperandsLed page.now) }
 {
-    let mut ids = Vec::new(alloc);
-    let mut targets = Vec::new(alloc);
+    let mut found = Found {
+        ids: Vec::new(alloc),
+        targets: Vec::new(alloc),
+        lines: Vec::new(alloc),
+        links: Vec::new(alloc),
+    };
     let mut place = Region::Before;
     let mut left = listing;
     let mut rest = page;
     'pieces: while let Some((piece, after)) = first_piece(rest) {
-        take_both(&mut ids, &mut targets, piece)?;
-        let Some(found) = passed(place, left, piece) else {
+        let Some(next) = passed(place, left, piece) else {
             return Ok(Some(Fault::Text));
         };
-        place = found.0;
-        left = found.1;
+        place = next.0;
+        left = next.1;
+        take_both(&mut found, piece, place, left)?;
         rest = after;
     }
     if !left.is_empty() {
         return Ok(Some(Fault::Text));
     }
-    if are_numbered(&ids) && are_found(&ids, &targets) {
+    let holds = are_whole(alloc, &found)?;
+    if holds {
         return Ok(None);
     }
     Ok(Some(Fault::Links))

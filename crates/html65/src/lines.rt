@@ -49,6 +49,7 @@ impl<'t> Line<'t> {
             way,
             line: self.number,
             at: self.at,
+            routine: usize::MAX,
         }
     }
 }

@@ -5,8 +5,8 @@
 //! each link leads to one line. The status is 0 if the page, the help text or the version was written, otherwise 1.
 //!
 //! `survey` reads each of the `lines` once: the names, who refers to them and to numbers, by `way`, and what
-//! `kind` the bytes are. `head`, `map`, `tables`, `calls`, `listing` and `pictures` write the page, with
-//! `markup`. `pieces` and `faults` read it back.
+//! `kind` the bytes are. `head`, `map`, `tables`, `calls`, `listing`, `uses` and `pictures` write the page, with
+//! `markup`. `pieces` and `faults` read it back, with `ids` and `operands`.
 #![tactic(auto)]
 
 mod calls;
@@ -14,17 +14,20 @@ mod command;
 mod failure;
 mod faults;
 mod head;
+mod ids;
 mod kind;
 mod lines;
 mod listing;
 mod map;
 mod markup;
+mod operands;
 mod page;
 mod pictures;
 mod pieces;
 mod request;
 mod survey;
 mod tables;
+mod uses;
 mod way;
 
 use failure::Failure;
@@ -37,8 +40,16 @@ use request::{Showing, request_of};
 use std::process::ExitCode;
 use usage65::{Request, words_of};
 
-/// The most that a listing may have: 16 MiB.
+/// The most that a listing may have: 16 MiB, and this many lines.
 const LIMIT: usize = 16_777_216;
+
+const LINES: usize = 1_048_576;
+
+/// Whether a listing has too many lines. None has more than bytes.
+fn has_too_many_lines(text: &[u8]) -> bool {
+    let feeds = text.iter().filter(|byte| **byte == b'\n');
+    LINES < text.len() && LINES < feeds.count()
+}
 
 /// The page of these files. The output may not be the input of the information file either.
 fn page_for(rt: &HostRuntime, showing: &Showing) -> Result<Vec<u8>, Failure> {
@@ -48,7 +59,7 @@ fn page_for(rt: &HostRuntime, showing: &Showing) -> Result<Vec<u8>, Failure> {
     let inputs = [info.settings().input.as_deref()];
     keep_inputs(rt, names.output.as_deref(), &inputs)?;
     let text = read_listing(rt, names.listing.as_str())?;
-    if LIMIT < text.len() {
+    if LIMIT < text.len() || has_too_many_lines(&text) {
         return Err(Failure::File(FileFault::TooLarge));
     }
     let layout = layout_of(rt.alloc(), info.segments(), showing.fill)?;

@@ -1,56 +1,156 @@
 //! The map of a page: the addresses of the image as rows of a picture.
 
-use crate::kind::KINDS;
-use crate::markup::{Address, Put, Result, put};
-use crate::survey::Survey;
+use crate::kind::{KINDS, Kind};
+use crate::lines::Line;
+use crate::markup::{Address, Page, Put, Result, put};
+use crate::survey::{Run, Survey};
+use std::alloc::Global;
 
 /// How wide the map is, in pixels.
 const WIDTH: usize = 320;
 
-/// Appends the addresses from one to before another one as lines, in rows of so many.
-fn put_rows(out: &mut Vec<u8>, wide: usize, at: usize, end: usize) -> Result<()> {
-    let wide = wide.max(1);
-    for row in at / wide..end.div_ceil(wide) {
-        let above = row.saturating_mul(wide);
-        let from = at.saturating_sub(above);
-        let to = end.saturating_sub(above).min(wide);
-        put!(out; ("M", from), (" ", row), ("h", to.saturating_sub(from)));
+/// The rows of a map.
+#[derive(Drop)]
+struct Rows {
+    /// How many bytes a row has, and the address of the first one.
+    wide: usize,
+    above: usize,
+    /// Which row of the picture each row is: rows of filler that follow each other are one.
+    shown: Vec<usize>,
+}
+
+impl Rows {
+    /// Those of the runs. Up to 4 KiB are in rows of 64.
+    fn of(alloc: Global, runs: &[Run]) -> Result<Rows> {
+        let begin = runs.first().map_or(0, |run| run.at);
+        let end = runs.last().map_or(0, |run| run.end);
+        let is_small = end.saturating_sub(begin) <= 4096;
+        let wide: usize = if is_small { 64 } else { 256 };
+        let above = begin / wide * wide;
+        let count = end.saturating_sub(above).div_ceil(wide);
+        let mut shown = Vec::new(alloc);
+        shown.resize(count, 1)?;
+        for run in runs {
+            let first = run.at.saturating_sub(above).div_ceil(wide);
+            let after = run.end.saturating_sub(above) / wide;
+            let more = first.saturating_add(1)..after;
+            if run.kind != Kind::Filler {
+                continue;
+            }
+            for row in more {
+                if let Some(one) = shown.get_mut(row) {
+                    *one = 0;
+                }
+            }
+        }
+        let mut row: usize = 0;
+        for one in shown.iter_mut() {
+            row = row.saturating_add(*one);
+            *one = row.saturating_sub(1);
+        }
+        Ok(Rows { wide, above, shown })
     }
+
+    /// How many rows the picture has.
+    fn count(&self) -> usize {
+        self.shown.last().map_or(1, |row| row.saturating_add(1))
+    }
+
+    /// Appends a run as lines.
+    fn put(&self, out: &mut Vec<u8>, run: &Run) -> Result<()> {
+        let wide = self.wide.max(1);
+        let at = run.at.saturating_sub(self.above);
+        let end = run.end.saturating_sub(self.above);
+        let mut before = usize::MAX;
+        for row in at / wide..end.div_ceil(wide) {
+            let begin = row.saturating_mul(wide);
+            let from = at.saturating_sub(begin);
+            let to = end.saturating_sub(begin).min(wide);
+            let y = self.shown.get(row).copied().unwrap_or(0);
+            if y != before {
+                put!(out; ("M", from), (" ", y), ("h", to.saturating_sub(from)));
+            }
+            before = y;
+        }
+        Ok(())
+    }
+}
+
+/// Appends a run as a link to its first line, with its kind, its addresses, how many bytes it has if more than one, and
+/// the label at its first address, which is among these names by their values.
+fn put_run(out: &mut Vec<u8>, survey: &Survey<'_, '_>, rows: &Rows, run: &Run) -> Result<()> {
+    let (at, end, kind) = (run.at, run.end, KINDS[run.kind as usize]);
+    put!(out; ("<a href=\"#l", run.line), "\" class=\"", kind, "\"><title>", kind, (" $", Address(at)));
+    let count = end.saturating_sub(at);
+    if 1 < count {
+        put!(out; (" to $", Address(end.saturating_sub(1))), (", ", count), " bytes");
+    }
+    let names = survey.by_value.as_slice();
+    let first = names.partition_point(|one| one.0 < at as u64);
+    let own = names.get(first..).unwrap_or(&[]).iter();
+    for (_, place) in own.take_while(|one| one.0 == at as u64) {
+        if let Some(label) = survey.names.get(*place)
+            && !label.definition.constant
+        {
+            put!(out; ": ", label.definition.name);
+            break;
+        }
+    }
+    put!(out; "</title><path d=\"");
+    rows.put(out, run)?;
+    put!(out; "\"/></a>");
     Ok(())
 }
 
-/// Appends the map: each run is a link to its first line, with its kind, its addresses, how many bytes it has if more
-/// than one, and the label at its first address. Up to 4 KiB are in rows of 64.
-pub fn put_map(out: &mut Vec<u8>, survey: &Survey<'_, '_>) -> Result<()> {
-    let begin = survey.runs.first().map_or(0, |run| run.at);
-    let end = survey.runs.last().map_or(0, |run| run.end);
-    let is_small = end.saturating_sub(begin) <= 4096;
-    let wide = if is_small { 64 } else { 256 };
-    let above = begin / wide * wide;
-    let count = (end.saturating_sub(above)).div_ceil(wide).max(1);
-    let height = count.saturating_mul((600 / count).clamp(2, 10));
-    put!(out; ("<svg width=\"", WIDTH), ("\" height=\"", height), ("\" viewBox=\"0 -.5 ", wide), (" ", count));
+/// Appends the map: each run is a link, unless it has less than a sixteenth of a row of 256.
+pub fn put_map(alloc: Global, out: &mut Vec<u8>, survey: &Survey<'_, '_>) -> Result<()> {
+    let rows = Rows::of(alloc, &survey.runs)?;
+    let count = rows.count();
+    let height = count.saturating_mul((600 / count.max(1)).clamp(2, 10));
+    let least = if rows.wide == 64 { 1 } else { 16 };
+    put!(out; ("<svg width=\"", WIDTH), ("\" height=\"", height), ("\" viewBox=\"0 -.5 ", rows.wide), (" ", count));
     put!(out; "\" preserveAspectRatio=\"none\" role=\"group\" aria-label=\"map\">\n");
-    let mut names = survey.by_value.as_slice();
+    let len_of = |run: &Run| run.end.saturating_sub(run.at);
+    for (place, kind) in KINDS.iter().enumerate() {
+        let mut has_some = false;
+        for run in &survey.runs {
+            if run.kind as usize == place && len_of(run) < least {
+                put!(out; if has_some { "" } else { "<path class=\"" });
+                if !has_some {
+                    put!(out; *kind, "\" d=\"");
+                }
+                has_some = true;
+                rows.put(out, run)?;
+            }
+        }
+        put!(out; if has_some { "\"/>\n" } else { "" });
+    }
     for run in &survey.runs {
-        let (at, end, kind) = (run.at, run.end, KINDS[run.kind as usize]);
-        put!(out; ("<a href=\"#l", run.line), "\" class=\"", kind, "\"><title>", kind, (" $", Address(at)));
-        let count = end.saturating_sub(at);
-        if 1 < count {
-            put!(out; (" to $", Address(end.saturating_sub(1))), (", ", count), " bytes");
+        if least <= len_of(run) {
+            put_run(out, survey, &rows, run)?;
         }
-        let value = at as u64;
-        let passed = names.iter().take_while(|one| one.definition.value < value);
-        names = names.get(passed.count()..).unwrap_or(&[]);
-        let mut same = names.iter().take_while(|one| one.definition.value == value);
-        if let Some(label) = same.find(|one| !one.definition.constant) {
-            put!(out; ": ", label.definition.name);
-        }
-        put!(out; "</title><path d=\"");
-        let (from, to) = (at.saturating_sub(above), end.saturating_sub(above));
-        put_rows(out, wide, from, to)?;
-        put!(out; "\"/></a>");
     }
     put!(out; "\n</svg>\n");
+    Ok(())
+}
+
+/// Appends the pages of 256 bytes, each a link to the first line that has bytes of it.
+pub fn put_pages(out: &mut Vec<u8>, survey: &Survey<'_, '_>) -> Result<()> {
+    let mut line = Line::before(survey.text, survey.start);
+    let mut next = usize::from(survey.start) / 256;
+    put!(out; "<p>Go to $");
+    for end in survey.ends {
+        line = line.next(end);
+        let after = if line.at < line.end {
+            line.end.div_ceil(256)
+        } else {
+            next
+        };
+        for _ in next..after {
+            put!(out; (" <a href=\"#l", line.number), "\">", Page(next), "</a>");
+            next = next.saturating_add(1);
+        }
+    }
+    put!(out; "; of $FC95 is <code>#aFC95</code> after the name of this page</p>\n");
     Ok(())
 }

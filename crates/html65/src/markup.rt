@@ -1,9 +1,8 @@
-//! What a page is written with: markup, texts of the listing, numbers, links, and references by their ways.
+//! What a page is written with: markup, texts of the listing, numbers and links.
 
-use crate::survey::Reference;
-use crate::way::{WAYS, Way};
 use files65::{put_address, put_decimal};
 use std::alloc::AllocError;
+use text65::hex_digit;
 
 /// Appends parts to a page, one after the other.
 macro_rules! put {
@@ -15,11 +14,8 @@ pub(crate) use put;
 /// What there is, unless an allocation is refused.
 pub type Result<T> = std::result::Result<T, AllocError>;
 
-/// How many references are shown; more are folded.
-const SHOWN: usize = 12;
-
 /// What stands before what folds open, and after it. How many of what there are stands between, before a `<b>`.
-pub const FOLD: &str = " <label><input type=\"checkbox\">";
+pub const FOLD: &str = "<label><input type=\"checkbox\">";
 
 pub const FOLD_END: &str = "</b></label>";
 
@@ -37,14 +33,18 @@ impl Put for &str {
     }
 }
 
-/// A text of the listing, with entities for `&`, `<` and `>`.
+/// A text of the listing, with entities for `&`, `<` and `>`, and for CR and NUL, which a browser would take for a line
+/// feed and for nothing.
 impl Put for &[u8] {
     fn put(self, out: &mut Vec<u8>) -> Result<()> {
-        for piece in self.split_inclusive(|byte: &u8| matches!(*byte, b'&' | b'<' | b'>')) {
+        let is_special = |byte: &u8| matches!(*byte, b'&' | b'<' | b'>' | b'\r' | 0);
+        for piece in self.split_inclusive(is_special) {
             let (text, entity) = match piece {
                 [text @ .., b'&'] => (text, "&amp;"),
                 [text @ .., b'<'] => (text, "&lt;"),
                 [text @ .., b'>'] => (text, "&gt;"),
+                [text @ .., b'\r'] => (text, "&#13;"),
+                [text @ .., 0] => (text, "&#0;"),
                 text => return out.extend_from_slice(text),
             };
             out.extend_from_slice(text)?;
@@ -73,6 +73,20 @@ impl Put for (&str, Address) {
     }
 }
 
+/// The number of 256 addresses in two hex digits.
+#[derive(Clone, Copy)]
+pub struct Page(pub usize);
+
+impl Put for Page {
+    fn put(self, out: &mut Vec<u8>) -> Result<()> {
+        let digits = [
+            hex_digit((self.0 / 16 % 16) as u8),
+            hex_digit((self.0 % 16) as u8),
+        ];
+        out.extend_from_slice(&digits)
+    }
+}
+
 /// What is a link to the line of a number.
 #[derive(Clone, Copy)]
 pub struct Link<P>(pub usize, pub P);
@@ -84,27 +98,15 @@ impl<P: Put + Drop> Put for Link<P> {
     }
 }
 
-/// Appends references by their ways; the one before them was of a way.
-fn put_some(out: &mut Vec<u8>, references: &[Reference], mut before: Option<Way>) -> Result<()> {
-    for reference in references {
-        if before != Some(reference.way) {
-            put!(out; if before.is_some() { "; " } else { "" }, WAYS[reference.way as usize]);
-        }
-        before = Some(reference.way);
-        put!(out; (" <a href=\"#l", reference.line), ("\">", Address(reference.at)), "</a>");
-    }
-    Ok(())
-}
+/// A text of the listing within quotes.
+#[derive(Clone, Copy)]
+pub struct Quoted<'t>(pub &'t [u8]);
 
-/// Appends references by their ways. What is more than a dozen is folded.
-pub fn put_references(out: &mut Vec<u8>, references: &[Reference]) -> Result<()> {
-    let shown = references.get(..SHOWN).unwrap_or(references);
-    put_some(out, shown, None)?;
-    let folded = references.get(SHOWN..).unwrap_or(&[]);
-    if !folded.is_empty() {
-        put!(out; (FOLD, folded.len()), " more<b>");
-        put_some(out, folded, shown.last().map(|reference| reference.way))?;
-        put!(out; FOLD_END);
+impl Put for Quoted<'_> {
+    fn put(self, out: &mut Vec<u8>) -> Result<()> {
+        for (place, part) in self.0.split(|byte: &u8| *byte == b'"').enumerate() {
+            put!(out; if 0 < place { "&quot;" } else { "" }, part);
+        }
+        Ok(())
     }
-    Ok(())
 }

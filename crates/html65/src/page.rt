@@ -3,17 +3,18 @@
 ghost use Rattle.std.specs.Prelude.{◌≡◌, IfErr, IfOk, Ok};
 ghost use Rattle.stmt65.specs.Words.{source_meaning};
 ghost use Rattle.html65.specs.Links.{AreLinksWhole};
+ghost use Rattle.html65.specs.Operands.{AreOperandsLed};
 ghost use Rattle.html65.specs.Page.{Reports};
 ghost use Rattle.html65.specs.PageText.{text_of};
 
-use crate::calls::put_calls;
+use crate::calls::put_routines;
 use crate::failure::{Failure, Refused};
 use crate::faults::{Fault, fault_in};
 use crate::head::put_head;
 use crate::listing::put_listing;
-use crate::map::put_map;
+use crate::map::{put_map, put_pages};
 use crate::survey::Survey;
-use crate::tables::{put_addresses, put_names};
+use crate::tables::{put_groups, put_lists};
 use files65::FileFault;
 use std::alloc::{AllocError, Global};
 use stmt65::{AsmFaultKind, Assembly, Source, assemble_lines};
@@ -34,14 +35,16 @@ fn assembled<'t, 'b>(
     }
 }
 
-/// A page with this survey, as it is hoped for. Few are more than eight times as long as their listing.
+/// A page with this survey, as it is hoped for. Few have more than a hundred bytes for each byte of the image.
 fn written(alloc: Global, name: &str, survey: &Survey<'_, '_>) -> Result<Vec<u8>, AllocError> {
-    let mut out = Vec::with_capacity(alloc, survey.text.len().saturating_mul(8))?;
+    let room = survey.bytes.len().saturating_mul(100);
+    let mut out = Vec::with_capacity(alloc, room.saturating_add(survey.text.len()))?;
     put_head(&mut out, name.as_bytes(), survey)?;
-    put_map(&mut out, survey)?;
-    put_names(&mut out, survey)?;
-    put_addresses(alloc, &mut out, survey)?;
-    put_calls(alloc, &mut out, survey)?;
+    put_pages(&mut out, survey)?;
+    put_map(alloc, &mut out, survey)?;
+    put_routines(alloc, &mut out, survey)?;
+    put_lists(&mut out, survey)?;
+    put_groups(&mut out, survey)?;
     out.extend_from_slice(b"</nav>\n")?;
     put_listing(alloc, &mut out, survey)?;
     out.extend_from_slice(b"</main>\n</body>\n</html>\n")?;
@@ -51,13 +54,16 @@ fn written(alloc: Global, name: &str, survey: &Survey<'_, '_>) -> Result<Vec<u8>
 /// Returns the page of the listing of this name. Fails with the first fault of the listing, and if it has no byte.
 ///
 /// Nothing is trusted for what the page promises: it is read back, and unless its text is the listing and each of its
-/// links leads to one element, there is none.
+/// links leads where it should, there is none.
 pub fn page_of(alloc: Global, name: &str, source: &Source<'_, '_, '_>) -> Result<Vec<u8>, Failure>
     /// If there is a page, its text is exactly the listing: the text in `<pre id="listing">` without tags and
-    /// without the elements `<i>`, with `&amp;`, `&lt;` and `&gt;` resolved.
+    /// without the elements `<i>`, with `&amp;`, `&lt;`, `&gt;`, `&#13;` and `&#0;` resolved.
     ensures text { IfOk result (λ page. text_of page.items ≡ source.now.text.now) }
     /// Each link within the page, an attribute `href` that begins with `#`, is the `id` of exactly one element.
     ensures links { IfOk result (λ page. AreLinksWhole page.items) }
+    /// Each link of an operand leads to the element of the line that defines the name there, or to the row of the
+    /// address: one whose id is `r` and the address.
+    ensures operands { IfOk result (λ page. AreOperandsLed page.items) }
     /// If a line of the listing is reported, it is the line of the first fault, with the name of the listing.
     ensures fault { IfErr result (Reports name.now source.now) }
 {

@@ -80,13 +80,13 @@ fn put_numbers(out: &mut Vec<u8>, numbers: &[usize]) -> Result<()> {
     Ok(())
 }
 
-/// Appends bytes as pictures.
+/// Appends bytes as pictures. A pixel is shown two wide and two high.
 pub fn put_pictures(alloc: Global, out: &mut Vec<u8>, bytes: &[u8]) -> Result<()> {
     for layout in LAYOUTS {
         let (wide, high) = layout.size(bytes.len());
         let text = STANDARD.encode(alloc, &layout.bitmap(alloc, bytes)?)?;
-        put!(out; "<img src=\"data:image/bmp;base64,", text.as_str(), ("\" width=\"", wide.saturating_mul(8)));
-        put!(out; ("\" height=\"", high), "\" alt=\"", layout.4, "\" title=\"", layout.4, "\"> ");
+        put!(out; "<img src=\"data:image/bmp;base64,", text.as_str(), ("\" width=\"", wide.saturating_mul(16)));
+        put!(out; ("\" height=\"", high.saturating_mul(2)), "\" alt=\"", layout.4, "\" title=\"", layout.4, "\"> ");
     }
     Ok(())
 }

@@ -71,6 +71,12 @@ fn entity_at(bytes: &[u8]) -> (&'static [u8], usize)
     if bytes.starts_with(b"&gt;") {
         return (b">", 4);
     }
+    if bytes.starts_with(b"&#13;") {
+        return (b"\r", 5);
+    }
+    if bytes.starts_with(b"&#0;") {
+        return (b"\0", 4);
+    }
     (b"&", 1)
 }
 

@@ -29,13 +29,13 @@ pub struct Showing {
 /// What the words ask for. The first word is the program's name.
 ///
 /// Each option and the name of the listing may be given once. Help comes first, then the version, both
-/// before any value is read. The output may not have the name of an input, nor may standard input be both
-/// the listing and the information file.
+/// before any value is read. Standard input may not be both the listing and the information file, nor may the
+/// output have the name of an input.
 #[tactic(auto, using(crate::proofs::CommandLemmas::app_is_plain))]
 pub fn request_of(alloc: Global, words: &[String]) -> Result<Request<Showing>, RequestFault>
     /// For all words the request is that of the definition. It says which options there are, and takes help and
-    /// version before the start and the byte of `--fill`. It refuses standard input given
-    /// twice, and then an output with the name of an input. The first refusal in this order counts; or out of memory.
+    /// version before the start, and the start before the byte of `--fill`. It refuses standard input given twice,
+    /// and an output with the name of an input. The first refusal in this order counts; or out of memory.
     ensures { Gives (asked_of shown_of) result
         (asked this_program shown_in (map string_bytes words.now)) }
 {

@@ -1,48 +1,48 @@
-//! The tables of a page: all names, and the addresses that have none.
+//! The lists of a page: names, and addresses that operands have as numbers, with who refers to them.
 
-use crate::markup::{Address, FOLD, FOLD_END, Link, Put, Result, put, put_references};
-use crate::survey::{Reference, Survey};
-use crate::way::WAYS;
-use std::alloc::Global;
+ghost use Rattle.std.specs.Prelude.{◌<◌};
+
+use crate::markup::{Address, Link, Put, Quoted, Result, put};
+use crate::survey::{Named, Reference, Survey};
+use crate::uses::{SHOWN, put_uses};
+use crate::way::Way;
 
 /// What stands after the title of a table and how many rows it has, and at its end.
 pub const TABLE: &str = ")</summary><table>\n";
 
 pub const TABLE_END: &str = "</table></details>\n";
 
-/// Appends how many references there are, by their ways.
-fn put_counts(out: &mut Vec<u8>, references: &[Reference]) -> Result<()> {
-    if references.is_empty() {
-        put!(out; "<em>none</em>");
+/// The columns of counts: reads, writes, changes, pointers, jumps with calls and branches, and data.
+const COLUMNS: [&str; 6] = ["r", "w", "c", "p", "j", "d"];
+
+/// The column in which a way is counted.
+fn column_of(way: Way) -> usize
+    ensures { result < 6 }
+{
+    match way {
+        Way::Read => 0,
+        Way::Write => 1,
+        Way::Change => 2,
+        Way::Pointer => 3,
+        Way::Call | Way::Jump | Way::Branch => 4,
+        Way::Table | Way::Half | Way::Value => 5,
     }
-    let groups = references.chunk_by(|one, other| one.way == other.way);
-    for (place, group) in groups.enumerate() {
-        if let Some(first) = group.first() {
-            put!(out; (if 0 < place { ", " } else { "" }, group.len()), " ", WAYS[first.way as usize]);
-        }
-    }
-    Ok(())
 }
 
-/// Appends all names, by their values.
-pub fn put_names(out: &mut Vec<u8>, survey: &Survey<'_, '_>) -> Result<()> {
-    put!(out; ("<details open><summary>Names (", survey.names.len()), TABLE);
-    for named in &survey.by_value {
-        let value = named.definition.value as usize;
-        put!(out; "<tr><td>", Link(named.line, named.definition.name));
-        if value < 65_536 {
-            put!(out; ("<td>$", Address(value)));
-        } else {
-            put!(out; ("<td>", value));
-        }
-        put!(out; "<td>");
-        put_counts(out, survey.to_name(named.place))?;
-        if !named.comment.is_empty() {
-            put!(out; "<td>", named.comment);
-        }
-        put!(out; "\n");
+/// Appends how many references there are, in their columns.
+fn put_counts(out: &mut Vec<u8>, uses: &[Reference]) -> Result<()> {
+    let mut counts: [usize; 6] = [0; 6];
+    for one in uses {
+        let column = column_of(one.way);
+        counts[column] = counts[column].saturating_add(1);
     }
-    put!(out; TABLE_END);
+    for (name, count) in COLUMNS.iter().zip(counts) {
+        if 0 < count {
+            put!(out; "<td>", (*name, count));
+        } else {
+            put!(out; "<td>");
+        }
+    }
     Ok(())
 }
 
@@ -52,27 +52,136 @@ fn put_group(out: &mut Vec<u8>, address: usize) -> Result<()> {
     Ok(())
 }
 
-/// Appends the addresses that operands have as numbers, with who refers to them and the groups that name them.
-pub fn put_addresses(alloc: Global, out: &mut Vec<u8>, survey: &Survey<'_, '_>) -> Result<()> {
+/// Appends the row of an address that operands have as a number, and below it who refers to it.
+fn put_address(out: &mut Vec<u8>, survey: &Survey<'_, '_>, uses: &[Reference]) -> Result<()> {
+    let address = uses.first().map_or(0, |one| one.to);
+    put!(out; ("<tr id=\"r", Address(address)), ("\"><td><a href=\"#r", Address(address)));
+    put!(out; ("\">$", Address(address)), "</a><td>");
+    put_counts(out, uses)?;
+    put!(out; "\n<tr class=\"u\"><td colspan=\"9\">");
+    put_uses(out, survey, uses)?;
+    put!(out; " <code>");
+    put_group(out, address)?;
+    put!(out; "</code>\n");
+    Ok(())
+}
+
+/// Appends what stands before the name in its row. The row may have an id by the value.
+fn put_value(out: &mut Vec<u8>, value: usize, has_id: bool) -> Result<()> {
+    if has_id {
+        put!(out; ("<tr id=\"r", Address(value)), ("\"><td>$", Address(value)));
+        return Ok(());
+    }
+    put!(out; ("<tr><td>$", Address(value)));
+    Ok(())
+}
+
+/// Appends a comment, which is cut if the column is too narrow.
+fn put_comment(out: &mut Vec<u8>, comment: &[u8]) -> Result<()> {
+    if !comment.is_empty() {
+        put!(out; "<td class=\"k\" title=\"", Quoted(comment), "\">", comment);
+    }
+    Ok(())
+}
+
+/// Appends how many refer to a name, in their columns.
+fn put_name_counts(out: &mut Vec<u8>, uses: &[Reference]) -> Result<()> {
+    if uses.is_empty() {
+        put!(out; "<td colspan=\"6\"><em>none</em>");
+        return Ok(());
+    }
+    put_counts(out, uses)
+}
+
+/// Appends who refers to a name, if these are too many for the line above its own.
+fn put_all_uses(out: &mut Vec<u8>, survey: &Survey<'_, '_>, uses: &[Reference]) -> Result<()> {
+    if SHOWN < uses.len() {
+        put!(out; "<tr class=\"u\"><td colspan=\"9\">");
+        put_uses(out, survey, uses)?;
+        put!(out; "\n");
+    }
+    Ok(())
+}
+
+/// Appends the row of a name, and below it who refers to it.
+fn put_name(
+    out: &mut Vec<u8>,
+    survey: &Survey<'_, '_>,
+    named: &Named<'_>,
+    has_id: bool,
+) -> Result<()> {
+    let uses = survey.to_name(named.place);
+    put_value(out, named.definition.value as usize, has_id)?;
+    put!(out; "<td>", Link(named.line, named.definition.name));
+    put_name_counts(out, uses)?;
+    put_comment(out, named.comment)?;
+    put!(out; "\n");
+    put_all_uses(out, survey, uses)
+}
+
+/// Appends the names and addresses from a value to before another one, if there are any. Of those of one value the
+/// first row has the id.
+fn put_part(
+    out: &mut Vec<u8>,
+    survey: &Survey<'_, '_>,
+    title: &str,
+    (from, end): (u64, u64),
+) -> Result<()> {
+    let all = survey.to_addresses.as_slice();
+    let begin = all.partition_point(|one| (one.to as u64) < from);
+    let stop = all.partition_point(|one| (one.to as u64) < end);
+    let mut numbers = all.get(begin..stop).unwrap_or(&[]);
+    let begin = survey.by_value.partition_point(|one| one.0 < from);
+    let stop = survey.by_value.partition_point(|one| one.0 < end);
+    let mut names = survey.by_value.get(begin..stop).unwrap_or(&[]);
+    let count = numbers.chunk_by(|one, other| one.to == other.to).count();
+    let count = count.saturating_add(names.len());
+    if count == 0 {
+        return Ok(());
+    }
+    put!(out; "<details open><summary>", title, (" (", count), TABLE);
+    let mut last = u64::MAX;
+    for _ in 0..count {
+        let number = numbers.first().map_or(u64::MAX, |one| one.to as u64);
+        let value = names.first().map_or(u64::MAX, |one| one.0);
+        if number <= value {
+            let own = numbers.iter().take_while(|one| one.to as u64 == number);
+            let own = own.count();
+            put_address(out, survey, numbers.get(..own).unwrap_or(&[]))?;
+            numbers = numbers.get(own..).unwrap_or(&[]);
+        } else if let [(_, place), rest @ ..] = names {
+            if let Some(named) = survey.names.get(*place) {
+                put_name(out, survey, named, last != value)?;
+            }
+            names = rest;
+        }
+        last = number.min(value);
+    }
+    put!(out; TABLE_END);
+    Ok(())
+}
+
+/// Appends the lists: what is before the image, in it, and after it.
+pub fn put_lists(out: &mut Vec<u8>, survey: &Survey<'_, '_>) -> Result<()> {
+    let from = u64::from(survey.start);
+    let end = from.saturating_add(survey.bytes.len() as u64);
+    put_part(out, survey, "Before the image", (0, from))?;
+    put_part(out, survey, "In the image", (from, end))?;
+    put_part(out, survey, "After the image", (end, u64::MAX))
+}
+
+/// Appends the groups that name the addresses without a name.
+pub fn put_groups(out: &mut Vec<u8>, survey: &Survey<'_, '_>) -> Result<()> {
     let all = survey.to_addresses.as_slice();
     let count = all.chunk_by(|one, other| one.to == other.to).count();
     if count == 0 {
         return Ok(());
     }
-    let mut groups = Vec::new(alloc);
-    put!(out; ("<details open><summary>Addresses without a name (", count), TABLE);
-    for references in all.chunk_by(|one, other| one.to == other.to) {
-        let address = references.first().map_or(0, |one| one.to);
-        put!(out; ("<tr><td>$", Address(address)), "<td>");
-        put_references(out, references)?;
-        put!(out; " <code>");
-        put_group(out, address)?;
-        put!(out; "</code>\n");
-        put!(&mut groups; "<br>");
-        put_group(&mut groups, address)?;
+    put!(out; ("<details><summary>Groups to copy (", count), ")</summary><code>");
+    for uses in all.chunk_by(|one, other| one.to == other.to) {
+        put_group(out, uses.first().map_or(0, |one| one.to))?;
+        put!(out; "\n");
     }
-    put!(out; "<tr><td colspan=\"2\">", (FOLD, count), " groups to copy<b>");
-    out.extend_from_slice(&groups)?;
-    put!(out; FOLD_END, TABLE_END);
+    put!(out; "</code></details>\n");
     Ok(())
 }

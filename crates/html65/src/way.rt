@@ -23,9 +23,18 @@ pub enum Way {
     Value,
 }
 
-/// What a page calls each way, in their order.
+/// What a page says of those who refer to something, by the ways in their order.
 pub const WAYS: [&str; 10] = [
-    "call", "jump", "branch", "read", "write", "change", "pointer", "table", "half", "value",
+    "called by",
+    "jumped to by",
+    "branched to by",
+    "read by",
+    "written by",
+    "changed by",
+    "pointer of",
+    "in the table at",
+    "half in",
+    "value in",
 ];
 
 /// The first four letters of a mnemonic or a directive, in small letters. A blank stands after three.
@@ -38,6 +47,14 @@ pub fn operation_of(text: &[u8]) -> Word {
         *to = from.to_ascii_lowercase();
     }
     word
+}
+
+/// Whether code goes on with the next instruction after one of a mnemonic.
+pub fn goes_on(word: Word) -> bool {
+    !matches!(
+        &word,
+        b"jmp " | b"bra " | b"rts " | b"rti " | b"brk " | b"stp "
+    )
 }
 
 impl Way {
@@ -64,6 +81,8 @@ impl Way {
 #[derive(Clone, Copy)]
 pub struct Signs {
     is_data: bool,
+    /// Whether it is data, and each number an address.
+    is_addresses: bool,
     first: Way,
     /// How a name or a number that comes next is referred to.
     pub way: Way,
@@ -77,6 +96,7 @@ impl Signs {
         let way = Way::of(word);
         Signs {
             is_data: word[0] == b'.',
+            is_addresses: matches!(&word, b".add"),
             first: way,
             way,
             is_added: false,
@@ -85,7 +105,8 @@ impl Signs {
 
     /// Whether a number that comes next is an address of memory.
     pub fn is_address(self) -> bool {
-        !(self.is_data || self.is_added || matches!(self.way, Way::Half | Way::Value))
+        let is_operand = !self.is_data || self.is_addresses;
+        is_operand && !self.is_added && !matches!(self.way, Way::Half | Way::Value)
     }
 
     /// Reads a sign. A second operand of an instruction is where it branches to.

@@ -1,0 +1,167 @@
+//! The ids of a page: that they differ, and where the one of a link is.
+
+ghost use Rattle.std.specs.Prelude.{◌≡◌, ◌∷◌, ◌<◌, ◌+◌, [], IfOk, IsSome, IsTrue, true};
+ghost use Rattle.std.specs.List.{list_all};
+ghost use Rattle.std.specs.Char.{digit_value};
+ghost use Rattle.html65.specs.Links.{are_ascending, is_found, kind_of, number_in, texts, with_digit};
+
+use std::alloc::{AllocError, Global};
+
+/// The most that the number of an id may be for it to be found again.
+const MOST: usize = 4_194_304;
+
+/// Where ids are, by their kinds and numbers. Nothing of it is trusted: whoever asks looks whether the id is there.
+#[derive(Drop)]
+pub struct Index {
+    lines: Vec<Place>,
+    rows: Vec<Place>,
+}
+
+/// The place of an id among all, and among those of its kind.
+#[derive(Clone, Copy)]
+pub struct Place {
+    pub among_all: u32,
+    pub of_kind: u32,
+}
+
+/// That of no id.
+const NOWHERE: Place = Place {
+    among_all: u32::MAX,
+    of_kind: u32::MAX,
+};
+
+impl Index {
+    pub fn new(alloc: Global) -> Index {
+        Index {
+            lines: Vec::new(alloc),
+            rows: Vec::new(alloc),
+        }
+    }
+
+    /// Takes down the next id of a kind, which has a number.
+    fn note(&mut self, kind: usize, number: u32, among_all: usize) -> Result<(), AllocError> {
+        let ids = match kind {
+            0 => &mut self.lines,
+            2 => &mut self.rows,
+            _ => return Ok(()),
+        };
+        let number = number as usize;
+        if MOST < number {
+            return Ok(());
+        }
+        let among_all = among_all.min(0xFFFF_FFFF) as u32;
+        let of_kind = ids.last().map_or(0, |last| last.of_kind.saturating_add(1));
+        if ids.len() < number {
+            ids.resize(
+                number,
+                Place {
+                    of_kind: of_kind.saturating_sub(1),
+                    ..NOWHERE
+                },
+            )?;
+        }
+        ids.push(Place { among_all, of_kind })?;
+        Ok(())
+    }
+
+    /// Where an id should be.
+    pub fn place_of(&self, id: &[u8]) -> Place {
+        let ids = if kind_of(id) == 0 {
+            &self.lines
+        } else {
+            &self.rows
+        };
+        ids.get(number_in(id) as usize).copied().unwrap_or(NOWHERE)
+    }
+}
+
+/// The kind of an id, by its first byte.
+pub fn kind_of(id: &[u8]) -> usize
+    ensures value { result ≡ kind_of id.now }
+    ensures four { result < 4 }
+{
+    if id.is_empty() {
+        return 0;
+    }
+    usize::from(id[0] % 4)
+}
+
+fn digit_of(byte: u8) -> u8
+    ensures { result ≡ digit_value byte }
+{
+    match byte {
+        b'0'..=b'9' => byte - b'0',
+        b'A'..=b'Z' => byte - b'A' + 10,
+        b'a'..=b'z' => byte - b'a' + 10,
+        _ => 36,
+    }
+}
+
+fn with_digit(radix: u32, number: u32, byte: u8) -> u32
+    ensures { result ≡ with_digit radix number byte }
+{
+    if byte.is_ascii_hexdigit() {
+        let digit = u32::from(digit_of(byte));
+        return number.wrapping_mul(radix).wrapping_add(digit);
+    }
+    number
+}
+
+/// The number that the digits of an id make.
+#[tactic(auto, using(std::proofs::lemmas::List::Sums::fold_more), unfolding(crate::specs::Links::number_in))]
+pub fn number_in(id: &[u8]) -> u32
+    ensures { result ≡ number_in id.now }
+{
+    let radix = if kind_of(id) == 0 { 10 } else { 16 };
+    let digits = if id.is_empty() { id } else { &id[1..] };
+    let mut number = 0;
+    'bytes: for byte in digits {
+        number = with_digit(radix, number, *byte);
+    }
+    number
+}
+
+/// Where the ids are, if the numbers of each kind ascend, so that they differ.
+#[tactic(auto, unfolding(crate::specs::Links::are_ascending))]
+pub fn index_of(alloc: Global, ids: &[&[u8]]) -> Result<Option<Index>, AllocError>
+    ensures { IfOk result (λ found. IsSome found
+        → are_ascending (0 ∷ 0 ∷ 0 ∷ 0 ∷ []) (texts ids.now) ≡ true) }
+{
+    let mut index = Index::new(alloc);
+    let mut least: [usize; 4] = [0; 4];
+    let mut rest = ids;
+    'ids: while let [id, after @ ..] = rest {
+        let kind = kind_of(id);
+        let number = number_in(id);
+        if (number as usize) < least[kind] {
+            return Ok(None);
+        }
+        least[kind] = number as usize + 1;
+        index.note(kind, number, ids.len().saturating_sub(rest.len()))?;
+        rest = after;
+    }
+    Ok(Some(index))
+}
+
+/// Whether the id that should be the target is it.
+#[tactic(auto, using(crate::proofs::LinkLemmas::one_is_found))]
+fn is_found(ids: &[&[u8]], index: &Index, target: &[u8]) -> bool
+    requires { are_ascending (0 ∷ 0 ∷ 0 ∷ 0 ∷ []) (texts ids.now) ≡ true }
+    ensures { IsTrue result → IsTrue (is_found (texts ids.now) target.now) }
+{
+    let place = index.place_of(target).among_all as usize;
+    place < ids.len() && ids[place] == target
+}
+
+/// Whether each target is found among the ids.
+pub fn are_found(ids: &[&[u8]], index: &Index, targets: &[&[u8]]) -> bool
+    requires { are_ascending (0 ∷ 0 ∷ 0 ∷ 0 ∷ []) (texts ids.now) ≡ true }
+    ensures { IsTrue result → IsTrue (list_all (is_found (texts ids.now)) (texts targets.now)) }
+{
+    'targets: for target in targets {
+        if !is_found(ids, index, target) {
+            return false;
+        }
+    }
+    true
+}

@@ -1,0 +1,96 @@
+//! Who refers to a name or an address: in which way, and in which routine.
+
+use crate::markup::{Address, Put, Result, put};
+use crate::survey::{Named, Reference, Survey};
+use crate::way::{WAYS, Way};
+
+/// How many references stand above the line of a name.
+pub const SHOWN: usize = 10;
+
+/// Appends a line that refers to something, as a link, and the routine to which it belongs.
+fn put_line(out: &mut Vec<u8>, survey: &Survey<'_, '_>, one: &Reference) -> Result<()> {
+    put!(out; ("<a href=\"#l", one.line), ("\">", Address(one.at)), "</a>");
+    if let Some(routine) = survey.routine_of(one) {
+        put!(out; " ", routine.definition.name);
+    }
+    Ok(())
+}
+
+/// Appends the references of one way, the nearest to a line first, and at most so many. Returns how many more there
+/// may be.
+fn put_nearest(
+    out: &mut Vec<u8>,
+    survey: &Survey<'_, '_>,
+    (uses, line): (&[Reference], usize),
+    most: usize,
+) -> Result<usize> {
+    let mut before = uses.partition_point(|one| one.line < line);
+    let mut after = before;
+    let count = uses.len().min(most);
+    for place in 0..count {
+        let above = uses.get(before.wrapping_sub(1));
+        let below = uses.get(after);
+        let is_above = match (above, below) {
+            (Some(above), Some(below)) => line.saturating_sub(above.line)
+                <= below.line.saturating_sub(line),
+            (above, _) => above.is_some(),
+        };
+        if is_above {
+            before = before.wrapping_sub(1);
+        } else {
+            after = after.wrapping_add(1);
+        }
+        if let Some(one) = if is_above { above } else { below } {
+            put!(out; if 0 < place { ", " } else { " " });
+            put_line(out, survey, one)?;
+        }
+    }
+    Ok(most.saturating_sub(count))
+}
+
+/// Appends who refers to a name, as a line above its own: by the ways, and of each the nearest first. If there are more
+/// than that, a link leads to the row that has all.
+pub fn put_references(out: &mut Vec<u8>, survey: &Survey<'_, '_>, named: &Named<'_>) -> Result<()> {
+    let uses = survey.to_name(named.place);
+    if uses.is_empty() {
+        return Ok(());
+    }
+    put!(out; "<i class=\"r\">");
+    let mut left = SHOWN;
+    for group in uses.chunk_by(|one, other| one.way == other.way) {
+        let Some(first) = group.first() else { break };
+        if left == 0 {
+            break;
+        }
+        put!(out; if left < SHOWN { "; " } else { "" }, WAYS[first.way as usize]);
+        left = put_nearest(out, survey, (group, named.line), left)?;
+    }
+    let more = uses.len().saturating_sub(SHOWN);
+    if 0 < more {
+        let row = named.definition.value as usize;
+        put!(out; ("; <a href=\"#r", Address(row)), ("\">", more), " more</a>");
+    }
+    put!(out; "\n</i>");
+    Ok(())
+}
+
+/// Appends all who refer to something: by the ways, and of each by the routines.
+pub fn put_uses(out: &mut Vec<u8>, survey: &Survey<'_, '_>, uses: &[Reference]) -> Result<()> {
+    let mut before: Option<(Way, usize)> = None;
+    for one in uses {
+        let is_same_way = before.is_some_and(|(way, _)| way == one.way);
+        let is_same = before == Some((one.way, one.routine));
+        if !is_same_way {
+            put!(out; if before.is_some() { "; " } else { "" }, WAYS[one.way as usize]);
+        }
+        if !is_same {
+            put!(out; if is_same_way { "," } else { "" });
+            if let Some(routine) = survey.routine_of(one) {
+                put!(out; " ", routine.definition.name);
+            }
+        }
+        before = Some((one.way, one.routine));
+        put!(out; (" <a href=\"#l", one.line), ("\">", Address(one.at)), "</a>");
+    }
+    Ok(())
+}
