@@ -1,7 +1,7 @@
 """Counts instructions by valgrind's callgrind: of da65 beside cc65's da65 on the same bytes, as65 beside ca65 and ld65,
 name65 and html65 beside as65, trace65 and move65 alone; and seconds of move65. A row has the figure of docs/GATE.md,
-and fails if it is a twentieth above that. Twice as much takes at most 2.3 times the instructions. The end of the run
-has the figures."""
+and fails if it is a twentieth above that. Twice as much takes at most 2.3 times the instructions, or as
+many times as a row says. The end of the run has the figures."""
 import bisect, functools, itertools, random, re
 import pytest
 from conftest import ROOT, Program, read, same, tables, write
@@ -278,8 +278,8 @@ def test_move65_takes(move65, record_property, request, seconds, what):
     assert taken <= seconds, f"{taken} seconds of move65"
 
 
-def test_trace65(trace65, record_property, request, limit, data, groups_, kind):
-    """The whole takes at most 2.3 times what its first half takes, or half of the groups."""
+def test_trace65(trace65, record_property, request, limit, data, groups_, kind, times):
+    """The whole takes at most so many times what its first half takes, or half of the groups."""
     def count(image, number):
         info = "#: INLINE { ADDR $FFFF; };\n" if number == 1 else groups(kind or "inlines", number)
         words = f"-i {write('a.info', info)} " if number else ""
@@ -290,4 +290,4 @@ def test_trace65(trace65, record_property, request, limit, data, groups_, kind):
     record_property("shown", f"trace65: {request.node.callspec.id:35} {whole:12}")
     assert whole <= 1000000 * limit, f"{whole} instructions of trace65, more than {limit} million"
     if len(image) > 1 and number != 1:
-        assert whole <= 2.3 * (count(image, number // 2) if number else count(image[:len(image) // 2], 0))
+        assert whole <= (times or 2.3) * (count(image, number // 2) if number else count(image[:len(image) // 2], 0))
