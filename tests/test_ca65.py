@@ -327,6 +327,49 @@ def test_texts(as65, text):
     assert agreed >= 25
 
 
+# The operations of each CPU and their operands: those of the 6502, what the 65SC02 has more, and what the 65C02; wai
+# and stp are not of the 65C02 of da65.
+OPERATIONS = {"6502": """\
+adc and cmp eor lda ora sbc = #$12 $12 $12,x $1234 $1234,x $1234,y ($12,x) ($12),y
+sta = $12 $12,x $1234 $1234,x $1234,y ($12,x) ($12),y
+asl lsr rol ror = a $12 $12,x $1234 $1234,x
+inc dec = $12 $12,x $1234 $1234,x
+ldx = #$12 $12 $12,y $1234 $1234,y
+ldy = #$12 $12 $12,x $1234 $1234,x
+stx = $12 $12,y $1234
+sty = $12 $12,x $1234
+cpx cpy = #$12 $12 $1234
+bit = $12 $1234
+jmp = $1234 ($1234)
+jsr = $1234
+bcc bcs beq bmi bne bpl bvc bvs = here
+brk clc cld cli clv dex dey inx iny nop pha php pla plp rti rts sec sed sei tax tay tsx txa txs tya = .
+""", "65SC02": """\
+adc and cmp eor lda ora sbc sta = ($12)
+inc dec = a
+bit = #$12 $12,x $1234,x
+jmp = ($1234,x)
+bra = here
+stz = $12 $12,x $1234 $1234,x
+trb tsb = $12 $1234
+phx phy plx ply = .
+""", "65C02": """\
+bbr0 bbr1 bbr2 bbr3 bbr4 bbr5 bbr6 bbr7 bbs0 bbs1 bbs2 bbs3 bbs4 bbs5 bbs6 bbs7 = $12,here
+rmb0 rmb1 rmb2 rmb3 rmb4 rmb5 rmb6 rmb7 smb0 smb1 smb2 smb3 smb4 smb5 smb6 smb7 = $12
+"""}
+
+
+@pytest.mark.parametrize("cpu, count", zip(CPUS, (151, 178, 210)))
+def test_each_operation(as65, cpu, count):
+    """Each opcode of a CPU once. Branches lead to themselves."""
+    rows = [row.split(" = ") for more in CPUS[:CPUS.index(cpu) + 1] for row in OPERATIONS[more].splitlines()]
+    found = [f"{word} {operand.strip('.')}" for words, operands in rows for word in words.split()
+             for operand in operands.split()]
+    assert len(set(found)) == len(found) == count
+    lines = [f"w{k}: " + text.replace("here", f"w{k}") for k, text in enumerate(found)]
+    assert judged(as65, [f'.setcpu "{cpu}"', *lines], 0x1000) == (True, None)
+
+
 def test_segments_at_their_place(as65):
     text = ('start: lda #<last\n ldx #last-start\nlast:\n.segment "TABLES"\nthere: .addr start,there,last\n .res 3\n'
             '.segment "VECTORS"\nend: .word end-there,end,start\n')

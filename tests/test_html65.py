@@ -238,6 +238,11 @@ def test_lists(page_of):
     assert rows_of(page, "Routines") == [
         "$1000|$1014|21|start", "calls print", "$1015|$101C|8|print", "calls out called by start"]
     assert f"Groups to copy (1)</summary><code>{group}\n</code>" in page.decode()
+    links, titles = r'<a href="#(s\d)">(.*?)</a>', r'<details open id="(s\d)"><summary>(.*?) \('
+    assert re.findall(links, page.decode()) == [("s0", "Routines"), ("s1", "before"), ("s2", "in"), ("s3", "after")]
+    assert re.findall(titles, page.decode()) == [
+        ("s0", "Routines"), ("s1", "Before the image"), ("s2", "In the image"), ("s3", "After the image")]
+    assert rows_of(page_of("L: nop\n"), "After the image") == ["none"]
     assert rows_of(page_of("L: nop\nM: jmp L\n"), "In the image") == ["$1000|L|||||j1", "$1001|M|none"]
     inside = page_of("start: jsr in\n rts\nin := *+1\n bit $01A9\n rts\n")
     assert rows_of(inside, "Routines") == ["$1000|$1004|5|start", "calls in", "$1005|$1007|3|in", " called by start"]

@@ -89,6 +89,20 @@ def test_the_listing_is_edited(repair):
     holds("sum.info", GLOBAL + TABLE)
 
 
+@pytest.mark.ca65
+def test_what_is_repaired_runs(repair):
+    """A program that ends with the sum of a table: once with the table as it was, and once with a byte more in it,
+    behind code that was put in."""
+    head, start = b"sim65\x02\x00\x00", b"\x00\x20"
+    write("sum.bin", bytes.fromhex("D8 A9 16 85 20 A9 20 85 21 A0 02 A9 00 18 71 20 88 10 FB 4C F9 FF 01 02 03"))
+    repair("IMAGE=sum.bin START=0x2000 moves")
+    Program("sim65")(write("sum.prg", head + start + start + read("sum.out")), 6)
+    edit("sum.s", "#$02", "#$03\n        nop")
+    edit("sum.s", "$01,$02,$03", "$01,$02,$03,$04")
+    repair()
+    Program("sim65")(write("sum.prg", head + start + start + read("sum.out")), 10)
+
+
 def test_what_move65_finds(repair):
     """Rounds add it to the information file, until there is nothing new."""
     write("sum.info", GLOBAL + TABLE)

@@ -1,6 +1,6 @@
-"""Counts instructions by valgrind's callgrind: of da65 beside cc65's da65 on the same bytes, as65 beside ca65 and ld65,
-name65 and html65 beside as65, trace65 and move65 alone; and seconds of move65. A row has the figure of docs/GATE.md,
-and fails if it is a twentieth above that. Twice as much takes at most 2.3 times the instructions, or as
+"""Counts instructions by valgrind's callgrind: of da65 beside cc65's da65 on the same bytes, as65, name65 and html65
+beside ca65 and ld65 on the same listing, trace65 and move65 alone; and seconds of move65. A row has the figure of
+docs/GATE.md, and fails if it is a twentieth above that. Twice as much takes at most 2.3 times the instructions, or as
 many times as a row says. The end of the run has the figures."""
 import bisect, functools, itertools, random, re
 import pytest
@@ -187,6 +187,8 @@ def files(what, kind, count):
         "sharing": lambda: {"s": f"; {'':<{1 << 22}}\n nop\n" + "".join(
             f"{name} := 0\n" for name in sharing(count, 0x9E3779B97F4A7C15, 0x9E3779B97F4A7C15, 1 << 50, 1 << 32))},
         "lines": lambda: {"s": count * " .byte 0,1\n", "bin": bytes(2 * count)},
+        "moved": lambda: {"s": " nop\n" + "".join(f"L{2 * n:04X}: nop\n nop\n" for n in numbers),
+                          "bin": 2 * count * b"\xea"},
         "used": lambda: {"s": "".join(f"n{n}: lda n{n * 7919 % count}\n" for n in numbers)},
         "values": lambda: {"s": "".join(f"n{n} := 4\n" for n in numbers) + "".join(
             f" .byte n{n * 7919 % count}\n" for n in numbers)},
@@ -215,29 +217,33 @@ def test_pace(request, tool, count, words, files_, kind, status):
     assert taken[1] <= 2.3 * taken[0], taken
 
 
+def ca65_and_ld65():
+    """How many instructions both take for the listing `a.s`."""
+    write("flat.cfg", "MEMORY { MAIN: start = 0, size = $10000, file = %O; } SEGMENTS { CODE: load = MAIN; }")
+    words = "--relax-checks -o a.o a.s", "-C flat.cfg -o theirs.bin a.o"
+    return sum(map(instructions, ("ca65", "ld65"), words))
+
+
 def test_as65(as65, shows, text, limit, name):
     write("a.s", text(name))
-    write("flat.cfg", "MEMORY { MAIN: start = 0, size = $10000, file = %O; } SEGMENTS { CODE: load = MAIN; }")
-    ours = instructions(as65.path, "-S 0 -o ours.bin a.s")
-    theirs = instructions("ca65", "--relax-checks -o a.o a.s") + instructions("ld65", "-C flat.cfg -o theirs.bin a.o")
+    ours, theirs = instructions(as65.path, "-S 0 -o ours.bin a.s"), ca65_and_ld65()
     same(read("theirs.bin"), read("ours.bin"), "as65 and ld65 write other bytes")
     shows(limit, ours, theirs)
 
 
-def test_name65(as65, name65, shows, text, limit, name, words, step):
+def test_name65(name65, shows, text, limit, name, words, step):
     write("a.s", text(name))
     pairs = [f"#: HALVES {{ LOW ${4 * n + 1:04X}; HIGH ${4 * n + 3:04X}; }};\n"
              for n in range(0, 8000, step)] if step else []
     words += f" -i {write('a.info', ''.join(pairs))}" if pairs else ""
-    shows(limit, instructions(name65.path, f"-S 0 {words} -o ours.s a.s"),
-          instructions(as65.path, "-S 0 -o ours.bin a.s"))
+    shows(limit, instructions(name65.path, f"-S 0 {words} -o ours.s a.s"), ca65_and_ld65())
 
 
-def test_html65(as65, html65, shows, text):
+def test_html65(html65, shows, text):
     """The page is at most seven times as long as the listing of random bytes."""
     listing = text("random")
     ours = instructions(html65.path, f"-S 0 -o a.html {write('a.s', listing)}")
-    shows(359, ours, instructions(as65.path, "-S 0 -o ours.bin a.s"))
+    shows(66.6, ours, ca65_and_ld65())
     assert len(read("a.html")) <= 7 * len(listing)
 
 

@@ -24,7 +24,7 @@ SHOWN = {
     "stmt65": "Columns Line Statements Operands ReadingLaws Spelling Reading Symbols Coding Meaning Layout",
     "da65": "Groups Statements Listing Outcome RunLaw",
     "reach65": "Inlines Flow Reached Taken",
-    "name65": "Marks Changes",
+    "name65": "Marks Changes NameFor",
     "html65": "Pieces PageText Operands",
 }
 

@@ -1,3 +1,4 @@
 pub mod CommandLemmas
 pub mod PassingLemmas
-pub mod HintLemmas
+pub mod SceneLemmas
+pub mod ShownLemmas

@@ -2,7 +2,8 @@
 use Rattle.std.specs.Prelude.{◌≡◌, ◌≢◌, ℕ, List, Option, Result, Ok, Err}
 use Rattle.std.specs.Io.KnownBytes.{Appends}
 use Rattle.map65.specs.Words.{AppendsFront, one_more}
-use Rattle.as65.specs.Differences.{Compared, IsDifferences}
+use Rattle.as65.specs.Changes.{IsDifferences}
+use Rattle.as65.specs.Compared.{Compared}
 use Rattle.as65.specs.Types.{Differs, Done, Ended, Failure, File, Label, Memory, Refused, Writing}
 
 -- of the differences this much was written

@@ -1,9 +1,12 @@
 pub mod Assembled
+pub mod Before
+pub mod Changes
 pub mod Code
 pub mod Command
+pub mod Compared
 pub mod Comparison
 pub mod Differences
-pub mod FaultyLine
+pub mod Failure
 pub mod Image
 pub mod Information
 pub mod Labels

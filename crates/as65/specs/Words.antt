@@ -1,14 +1,17 @@
 -- The words of clauses and proofs, here and in the crates above, from one place.
-pub use Rattle.as65.specs.Types.{Stretch}
+pub use Rattle.as65.specs.Types.{Change, Label, Stretch}
 pub use Rattle.as65.specs.Assembled.{AssembledView, seen}
-pub use Rattle.as65.specs.Code.{IsReached, given_of}
+pub use Rattle.as65.specs.Before.{GaveBefore, Had, HadValue, IsBefore, IsBeside, IsBy, IsEarlierBy, IsHead, IsValueBefore, label_before}
+pub use Rattle.as65.specs.Changes.{AreChanges, GaveBy, HasMoved, IsChange, IsDifferences, IsMovedByte, IsReplaced, IsShown, IsSource, change_line, line_begin, place_of}
+pub use Rattle.as65.specs.Code.{AreComplete, AreKnown, AreMoved, AreSources, IsPlaced, IsReached, given_of}
 unfoldable pub use Rattle.as65.specs.Code.{ended}
 pub use Rattle.as65.specs.Command.{app, this_program}
 pub use Rattle.as65.specs.Comparison.{Compares, CountsWrites}
-pub use Rattle.as65.specs.Differences.{AreDifferences, Compared, IsDifferences, compared, difference_lines, dots_above, is_control, line_of, shown_byte, shown_bytes, spaced, stretch_bytes, trimmed}
-unfoldable pub use Rattle.as65.specs.Differences.{change_text, lengths_line, origin_text, shown}
-pub use Rattle.as65.specs.FaultyLine.{FailsWith, Reports, hint_text, line_at, said_after}
-unfoldable pub use Rattle.as65.specs.FaultyLine.{about}
+pub use Rattle.files65.specs.FaultyLine.{Reports}
+pub use Rattle.as65.specs.Compared.{Compared, compared}
+pub use Rattle.as65.specs.Differences.{AreDifferences, difference_lines, line_of, shown_bytes, spaced, stretch_bytes}
+unfoldable pub use Rattle.as65.specs.Differences.{change_text, lengths_line, origin_text}
+pub use Rattle.as65.specs.Failure.{said_after}
 pub use Rattle.as65.specs.Image.{IsFailureOf, IsNoImage}
 pub use Rattle.as65.specs.Information.{placed_at}
 pub use Rattle.as65.specs.Labels.{label_line, labels_of, source_labels}

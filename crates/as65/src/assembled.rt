@@ -8,8 +8,7 @@ ghost use Rattle.stmt65.specs.Words.{source_meaning};
 ghost use Rattle.as65.specs.Words.{AssembledView, Reports, seen};
 
 use crate::failure::Failure;
-use crate::faulty_line::failure_of;
-use files65::{FileFault, write_text};
+use files65::{FileFault, failure_of, write_text};
 use map65::Sink;
 use std::alloc::{AllocError, Global};
 use std::marker::Model;

@@ -1,23 +1,20 @@
 //! The lines that say where a listing and an image differ.
 
-ghost use Rattle.std.specs.Prelude.{◌≡◌, ◌++◌, IfOk, OnOk, flat_map, map, take};
-ghost use Rattle.as65.specs.Words.{AreDifferences, IsDifferences, change_text, compared, dots_above, is_control, lengths_line, origin_text, shown, shown_byte, shown_bytes, spaced, trimmed};
+ghost use Rattle.std.specs.Prelude.{◌≡◌, ◌++◌, IfOk, OnOk, flat_map};
+ghost use Rattle.as65.specs.Words.{AreDifferences, IsDifferences, change_text, compared, lengths_line, origin_text, shown_bytes, spaced};
 
 use crate::assembled::Assembled;
-use crate::changes::changes;
 use crate::moves::{labels_in, moves_in, put_moves};
 use crate::origins::Reached;
+use crate::shown::changes;
 use crate::stretches::{Stretch, next_stretch};
-use files65::{put_address, put_decimal};
+use files65::{at_most, put_address, put_decimal, put_dots, put_shown};
 use map65::Image;
 use std::alloc::{AllocError, Global};
 use text65::hex_digit;
 
 /// How many bytes of a stretch are shown.
 const SHOWN_BYTES: usize = 8;
-
-/// How many characters of a line are shown.
-const SHOWN_CHARACTERS: usize = 80;
 
 /// Appends each byte as two hex digits after a blank.
 fn put_spaced(out: &mut Vec<u8>, bytes: &[u8]) -> Result<(), AllocError>
@@ -30,65 +27,12 @@ fn put_spaced(out: &mut Vec<u8>, bytes: &[u8]) -> Result<(), AllocError>
     Ok(())
 }
 
-/// Appends two dots after what is not shown whole.
-fn put_dots(out: &mut Vec<u8>, most: usize, len: usize) -> Result<(), AllocError>
-    ensures { OnOk result (out.new.items ≡ out.old.items ++ dots_above most len) }
-{
-    if most < len {
-        out.extend_from_slice(b" ..")?;
-    }
-    Ok(())
-}
-
-/// The first elements, if there are more than this many.
-fn at_most(bytes: &[u8], most: usize) -> &[u8]
-    ensures { result.now ≡ take most bytes.now }
-{
-    if bytes.len() <= most {
-        return bytes;
-    }
-    &bytes[..most]
-}
-
 /// Appends the first bytes of a stretch, each after a blank.
 fn put_bytes(out: &mut Vec<u8>, bytes: &[u8]) -> Result<(), AllocError>
     ensures { OnOk result (out.new.items ≡ out.old.items ++ shown_bytes bytes.now) }
 {
     put_spaced(out, at_most(bytes, SHOWN_BYTES))?;
     put_dots(out, SHOWN_BYTES, bytes.len())
-}
-
-/// Whether a terminal may take a byte for a command: those from $80 on are the controls of 8 bits.
-fn is_control(byte: u8) -> bool
-    ensures { result ≡ is_control byte }
-{
-    byte.is_ascii_control() || 128 <= byte && byte <= 159
-}
-
-/// Appends bytes, with `?` for each control byte.
-fn put_characters(out: &mut Vec<u8>, line: &[u8]) -> Result<(), AllocError>
-    ensures { OnOk result (out.new.items ≡ out.old.items ++ map shown_byte line.now) }
-{
-    'characters: for byte in line {
-        out.push(if is_control(*byte) { b'?' } else { *byte })?;
-    }
-    Ok(())
-}
-
-/// The line without the blanks around it.
-pub(crate) fn trimmed(line: &[u8]) -> &[u8]
-    ensures { result.now ≡ trimmed line.now }
-{
-    line.trim_ascii()
-}
-
-/// Appends the first characters.
-#[tactic(auto, unfolding(crate::specs::Differences::shown))]
-pub(crate) fn put_shown(out: &mut Vec<u8>, line: &[u8]) -> Result<(), AllocError>
-    ensures { OnOk result (out.new.items ≡ out.old.items ++ shown line.now) }
-{
-    put_characters(out, at_most(line, SHOWN_CHARACTERS))?;
-    put_dots(out, SHOWN_CHARACTERS, line.len())
 }
 
 /// Appends an address, and the bytes that the image and the listing have there.
@@ -171,8 +115,21 @@ pub fn differences(
     /// there is none, the rest has one line for each stretch, in order: its address, at most eight bytes of the
     /// image and of the listing, and, if the listing begins where the image does, the number of the line that gives
     /// the first byte and at most 80 characters of that line. Blanks around it are left out, and `?` stands for
-    /// each control byte, $80 to $9F among them. A last line has both lengths, if they differ. If there is such a
-    /// label, the rest is advice: its rule is in as65.1, and `tests/test_as65.py` tests it. Or out of memory.
+    /// each control byte, $80 to $9F among them. A last line has both lengths, if they differ. Or out of memory.
+    ///
+    /// If there is such a label, the rest has one line of this form for each change. Each byte of the listing lies in
+    /// a change or has only moved: the image has it where it lay by how far the label before or after its line has
+    /// moved, or at its own address; or its line gave the byte that the image has there (`listing`). Each byte of the
+    /// image lies in a change, or some byte of the listing has only moved from there (`image`). How many changes there
+    /// are is advice: its rule is in as65.1, and `tests/test_as65.py` tests it.
+    ///
+    /// A change has bytes of the image, bytes of the listing in their place, or both; then the first of them differ,
+    /// and so do the last (`each`). Its line is the one that gives its first byte of the listing; if it has none, the
+    /// byte after it; or else the last byte (`lines`).
+    ///
+    /// What a line gave is what it means alone at its earlier address, as for the 6502 or the 65C02. Each name is a
+    /// constant there: one that is a constant keeps its value, a label `LXXXX` has $XXXX, and any other name lies as
+    /// far from its address as the label before or after it (`GaveBefore`).
     ensures { IfOk result (λ text.
         IsDifferences assembled.now.moves (compared image.now assembled.now) text.items) }
 {
@@ -184,7 +141,7 @@ pub fn differences(
     }
     let mut out = Vec::new(alloc);
     put_moves(&mut out, &moves)?;
-    let changes = changes(alloc, image, assembled, &labels)?;
+    let changes = changes(alloc, image, assembled, &ends, &labels)?;
     out.extend_from_slice(&changes)?;
     Ok(out)
 }

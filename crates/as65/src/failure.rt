@@ -3,7 +3,6 @@
 ghost use Rattle.std.specs.Prelude.{◌≡◌};
 ghost use Rattle.as65.specs.Words.{said_after};
 
-use stmt65::AsmFault;
 use thiserror::Error;
 
 /// What ends the program early.
@@ -21,9 +20,6 @@ pub enum Refused {
     /// The image to compare with has more than 65,536 bytes, or extends past $FFFF.
     #[error("the image is too large")]
     LargeImage,
-    /// A line of the listing of this name has a fault; and what is said after its text.
-    #[error("{0}:{1}")]
-    Line(String, AsmFault, Vec<u8>),
     /// Neither the command line nor the information file of this name gives a start address.
     #[error("no start address: give -S, or STARTADDR in {0}")]
     NoStart(String),
@@ -45,7 +41,7 @@ pub fn said_after(failure: &Failure) -> &[u8]
     ensures { result.now ≡ said_after failure.now }
 {
     match failure {
-        Failure::Own(Refused::Line(_, _, said) | Refused::Moved(_, _, said)) => said.as_slice(),
-        _ => &[],
+        Failure::Own(Refused::Moved(_, _, said)) => said.as_slice(),
+        _ => files65::said_after(failure),
     }
 }

@@ -6,8 +6,7 @@ ghost use Rattle.as65.specs.Words.{Reports, label_line, labels_of, source_labels
 
 use crate::assembled::Assembled;
 use crate::failure::Failure;
-use crate::faulty_line::failure_of;
-use files65::put_address;
+use files65::{failure_of, put_address};
 use std::alloc::{AllocError, Global};
 use stmt65::{About, Definition, Explained, Source, assemble_lines};
 

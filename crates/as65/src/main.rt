@@ -7,31 +7,24 @@
 #![tactic(auto)]
 
 mod assembled;
-mod before;
 mod changes;
 mod command;
 mod comparison;
-mod definitions;
 mod differences;
 mod failure;
-mod faulty_line;
-mod forms;
-mod guess;
-mod guesses;
-mod hint;
 mod image;
 mod information;
 mod labels;
-mod limits;
 mod message;
 mod moves;
 mod named_start;
 mod origins;
 mod request;
+mod scene;
+mod shown;
 mod sizes;
 mod status;
 mod stretches;
-mod words;
 
 use assembled::{Assembled, need_bytes};
 use comparison::compare;

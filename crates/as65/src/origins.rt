@@ -1,11 +1,10 @@
 //! Which line of a listing gave a byte.
 
-ghost use Rattle.std.specs.Prelude.{◌≡◌, ◌≤◌, [], List, drop, get_or, ℕ};
+ghost use Rattle.std.specs.Prelude.{◌≡◌, ◌≤◌, List, ℕ};
 ghost use Rattle.text65.specs.Lines.{text_lines};
-ghost use Rattle.as65.specs.Words.{IsReached, ended, line_at, trimmed};
+ghost use Rattle.as65.specs.Words.{IsReached, ended};
 
-use crate::differences::trimmed;
-use text65::first_line;
+use files65::{after_lines, first_of, trimmed};
 
 /// A line of a listing, and its number, from 1.
 #[derive(Clone, Copy)]
@@ -23,39 +22,6 @@ pub struct Reached<'a> {
     pub line: &'a [u8],
     /// The text from it on.
     pub rest: &'a [u8],
-}
-
-/// The text after this many lines.
-fn after_lines(text: &[u8], count: usize) -> &[u8]
-    ensures { text_lines result.now ≡ drop count (text_lines text.now) }
-{
-    let mut rest = text;
-    let mut left = count;
-    'lines: while 0 < left {
-        match first_line(rest) {
-            Some((_, after)) => rest = after,
-            None => return rest,
-        }
-        left -= 1;
-    }
-    rest
-}
-
-/// The first line of a text; empty if there is none.
-fn first_of(text: &[u8]) -> &[u8]
-    ensures { result.now ≡ get_or (text_lines text.now) 0 [] }
-{
-    match first_line(text) {
-        Some((line, _)) => line,
-        None => &[],
-    }
-}
-
-/// The line of this number, from 1; empty if there is none.
-pub(crate) fn line_at(text: &[u8], number: usize) -> &[u8]
-    ensures { result.now ≡ line_at number text.now }
-{
-    first_of(after_lines(text, number.saturating_sub(1)))
 }
 
 /// How many addresses come before the first that is greater than this one.

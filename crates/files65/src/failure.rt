@@ -2,6 +2,7 @@
 
 ghost use Rattle.std.specs.Prelude.{◌≡◌};
 ghost use Rattle.files65.specs.Faults.{failure_for};
+ghost use Rattle.files65.specs.FaultyLine.{said_after};
 ghost use Rattle.usage65.specs.Words.{fault_for};
 ghost use Rattle.files65.specs.declared.failure.Failure.TheVariants.{File, Memory, Request};
 
@@ -9,6 +10,7 @@ use crate::fault::FileFault;
 use info65::{InfoFault, InfoFaultKind};
 use std::alloc::AllocError;
 use std::fmt::Display;
+use stmt65::AsmFault;
 use thiserror::Error;
 use usage65::{RequestFault, UsageFault};
 
@@ -31,6 +33,9 @@ pub enum Failure<R> {
     /// A file can't be used.
     #[error("{0}")]
     File(FileFault),
+    /// A line of the listing of this name has a fault; and what is said after its text.
+    #[error("{0}:{1}")]
+    Line(String, AsmFault, Vec<u8>),
     /// What the program alone refuses.
     #[error("{0}")]
     Own(R),
@@ -80,5 +85,16 @@ impl<R> From<InfoFault> for Failure<R> {
             InfoFaultKind::Memory => Failure::Memory,
             _ => Failure::Info(fault),
         }
+    }
+}
+
+/// What is said after the text of a failure. It need not be valid UTF-8.
+pub fn said_after<R>(failure: &Failure<R>) -> &[u8]
+    /// Returns what is said after the text of a failure.
+    ensures { result.now ≡ said_after failure.now }
+{
+    match failure {
+        Failure::Line(_, _, said) => said.as_slice(),
+        _ => &[],
     }
 }

@@ -7,12 +7,23 @@
 //! [`Failure`], and [`end`] ends it; a [`FileFault`] is what can go wrong with a file. [`information_of`] and
 //! [`tags_of`] are what an information file says; [`layout_of`] and [`start_or_end`] say where the bytes of a listing
 //! belong. [`put_address`] and [`put_decimal`] write numbers.
+//!
+//! [`failure_of`] and [`faulty_listing`] say which line of a listing has a fault, with the line and a hint: what the
+//! assembler found it to be about, or a guess from its text (`hint`, and what it names). The hint is advice.
 #![tactic(auto)]
 
+mod definitions;
 mod failure;
 mod fault;
+mod faulty_line;
+mod forms;
+mod guess;
+mod guesses;
+mod hint;
 mod information;
 mod input;
+mod limits;
+mod lines;
 mod message;
 mod named_twice;
 mod numbers;
@@ -21,11 +32,15 @@ mod place;
 mod placeholders;
 mod reading;
 mod same;
+mod shown;
+mod words;
 
-pub use failure::Failure;
+pub use failure::{Failure, said_after};
 pub use fault::FileFault;
+pub use faulty_line::{failure_of, faulty_listing};
 pub use information::{information_at, information_of, tags_of};
 pub use input::Input;
+pub use lines::{after_lines, first_of, line_at};
 pub use message::{end, say};
 pub use numbers::{put_address, put_decimal};
 pub use output::{Output, write_text};
@@ -35,3 +50,4 @@ pub use reading::{
     INFORMATION_LIMIT, contents, needed_contents, read_from, read_information, read_listing,
 };
 pub use same::{keep_apart, keep_files, keep_inputs, need_plain};
+pub use shown::{at_most, put_dots, put_shown, trimmed};

@@ -3,7 +3,7 @@
 ghost use Rattle.std.specs.Prelude.{◌≡◌, ◌++◌, IfOk, OnOk};
 ghost use Rattle.files65.specs.Message.{in_line, is_control, message, shown};
 
-use crate::failure::Failure;
+use crate::failure::{Failure, said_after};
 use crate::fault::FileFault;
 use crate::output::write_text;
 use arrayvec::ArrayVec;
@@ -108,7 +108,8 @@ pub fn end<R: Display + Drop>(
     match outcome {
         Ok(()) => ExitCode::SUCCESS,
         Err(failure) => {
-            let _ = say(rt, program, format!(in rt.alloc(); "{failure}"), &[]);
+            let text = format!(in rt.alloc(); "{failure}");
+            let _ = say(rt, program, text, said_after(&failure));
             ExitCode::FAILURE
         }
     }

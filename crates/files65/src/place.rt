@@ -2,7 +2,7 @@
 
 ghost use Rattle.std.specs.Prelude.{◌≡◌, IfOk, Some, map};
 ghost use Rattle.info65.specs.Words.{segment_seen};
-ghost use Rattle.files65.specs.Place.{layout_of};
+ghost use Rattle.files65.specs.Place.{before_end, last_of, layout_of, start_in};
 
 use info65::SegmentSpec;
 use std::alloc::{AllocError, Global};
@@ -56,18 +56,39 @@ pub fn repair<'t, 'l, 'n>(layout: &'l Layout<'n>, start: u16, text: &'t [u8]) ->
     }
 }
 
+/// The last of these numbers, or 0.
+fn last_of(numbers: &[u64]) -> u64
+    ensures { result ≡ last_of numbers.now }
+{
+    numbers.last().copied().unwrap_or(0)
+}
+
+/// The start from which the last of so many bytes is at $FFFF.
+fn before_end(len: u64) -> u16
+    ensures { result ≡ before_end len }
+{
+    if 0 < len && len <= 65_536 {
+        (65_536 - len) as u16
+    } else {
+        0
+    }
+}
+
 /// This start, or else the one from which the last byte of a text is at $FFFF.
+#[tactic(auto, unfolding(crate::specs::Place::start_in))]
 pub fn start_or_end(
     alloc: Global,
     start: Option<u16>,
     layout: &Layout<'_>,
     text: &[u8],
-) -> Result<u16, AllocError> {
+) -> Result<u16, AllocError>
+    /// A listing begins at the start that is given, or else so that its last byte is at $FFFF; at $0000 if it has no
+    /// byte or more than 65,536; or out of memory.
+    ensures { IfOk result (λ a. a ≡ start_in layout.now text.now start) }
+{
     if let Some(start) = start {
         return Ok(start);
     }
-    match line_addresses(alloc, &repair(layout, 0, text))?.last() {
-        Some(len) if 0 < *len && *len <= 65_536 => Ok((65_536 - *len) as u16),
-        _ => Ok(0),
-    }
+    let ends = line_addresses(alloc, &repair(layout, 0, text))?;
+    Ok(before_end(last_of(&ends)))
 }

@@ -1,7 +1,6 @@
 pub mod Command
 pub mod Links
 pub mod Operands
-pub mod Page
 pub mod PageText
 pub mod Pieces
 pub mod Request

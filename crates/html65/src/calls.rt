@@ -2,7 +2,7 @@
 
 use crate::markup::{Address, Link, Put, Result, put};
 use crate::survey::{Named, Reference, Survey};
-use crate::tables::{TABLE, TABLE_END};
+use crate::tables::{TABLE_END, put_title};
 use crate::way::Way;
 use std::alloc::Global;
 
@@ -58,11 +58,8 @@ fn end_of(survey: &Survey<'_, '_>, routine: &Named<'_>, next: Option<&Named<'_>>
 
 /// Appends the routines: where each begins, how many bytes it has, whom it calls, and who calls it.
 pub fn put_routines(alloc: Global, out: &mut Vec<u8>, survey: &Survey<'_, '_>) -> Result<()> {
-    if survey.routines.is_empty() {
-        return Ok(());
-    }
     let calls = calls_of(alloc, survey)?;
-    put!(out; ("<details open><summary>Routines (", survey.routines.len()), TABLE);
+    put_title(out, 0, survey.routines.len())?;
     for (place, named) in survey.routines.iter().enumerate() {
         let begin = named.definition.value;
         let end = end_of(survey, named, survey.routines.get(place.saturating_add(1)));

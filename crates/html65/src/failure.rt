@@ -1,6 +1,5 @@
 //! Why the program gives up.
 
-use stmt65::AsmFault;
 use thiserror::Error;
 
 /// What ends the program early.
@@ -9,9 +8,6 @@ pub type Failure = files65::Failure<Refused>;
 /// What only this program gives up for.
 #[derive(Debug, Drop, Error)]
 pub enum Refused {
-    /// A line of the listing of this name has a fault.
-    #[error("{0}:{1}")]
-    Line(String, AsmFault),
     /// The page of the listing of this name has another text.
     #[error("{0}: the page would not have its text")]
     Text(String),

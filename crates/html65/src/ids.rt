@@ -15,6 +15,7 @@ const MOST: usize = 4_194_304;
 pub struct Index {
     lines: Vec<Place>,
     rows: Vec<Place>,
+    lists: Vec<Place>,
 }
 
 /// The place of an id among all, and among those of its kind.
@@ -35,6 +36,7 @@ impl Index {
         Index {
             lines: Vec::new(alloc),
             rows: Vec::new(alloc),
+            lists: Vec::new(alloc),
         }
     }
 
@@ -43,6 +45,7 @@ impl Index {
         let ids = match kind {
             0 => &mut self.lines,
             2 => &mut self.rows,
+            3 => &mut self.lists,
             _ => return Ok(()),
         };
         let number = number as usize;
@@ -66,10 +69,10 @@ impl Index {
 
     /// Where an id should be.
     pub fn place_of(&self, id: &[u8]) -> Place {
-        let ids = if kind_of(id) == 0 {
-            &self.lines
-        } else {
-            &self.rows
+        let ids = match kind_of(id) {
+            0 => &self.lines,
+            2 => &self.rows,
+            _ => &self.lists,
         };
         ids.get(number_in(id) as usize).copied().unwrap_or(NOWHERE)
     }

@@ -107,12 +107,13 @@ struct Holders {
 impl Holders {
     /// Ends the line before one, and begins what holds this one. A run may begin with it.
     fn next(&mut self, out: &mut Vec<u8>, line: usize, run: Option<&Run>) -> Result<()> {
-        put!(out; if 1 < line { "</span>" } else { "" });
-        if self.folded.is_some_and(|last| last < line) {
+        let is_unfolded = self.folded.is_some_and(|last| last < line);
+        if is_unfolded {
             self.folded = None;
-            put!(out; "</b>");
         }
-        put!(out; if 1 < line { "\n" } else { "" });
+        if 1 < line {
+            put!(out; if is_unfolded { "</span></b>\n" } else { "</span>\n" });
+        }
         if self.is_parted && line % PART == 1 && self.folded.is_none() {
             put!(out; if self.has_begun { "</b>" } else { "" }, "<b class=\"p\">");
             self.has_begun = true;

@@ -1,8 +1,7 @@
 //! The map of a page: the addresses of the image as rows of a picture.
 
 use crate::kind::{KINDS, Kind};
-use crate::lines::Line;
-use crate::markup::{Address, Page, Put, Result, put};
+use crate::markup::{Address, Link, Page, Put, Result, put};
 use crate::survey::{Run, Survey};
 use std::alloc::Global;
 
@@ -136,20 +135,9 @@ pub fn put_map(alloc: Global, out: &mut Vec<u8>, survey: &Survey<'_, '_>) -> Res
 
 /// Appends the pages of 256 bytes, each a link to the first line that has bytes of it.
 pub fn put_pages(out: &mut Vec<u8>, survey: &Survey<'_, '_>) -> Result<()> {
-    let mut line = Line::before(survey.text, survey.start);
-    let mut next = usize::from(survey.start) / 256;
     put!(out; "<p>Go to $");
-    for end in survey.ends {
-        line = line.next(end);
-        let after = if line.at < line.end {
-            line.end.div_ceil(256)
-        } else {
-            next
-        };
-        for _ in next..after {
-            put!(out; (" <a href=\"#l", line.number), "\">", Page(next), "</a>");
-            next = next.saturating_add(1);
-        }
+    for (page, line) in survey.pages.iter().enumerate() {
+        put!(out; " ", Link(*line, Page(survey.first_page().saturating_add(page))));
     }
     put!(out; "; of $FC95 is <code>#aFC95</code> after the name of this page</p>\n");
     Ok(())

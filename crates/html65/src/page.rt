@@ -2,9 +2,9 @@
 
 ghost use Rattle.std.specs.Prelude.{◌≡◌, IfErr, IfOk, Ok};
 ghost use Rattle.stmt65.specs.Words.{source_meaning};
+ghost use Rattle.files65.specs.FaultyLine.{MayReport};
 ghost use Rattle.html65.specs.Links.{AreLinksWhole};
 ghost use Rattle.html65.specs.Operands.{AreOperandsLed};
-ghost use Rattle.html65.specs.Page.{Reports};
 ghost use Rattle.html65.specs.PageText.{text_of};
 
 use crate::calls::put_routines;
@@ -14,10 +14,10 @@ use crate::head::put_head;
 use crate::listing::put_listing;
 use crate::map::{put_map, put_pages};
 use crate::survey::Survey;
-use crate::tables::{put_groups, put_lists};
-use files65::FileFault;
+use crate::tables::{LINKS, put_groups, put_lists};
+use files65::{FileFault, faulty_listing};
 use std::alloc::{AllocError, Global};
-use stmt65::{AsmFaultKind, Assembly, Source, assemble_lines};
+use stmt65::{Assembly, Source, assemble_lines};
 
 /// What the listing of this name means.
 fn assembled<'t, 'b>(
@@ -26,21 +26,21 @@ fn assembled<'t, 'b>(
     source: &Source<'t, '_, '_>,
 ) -> Result<Assembly<'t, 'b, Global>, Failure>
     ensures bytes { IfOk result (λ a. source_meaning source.now ≡ Ok a.bytes.items) }
-    ensures fault { IfErr result (Reports name.now source.now) }
+    ensures fault { IfErr result (MayReport name.now source.now) }
 {
     match assemble_lines(alloc, source) {
         Ok(assembly) => Ok(assembly),
-        Err(fault) if fault.kind == AsmFaultKind::Memory => Err(Failure::Memory),
-        Err(fault) => Err(Failure::Own(Refused::Line(String::from_str(*alloc, name)?, fault))),
+        Err(fault) => Err(faulty_listing(*alloc, fault, name, source)),
     }
 }
 
-/// A page with this survey, as it is hoped for. Few have more than a hundred bytes for each byte of the image.
+/// A page with this survey. Few have more than a hundred bytes for each byte of the image.
 fn written(alloc: Global, name: &str, survey: &Survey<'_, '_>) -> Result<Vec<u8>, AllocError> {
     let room = survey.bytes.len().saturating_mul(100);
     let mut out = Vec::with_capacity(alloc, room.saturating_add(survey.text.len()))?;
     put_head(&mut out, name.as_bytes(), survey)?;
     put_pages(&mut out, survey)?;
+    out.extend_from_slice(LINKS.as_bytes())?;
     put_map(alloc, &mut out, survey)?;
     put_routines(alloc, &mut out, survey)?;
     put_lists(&mut out, survey)?;
@@ -49,6 +49,18 @@ fn written(alloc: Global, name: &str, survey: &Survey<'_, '_>) -> Result<Vec<u8>
     put_listing(alloc, &mut out, survey)?;
     out.extend_from_slice(b"</main>\n</body>\n</html>\n")?;
     Ok(out)
+}
+
+/// A page of the listing of this name, as it is hoped for. What it was made of is not kept.
+fn hoped_for(alloc: Global, name: &str, source: &Source<'_, '_, '_>) -> Result<Vec<u8>, Failure>
+    ensures { IfErr result (MayReport name.now source.now) }
+{
+    let assembly = assembled(&alloc, name, source)?;
+    if assembly.bytes.is_empty() {
+        return Err(Failure::File(FileFault::Empty(String::from_str(alloc, name)?)));
+    }
+    let survey = Survey::of(alloc, source, &assembly)?;
+    Ok(written(alloc, name, &survey)?)
 }
 
 /// Returns the page of the listing of this name. Fails with the first fault of the listing, and if it has no byte.
@@ -64,15 +76,11 @@ pub fn page_of(alloc: Global, name: &str, source: &Source<'_, '_, '_>) -> Result
     /// Each link of an operand leads to the element of the line that defines the name there, or to the row of the
     /// address: one whose id is `r` and the address.
     ensures operands { IfOk result (λ page. AreOperandsLed page.items) }
-    /// If a line of the listing is reported, it is the line of the first fault, with the name of the listing.
-    ensures fault { IfErr result (Reports name.now source.now) }
+    /// If a line of the listing is reported, it is the line of the first fault, with the name of the listing, a hint or
+    /// none, and the beginning of the line, as as65 reports it.
+    ensures fault { IfErr result (MayReport name.now source.now) }
 {
-    let assembly = assembled(&alloc, name, source)?;
-    if assembly.bytes.is_empty() {
-        return Err(Failure::File(FileFault::Empty(String::from_str(alloc, name)?)));
-    }
-    let survey = Survey::of(alloc, source, &assembly)?;
-    let page = written(alloc, name, &survey)?;
+    let page = hoped_for(alloc, name, source)?;
     match fault_in(alloc, &page, source.text)? {
         None => Ok(page),
         Some(Fault::Text) => Err(Failure::Own(Refused::Text(String::from_str(alloc, name)?))),

@@ -7,10 +7,27 @@ use crate::survey::{Named, Reference, Survey};
 use crate::uses::{SHOWN, put_uses};
 use crate::way::Way;
 
-/// What stands after the title of a table and how many rows it has, and at its end.
-pub const TABLE: &str = ")</summary><table>\n";
+/// The titles of the lists, in their order. The id of each is `s` and its place.
+const TITLES: [&str; 4] = [
+    "Routines",
+    "Before the image",
+    "In the image",
+    "After the image",
+];
+
+/// A link to each list.
+pub const LINKS: &str = "<p><a href=\"#s0\">Routines</a>; addresses <a href=\"#s1\">before</a>, \
+    <a href=\"#s2\">in</a> and <a href=\"#s3\">after</a> the image</p>\n";
 
 pub const TABLE_END: &str = "</table></details>\n";
+
+/// Appends what stands before the rows of the list of a place, which has so many.
+pub fn put_title(out: &mut Vec<u8>, place: usize, count: usize) -> Result<()> {
+    let title = TITLES.get(place).copied().unwrap_or("");
+    put!(out; ("<details open id=\"s", place), "\"><summary>", title, (" (", count), ")</summary><table>\n");
+    put!(out; if count == 0 { "<tr><td><em>none</em>\n" } else { "" });
+    Ok(())
+}
 
 /// The columns of counts: reads, writes, changes, pointers, jumps with calls and branches, and data.
 const COLUMNS: [&str; 6] = ["r", "w", "c", "p", "j", "d"];
@@ -119,12 +136,12 @@ fn put_name(
     put_all_uses(out, survey, uses)
 }
 
-/// Appends the names and addresses from a value to before another one, if there are any. Of those of one value the
-/// first row has the id.
+/// Appends the names and addresses from a value to before another one, as the list of a place. Of those of one value
+/// the first row has the id.
 fn put_part(
     out: &mut Vec<u8>,
     survey: &Survey<'_, '_>,
-    title: &str,
+    place: usize,
     (from, end): (u64, u64),
 ) -> Result<()> {
     let all = survey.to_addresses.as_slice();
@@ -136,10 +153,7 @@ fn put_part(
     let mut names = survey.by_value.get(begin..stop).unwrap_or(&[]);
     let count = numbers.chunk_by(|one, other| one.to == other.to).count();
     let count = count.saturating_add(names.len());
-    if count == 0 {
-        return Ok(());
-    }
-    put!(out; "<details open><summary>", title, (" (", count), TABLE);
+    put_title(out, place, count)?;
     let mut last = u64::MAX;
     for _ in 0..count {
         let number = numbers.first().map_or(u64::MAX, |one| one.to as u64);
@@ -165,9 +179,9 @@ fn put_part(
 pub fn put_lists(out: &mut Vec<u8>, survey: &Survey<'_, '_>) -> Result<()> {
     let from = u64::from(survey.start);
     let end = from.saturating_add(survey.bytes.len() as u64);
-    put_part(out, survey, "Before the image", (0, from))?;
-    put_part(out, survey, "In the image", (from, end))?;
-    put_part(out, survey, "After the image", (end, u64::MAX))
+    put_part(out, survey, 1, (0, from))?;
+    put_part(out, survey, 2, (from, end))?;
+    put_part(out, survey, 3, (end, u64::MAX))
 }
 
 /// Appends the groups that name the addresses without a name.

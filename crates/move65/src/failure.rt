@@ -10,8 +10,6 @@ pub type Failure = files65::Failure<Refused>;
 /// What only this program gives up for.
 #[derive(Debug, Drop, Error)]
 pub enum Refused {
-    #[error("{0}:{1}")]
-    Line(String, AsmFault),
     #[error("from ${0:04X} on the listing has a fault: {1}")]
     Later(u16, AsmFault),
     #[error("from ${0:04X} on the listing has another length")]

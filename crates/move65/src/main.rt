@@ -22,7 +22,9 @@ mod variables;
 mod world;
 
 use failure::Failure;
-use files65::{Output, Placeholders, keep_files, read_information, read_listing, say, write_text};
+use files65::{
+    Output, Placeholders, keep_files, read_information, read_listing, said_after, say, write_text,
+};
 use moving::text_of;
 use request::{Moving, request_of};
 use std::process::ExitCode;
@@ -57,7 +59,8 @@ fn main(rt: HostRuntime) -> ExitCode {
         Ok(false) => ExitCode::SUCCESS,
         Ok(true) => ExitCode::from(1),
         Err(failure) => {
-            let _ = say(&rt, "move65", format!(in rt.alloc(); "{failure}"), &[]);
+            let text = format!(in rt.alloc(); "{failure}");
+            let _ = say(&rt, "move65", text, said_after(&failure));
             ExitCode::from(2)
         }
     }

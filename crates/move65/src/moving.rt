@@ -15,7 +15,7 @@ use crate::runs::{Both, run_all};
 use crate::scene::Scene;
 use crate::variables::{limit_of, move_found, move_variables};
 use crate::world::World;
-use files65::{information_of, layout_of, repair, start_or_end, tags_of};
+use files65::{faulty_listing, information_of, layout_of, repair, start_or_end, tags_of};
 use info65::{Info, Tag, TagKind, without_numbers};
 use map65::Marks;
 use run65::{Machine, Registers};
@@ -134,10 +134,7 @@ fn assembled<'t, 'b>(
 ) -> Result<Assembly<'t, 'b, Global>, Failure> {
     match assemble_lines(alloc, source) {
         Ok(assembly) => Ok(assembly),
-        Err(fault) => {
-            let name = String::from_str(*alloc, name)?;
-            Err(failure_for(fault, Refused::Line(name, fault)))
-        }
+        Err(fault) => Err(faulty_listing(*alloc, fault, name, source)),
     }
 }
 
@@ -224,8 +221,8 @@ pub fn text_of(
     bytes: &[u8],
     text: &[u8],
 ) -> Result<Moved, Failure>
-    /// The information file is accepted under the options of the command line with a line feed and what is written
-    /// behind it, and so are the groups in its lines `#: ..`.
+    /// The information file is accepted under the options of the command line with a line feed and the text that is
+    /// returned after it, and so are the groups in its lines `#: ..`.
     ensures accepted { IfOk result (λ moved.
         IsAccepted moving.now.options bytes.now (string_bytes moved.text)) }
 {

@@ -331,6 +331,19 @@ impl World {
         }
     }
 
+    /// Whether the byte is one of the image as it stands there.
+    fn is_plain(&self, byte: Pair) -> bool {
+        match byte.places.as_slice() {
+            [at] => self.scene.byte(*at) == Some(byte.here),
+            _ => false,
+        }
+    }
+
+    /// Whether the low half of an address is the index: the pointer has none, and its high byte is a sum.
+    fn is_low_half(&self, index: Pair, low: Pair, high: Pair) -> bool {
+        low.here == 0 && index.here != 0 && self.is_plain(index) && !self.is_plain(high)
+    }
+
     fn see(&mut self, kind: Kind, here: u16, low: Pair, high: Pair) {
         let sighting = Sighting {
             kind,
@@ -372,7 +385,9 @@ impl Bus<Pair> for World {
         }
         if self.scene.moves(here) || base != here && self.scene.moves(base) {
             if later != moved {
-                self.see(Kind::Stays(purpose), base, low, high);
+                let is_index = self.is_low_half(index, low, high);
+                let (address, low) = if is_index { (here, index) } else { (base, low) };
+                self.see(Kind::Stays(purpose), address, low, high);
             } else if let ([low], [high]) = (low.places.as_slice(), high.places.as_slice()) {
                 self.used.set(*low);
                 self.used.set(*high);

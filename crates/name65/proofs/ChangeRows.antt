@@ -1,5 +1,5 @@
 -- What lines do not become.
-use Rattle.std.proofs.Common.{◌≡◌, ◌==◌, ◌&&◌, ◌+◌, ◌++◌, ◌≢◌, ℕ, Bool, true, false, List, [], ◌∷◌, ap, arith, codes, get_or, not, refl}
+use Rattle.std.proofs.Common.{◌≡◌, ◌==◌, ◌&&◌, ◌+◌, ◌++◌, ◌≢◌, ℕ, Bool, true, false, List, [], ◌∷◌, None, ap, arith, codes, get_or, not, refl}
 use Rattle.std.proofs.lemmas.Bool.Decides.{nat_tests}
 use Rattle.std.proofs.lemmas.List.Elements.{filter-append}
 use Rattle.std.specs.List.{filter, list_all}
@@ -12,7 +12,7 @@ use Rattle.name65.specs.declared.operands.Style.TheVariants as style
 
 -- groups name one byte, and the listing ends before $2000
 abbrev one : Scope
-one = record { language = Repair; named = λ a. a == 0x1001; used = false; last = 0x2000 }
+one = record { language = Repair; named = λ a. a == 0x1001; used = false; last = 0x2000; tags = []; known = record { at = λ a. None; given = []; start = 0x1000; bytes = [] } }
 
 both : (a b : Bool) → (a && b) ≡ true → a ≡ true
 both true b e = refl
@@ -26,8 +26,8 @@ first_named style.Words at e = both (one.named at) (one.named (at + 1)) e
 -- an operand of which no group names the first byte stays
 unnamed_stays : (s : Style) (at : ℕ) (was now : List ℕ) → one.named at ≡ false → Becomes one s at was now → now ≡ was
 unnamed_stays s at was now e (kept k n) = refl
-unnamed_stays s at was now e (by_name which r is named ok) = let first = first_named s at named in cc
-unnamed_stays s at was now e (difference to from is named ok other) = let first = first_named style.Words at named in cc
+unnamed_stays s at was now e (by_name which r is named ok half) = let first = first_named s at named in cc
+unnamed_stays s at was now e (difference to from is named ok other group) = let first = first_named style.Words at named in cc
 
 -- one that a group names does not
 not_both : true ≢ false
@@ -35,8 +35,8 @@ not_both e = cc
 
 named_changes : (now : List ℕ) → Becomes one style.Bytes 0x1001 (codes "$34") now → now ≢ codes "$34"
 named_changes now (kept k n) e = not_both n
-named_changes now (by_name Low r is m ok) e = not_both (ap (λ t. get_or t 0 0 == 60) e)
-named_changes now (by_name High r is m ok) e = not_both (ap (λ t. get_or t 0 0 == 62) e)
+named_changes now (by_name Low r is m ok half) e = not_both (ap (λ t. get_or t 0 0 == 60) e)
+named_changes now (by_name High r is m ok half) e = not_both (ap (λ t. get_or t 0 0 == 62) e)
 
 -- after the last operand all stays but blanks
 abbrev text_of : List ℕ → List ℕ

@@ -1,4 +1,7 @@
 mod ChangeLemmas
 mod ChangeRows
 mod CommandLemmas
+mod ListingLemmas
+mod NameLemmas
+mod NameRows
 pub mod ReorderLemmas

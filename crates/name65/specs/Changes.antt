@@ -11,6 +11,8 @@ use Rattle.stmt65.specs.Words.{Assignment, NumberValue, PlaceAssignment, SourceL
 use Rattle.stmt65.specs.declared.language.Language.{Language}
 use Rattle.stmt65.specs.declared.source_line.Half.{Half}
 use Rattle.stmt65.specs.declared.source_line.Half.TheVariants.{High, Low}
+use Rattle.info65.specs.declared.tags.tag.Tag.{Tag}
+use Rattle.name65.specs.NameFor.{ByName, IsBase, IsDifference, IsHalf, KnownView, reference_seen}
 use Rattle.name65.specs.declared.operands.Style.{Style}
 use Rattle.name65.specs.declared.operands.Style.TheVariants as style
 use Rattle.name65.specs.declared.reference.Offset.{Offset}
@@ -18,12 +20,14 @@ use Rattle.name65.specs.declared.reference.Offset.TheVariants.{Zero, Plus, Minus
 use Rattle.name65.specs.declared.reference.Reference.{Reference}
 
 -- What decides how lines change: their language, which addresses groups name, whether constant lines of unused names
--- are left out, and the address after the last line.
+-- are left out, the address after the last line, the groups, and what decides which name stands for an address.
 pub record Scope : Type 0 where
   pub language : Language
   pub named : ℕ → Bool
   pub used : Bool
   pub last : ℕ
+  pub tags : List Tag
+  pub known : KnownView
 
 -- a group names one of the addresses from `at` to before `end`
 abbrev pub names_one : (ℕ → Bool) → ℕ → ℕ → Bool
@@ -100,12 +104,21 @@ abbrev pub are_named : (ℕ → Bool) → Style → ℕ → Bool
 are_named named style.Words at = named at && named (at + 1)
 are_named named _ at = named at
 
+-- groups have this half of an address at a place, or in a list of words both halves, which is by this name
+abbrev pub AreHalves : Scope → Style → ℕ → Half → ByName → Type 0
+AreHalves scope style.Bytes at which r = IsHalf scope.known scope.tags at which r
+AreHalves scope (style.Halves half) at which r = IsHalf scope.known scope.tags at half r
+AreHalves scope style.Words at which r = IsHalf scope.known scope.tags at Low r × IsHalf scope.known scope.tags (at + 1) High r
+
 -- An operand of a list, with its first byte at an address, as it was and as it is: as before if no group names a byte
--- of it; else a number all of whose bytes groups name, and in its place what the list has there.
+-- of it; else a number all of whose bytes groups name, and in its place what the list has there, by the names that
+-- these groups put there.
 pub data Becomes (scope : Scope) : Style → ℕ → List ℕ → List ℕ → Type 0 where
   kept : {s : Style} {at : ℕ} {text : List ℕ} → may_keep s ≡ true → names_one scope.named at (at + count_of s text) ≡ false → Becomes scope s at text text
-  by_name : {s : Style} {at : ℕ} {text : List ℕ} (which : Half) (r : Reference) → IsNumber scope.language text → are_named scope.named s at ≡ true → IsByName r → Becomes scope s at text (address_text s which r)
-  difference : {at : ℕ} {text : List ℕ} (to from : List ℕ) → IsNumber scope.language text → are_named scope.named style.Words at ≡ true → has_name_form to ≡ true → has_name_form from ≡ true → Becomes scope style.Words at text (to ++ codes " - " ++ from)
+  by_name : {s : Style} {at : ℕ} {text : List ℕ} (which : Half) (r : Reference) → IsNumber scope.language text → are_named scope.named s at ≡ true → IsByName r → AreHalves scope s at which (reference_seen r)
+      → Becomes scope s at text (address_text s which r)
+  difference : {at : ℕ} {text : List ℕ} (to from : List ℕ) → IsNumber scope.language text → are_named scope.named style.Words at ≡ true → has_name_form to ≡ true → has_name_form from ≡ true → IsDifference scope.known scope.tags at to from
+      → Becomes scope style.Words at text (to ++ codes " - " ++ from)
 
 -- a blank, or one of `,<>()`
 abbrev pub is_between : ℕ → Bool
@@ -155,7 +168,7 @@ pub data IsRewritten (scope : Scope) (at end : ℕ) : List ℕ → List ℕ → 
       → IsRewritten scope at end (before ++ (word ++ (blanks ++ old))) (before ++ (directive_of (style.Halves which) ++ (others ++ new)))
   immediate : {old new : List ℕ} (before : List ℕ) → IsCode before → scope.named at ≡ false → IsList scope style.Bytes (at + 1) end old new
       → IsRewritten scope at end (before ++ 35 ∷ old) (before ++ 35 ∷ new)
-  address : {rest others : List ℕ} (before was : List ℕ) (r : Reference) → IsCode before → IsValue scope.language was → IsByName r
+  address : {rest others : List ℕ} (before was : List ℕ) (r : Reference) → IsCode before → IsValue scope.language was → IsByName r → IsBase scope.known scope.tags at r.name.now
       → scope.named at ≡ true → names_one scope.named (at + 1) end ≡ false → IsRest rest others
       → IsRewritten scope at end (before ++ (was ++ rest)) (before ++ (reference_text r ++ others))
 

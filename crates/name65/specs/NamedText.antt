@@ -1,18 +1,19 @@
 -- The text by names, beside the listing that it was.
-use Rattle.std.specs.Prelude.{◌≡◌, ◌++◌, ℕ, ◌-◌, Bool, List, length, slice_get, Ok, Err}
+use Rattle.std.specs.Prelude.{◌≡◌, ◌++◌, ℕ, ◌-◌, Bool, List, [], length, slice_get, Result, Ok, Err}
 use Rattle.std.specs.Option.{unwrap_or}
-use Rattle.std.specs.String.{string_bytes}
+use Rattle.info65.specs.Words.{InfoView}
 use Rattle.info65.specs.declared.tags.tag.Tag.{Tag}
 use Rattle.text65.specs.Lines.{text_lines}
-use Rattle.stmt65.specs.Words.{Layout, line_addresses, meaning_in, readings, source_meaning}
+use Rattle.stmt65.specs.Words.{Layout, definitions_of, held_definitions, line_addresses, meaning_in, readings}
 use Rattle.stmt65.specs.declared.language.Language.{Language}
 use Rattle.stmt65.specs.declared.assembling.assembler.Source.{Source}
 use Rattle.name65.specs.Changes.{LinesBecome, Scope}
 use Rattle.name65.specs.Marks.{is_named}
+use Rattle.name65.specs.NameFor.{KnownView, named_at}
 use Rattle.name65.specs.declared.complaint.Refusal.{Refusal}
 use Rattle.name65.specs.declared.complaint.Refusal.TheVariants as refusal
 use Rattle.name65.specs.declared.failure.Refused.{Refused}
-use Rattle.name65.specs.declared.failure.Refused.TheVariants.{Changed, Group, Line}
+use Rattle.name65.specs.declared.failure.Refused.TheVariants.{Changed, Group}
 use Rattle.files65.specs.declared.failure.Failure.{Failure}
 use Rattle.files65.specs.declared.failure.Failure.TheVariants.{Memory, Own}
 
@@ -30,32 +31,45 @@ listing_of s = record { language = s.language; layout = s.layout.now; start = s.
 abbrev pub addresses_of : Listing → List ℕ
 addresses_of l = line_addresses l.layout l.start (readings l.language l.text)
 
+-- the bytes that it means
+abbrev pub bytes_in : {E : Type 0} → Result (List ℕ) E → List ℕ
+bytes_in (Ok bytes) = bytes
+bytes_in (Err fault) = []
+
+-- what decides which name stands for an address: what it defines, the names of the information file, and its bytes
+abbrev pub known_of : Listing → InfoView → KnownView
+known_of l info = record {
+  at = named_at (held_definitions (definitions_of l.language l.layout l.start l.text));
+  given = info.names;
+  start = l.start;
+  bytes = bytes_in (meaning_in l.language l.layout l.start l.text);
+}
+
+-- the last address, or the start
+abbrev pub last_in : ℕ → List ℕ → ℕ
+last_in start ends = unwrap_or (slice_get ends (length ends - 1)) start
+
 -- what decides how its lines change
-abbrev pub scope_of : Listing → (ℕ → Bool) → Bool → List ℕ → Scope
-scope_of l named used ends = record { language = l.language; named = named; used = used; last = unwrap_or (slice_get ends (length ends - 1)) l.start }
+abbrev pub scope_of : Listing → InfoView → List Tag → Bool → Scope
+scope_of l info tags used = record { language = l.language; named = is_named tags; used = used; last = last_in l.start (addresses_of l); tags = tags; known = known_of l info }
 
 -- Each line of a listing as it becomes, in order, by the address after each; and
 -- after the last what moves there, in order.
-pub record AreLines (l : Listing) (named : ℕ → Bool) (used : Bool) (ends text : List ℕ) : Type 0 where
+pub record AreLines (l : Listing) (scope : Scope) (text : List ℕ) : Type 0 where
   pub lines : List ℕ
   pub tail : List ℕ
-  pub become : LinesBecome (scope_of l named used ends) l.start (text_lines l.text) ends lines tail
+  pub become : LinesBecome scope l.start (text_lines l.text) (addresses_of l) lines tail
   pub whole : text ≡ lines ++ tail
 
--- so they are, by the groups
-abbrev pub IsNamed : Listing → List Tag → Bool → List ℕ → Type 0
-IsNamed l tags used text = AreLines l (is_named tags) used (addresses_of l) text
+-- so they are, by the groups and the names of the information file
+abbrev pub IsNamed : Listing → InfoView → List Tag → Bool → List ℕ → Type 0
+IsNamed l info tags used text = AreLines l (scope_of l info tags used) text
 
 -- The text means the bytes that the listing means.
 pub record MeansTheSame (l : Listing) (text : List ℕ) : Type 0 where
   pub bytes : List ℕ
   pub before : meaning_in l.language l.layout l.start l.text ≡ Ok bytes
   pub after : meaning_in l.language l.layout l.start text ≡ Ok bytes
-
--- a failure that names a line of the listing of this name is its first fault
-abbrev pub Reports : {L : Type 0} → List ℕ → Source L → Failure Refused → Type 0
-Reports name s (Own (Line listing fault)) = (string_bytes listing ≡ name) × (source_meaning s ≡ Err fault)
-Reports name s _ = Unit {0}
 
 -- the failure for a refusal
 abbrev pub failure_of : Refusal → Failure Refused

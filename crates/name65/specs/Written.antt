@@ -5,6 +5,7 @@ use Rattle.text65.specs.Names.{is_blank}
 use Rattle.stmt65.specs.Words.{PlaceAssignment, held}
 use Rattle.map65.specs.Words.{is_marked}
 use Rattle.name65.specs.Changes.{Becomes, IsList, IsNumber, IsRewritten, LineBecomes, Scope, are_named, moves, says}
+use Rattle.name65.specs.Known.{known_seen}
 use Rattle.name65.specs.declared.constants.Fate.{Fate}
 use Rattle.name65.specs.declared.constants.Fate.TheVariants.{Kept, LeftOut, Moved}
 use Rattle.name65.specs.declared.plan.NewText.{NewText}
@@ -14,7 +15,7 @@ use Rattle.name65.specs.declared.rewriting.Run.{Run}
 
 -- what decides how lines change, by a plan
 abbrev pub scope_seen : Plan → Scope
-scope_seen p = record { language = p.language; named = is_marked p.marks.now; used = p.used; last = p.last }
+scope_seen p = record { language = p.language; named = is_marked p.marks.now; used = p.used; last = p.last; tags = p.groups.now.tags.now; known = known_seen p.groups.now.known.now }
 
 -- a text of a kind was appended
 pub record AppendsOne (IsOne : List ℕ → Type 0) (old new : List ℕ) : Type 0 where

@@ -7,7 +7,7 @@ use crate::complaint::{Refusal, after, need};
 use crate::marks::has_mark;
 use crate::operands::{is_value, keep_free};
 use crate::plan::PlacedLine;
-use crate::reference::{Reference, put_reference};
+use crate::reference::{Offset, Reference, put_reference};
 use crate::rewriting::{cut_at, has_no_comment, put_rest};
 use stmt65::{Language, Part, Places, Span};
 use text65::has_name_form;
@@ -28,11 +28,12 @@ fn operand_of(language: Language, line: &[u8]) -> Option<(Span, usize)> {
     Some((span, places.end()))
 }
 
-/// Appends a line with another address in the operand of its instruction.
+/// Appends a line with another address in the operand of its instruction: so far from the name that a group has for it.
 pub fn put_address(
     out: &mut Vec<u8>,
     placed: &PlacedLine<'_, '_>,
-    reference: Reference<'_>,
+    group: usize,
+    offset: Offset,
 ) -> Result<(), Refusal>
     ensures { OnOk result (Rewrites placed.now out.old.items out.new.items) }
 {
@@ -48,13 +49,16 @@ pub fn put_address(
         keep_free(plan.wishes, at, 1)?;
         return Err(Refusal::Changed);
     };
+    let Some(name) = plan.groups.base_at(group, at) else {
+        return Err(Refusal::Changed);
+    };
     let found = cut_at(line, span.from, span.to)?;
     need(plan.marks.get_at(at as usize))?;
     need(!has_mark(plan.marks, next, end))?;
     need(has_no_comment(found.before))?;
     need(is_value(plan.language, found.within))?;
-    need(has_name_form(reference.name))?;
+    need(has_name_form(name))?;
     out.extend_from_slice(found.before)?;
-    put_reference(out, reference)?;
+    put_reference(out, Reference { name, offset })?;
     Ok(put_rest(out, found.after, span.to, last.saturating_sub(span.to))?)
 }

@@ -1,5 +1,8 @@
 //! Values by addresses.
 
+ghost use Rattle.std.specs.Prelude.{◌≡◌, ◌<◌, ◌==◌, ℕ, Some, None, OnOk, get_or, if◌then◌else◌, length};
+ghost use Rattle.name65.specs.ByAddress.{ArePlaces, value_at};
+
 use map65::ADDRESSES;
 use std::alloc::{AllocError, Global};
 
@@ -10,11 +13,27 @@ pub struct ByAddress<T: Copy> {
     /// For each address which of the values it has, from 1; 0 stands for none.
     places: Vec<usize>,
     values: Vec<T>,
+    ghost placed: { ArePlaces places.items (length values.items) },
+}
+
+/// Makes a place for each address.
+fn make_room(places: &mut Vec<usize>) -> Result<(), AllocError>
+    requires { 0 < length places.old.items → length places.old.items ≡ 65536 }
+    ensures all { OnOk result (length places.new.items ≡ 65536) }
+    ensures whole { 0 < length places.new.items → length places.new.items ≡ 65536 }
+    ensures same { (a : ℕ) → get_or places.new.items a 0 ≡ get_or places.old.items a 0 }
+{
+    if places.is_empty() {
+        places.resize(ADDRESSES, 0)?;
+    }
+    Ok(())
 }
 
 impl<T: Copy> ByAddress<T> {
     /// No values.
-    pub fn none(alloc: Global) -> ByAddress<T> {
+    pub fn none(alloc: Global) -> ByAddress<T>
+        ensures { (a : ℕ) → value_at result.places.items result.values.items a ≡ None }
+    {
         ByAddress {
             places: Vec::new(alloc),
             values: Vec::new(alloc),
@@ -22,20 +41,23 @@ impl<T: Copy> ByAddress<T> {
     }
 
     /// The value of an address.
-    pub fn get(&self, address: u64) -> Option<T> {
-        let place = self.places.get(address as usize)?;
+    pub fn get(&self, address: u64) -> Option<T>
+        ensures { result ≡ value_at self.now.places.items self.now.values.items address }
+    {
+        let place = *self.places.get(address as usize)?;
         self.values.get(place.checked_sub(1)?).copied()
     }
 
     /// Gives an address a value in the place of any that it had.
-    pub fn put(&mut self, address: u16, value: T) -> Result<(), AllocError> {
-        if self.places.is_empty() {
-            self.places.resize(ADDRESSES, 0)?;
-        }
+    pub fn put(&mut self, address: u16, value: T) -> Result<(), AllocError>
+        ensures { OnOk result ((a : ℕ) →
+            value_at self.new.places.items self.new.values.items a
+            ≡ (if a == address then Some value
+            else value_at self.old.places.items self.old.values.items a)) }
+    {
+        make_room(&mut self.places)?;
         self.values.push(value)?;
-        if let Some(place) = self.places.get_mut(usize::from(address)) {
-            *place = self.values.len();
-        }
+        self.places[usize::from(address)] = self.values.len();
         Ok(())
     }
 }

@@ -25,8 +25,8 @@ fn common_half(wishes: &Wishes<'_>, at: u64, end: u64) -> Option<Half> {
     let mut found = None;
     for address in at..end {
         match (wishes.at(address)?.wish, found) {
-            (Wish::Half(half, _), None) => found = Some(half),
-            (Wish::Half(half, _), Some(first)) if half == first => {}
+            (Wish::Half(half), None) => found = Some(half),
+            (Wish::Half(half), Some(first)) if half == first => {}
             _ => return None,
         }
     }
@@ -123,12 +123,13 @@ pub fn put_operation(out: &mut Vec<u8>, placed: &PlacedLine<'_, '_>) -> Result<(
     let PlacedLine { plan, at, end, .. } = *placed;
     if let Some(
         Wished {
-            wish: Wish::Address(reference),
+            group,
+            wish: Wish::Address(offset),
             ..
         },
     ) = plan.wishes.at(at)
     {
-        return put_address(out, placed, reference);
+        return put_address(out, placed, group, offset);
     }
     let Some(list) = list_of(placed) else {
         keep_free(plan.wishes, at, end.saturating_sub(at))?;

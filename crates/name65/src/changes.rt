@@ -1,8 +1,8 @@
 //! The lines of a listing, each as it becomes.
 
-ghost use Rattle.std.specs.Prelude.{◌≡◌, IfOk, OnOk};
+ghost use Rattle.std.specs.Prelude.{◌≡◌, IfOk, Ok, OnOk};
 ghost use Rattle.text65.specs.Lines.{text_lines};
-ghost use Rattle.stmt65.specs.Words.{source_addresses};
+ghost use Rattle.stmt65.specs.Words.{held_definitions, source_addresses, source_definitions, source_meaning};
 ghost use Rattle.name65.specs.Changes.{LinesBecome};
 ghost use Rattle.name65.specs.NamedText.{IsNamed, listing_of};
 ghost use Rattle.name65.specs.Written.{AppendsLine, scope_seen};
@@ -11,6 +11,8 @@ use crate::changed_line::put_operation;
 use crate::complaint::Refusal;
 use crate::constant_line::{put_idle, put_kept};
 use crate::constants::names_after;
+use crate::groups::Groups;
+use crate::known::Known;
 use crate::marks::{has_mark, mark_named};
 use crate::plan::{NewText, PlacedLine, Plan};
 use crate::wishes::Wishes;
@@ -85,23 +87,29 @@ pub fn changed_text<'t, 'b>(
     tags: &[Tag],
     used: bool,
 ) -> Result<Changed<'t, 'b>, Refusal>
-    requires { assembly.now.ends ≡ source_addresses source.now }
+    requires ends { assembly.now.ends ≡ source_addresses source.now }
+    requires names { assembly.now.names ≡ held_definitions (source_definitions source.now) }
+    requires bytes { source_meaning source.now ≡ Ok assembly.now.bytes.items }
     ensures { IfOk result (λ changed.
-        IsNamed (listing_of source.now) tags.now used changed.text.items) }
+        IsNamed (listing_of source.now) info.now tags.now used changed.text.items) }
 {
     let marks = mark_named(*alloc, tags)?;
-    let wishes = Wishes::new(*alloc, source, assembly, info, tags, used)?;
+    let definitions = assembly.names.definitions();
+    let known = Known::new(*alloc, definitions, info, source.start, &assembly.bytes)?;
+    let groups = Groups::new(*alloc, &known, tags)?;
+    let wishes = Wishes::new(*alloc, source, &groups, used)?;
     let plan = Plan {
         alloc: *alloc,
         language: source.language,
         marks: &marks,
         used,
         last: assembly.ends.last().unwrap_or(u64::from(source.start)),
+        groups: &groups,
         wishes: &wishes,
     };
     let mut new = new_lines(&plan, source, &assembly.ends)?;
     new.lines.extend_from_slice(&new.tail)?;
-    let names = names_after(alloc, &plan, assembly.names.definitions())?;
+    let names = names_after(alloc, &plan, definitions)?;
     let text = new.lines;
     Ok(Changed { text, names })
 }

@@ -4,7 +4,6 @@ ghost use Rattle.std.specs.Prelude.{◌≡◌};
 ghost use Rattle.name65.specs.NamedText.{failure_of};
 
 use crate::complaint::{Complaint, Refusal};
-use stmt65::AsmFault;
 use thiserror::Error;
 
 /// What ends the program early.
@@ -16,9 +15,6 @@ pub enum Refused {
     /// A group that begins on this line of the information file can't be followed.
     #[error("info:{0}: {1}")]
     Group(u32, Complaint),
-    /// A line of the listing of this name has a fault.
-    #[error("{0}:{1}")]
-    Line(String, AsmFault),
     /// By names the listing would have a fault on a line, or other bytes.
     #[error("by names the listing would not have the same bytes")]
     Changed,

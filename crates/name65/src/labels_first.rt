@@ -6,7 +6,8 @@
 
 ghost use Rattle.std.specs.Prelude.{◌≡◌, ◌++◌, ◌∷◌, [], IfErr, IfOk, IfSome, OnOk, map};
 ghost use Rattle.text65.specs.Lines.{text_lines};
-ghost use Rattle.name65.specs.NamedText.{MeansTheSame, Reports, listing_of};
+ghost use Rattle.files65.specs.FaultyLine.{MayReport};
+ghost use Rattle.name65.specs.NamedText.{MeansTheSame, listing_of};
 ghost use Rattle.std.specs.List.{list_all};
 ghost use Rattle.name65.specs.Reordered.{AreReordered, IsCutAt, Settles, TakesLine, blank_below, cut_text, is_before_colon, is_place, kind_of};
 
@@ -195,7 +196,7 @@ pub fn with_labels_first(
     ensures reordered { IfOk result (λ text.
         AreReordered source.now.language (text_lines source.now.text.now) text.items) }
     /// As in `named_text`.
-    ensures fault { IfErr result (Reports name.now source.now) }
+    ensures fault { IfErr result (MayReport name.now source.now) }
 {
     let assembly = assembled(&alloc, name, source)?;
     let text = reordered(alloc, source.language, source.text)?;

@@ -13,6 +13,7 @@ use std::alloc::Global;
 use stmt65::{Language, Source};
 
 /// The listing of this text by names; if that is asked for, with its labels first.
+#[tactic(auto, using(crate::proofs::ListingLemmas::written_as_it_is))]
 pub fn listing_by_names(
     alloc: Global,
     naming: &Naming,
@@ -21,17 +22,15 @@ pub fn listing_by_names(
     text: &[u8],
 ) -> Result<Vec<u8>, Failure>
     /// The text that is written is by names as `named_text` says: by all groups that were read, from the start of the
-    /// information file if there is one, with segments at their START exactly with `--fill`, and without constant lines
-    /// exactly with `--used`; exactly with `--labels-first` by the listing that `with_labels_first` makes.
+    /// information file, or else so that the last byte is at $FFFF, with segments at their START exactly with `--fill`,
+    /// and without constant lines exactly with `--used`; exactly with `--labels-first` by the listing that
+    /// `with_labels_first` makes.
     ensures { IfOk result
         (λ written. IsWritten naming.now info.now tags.now text.now written.items) }
 {
     let name = naming.names.listing.as_str();
     let layout = layout_of(alloc, info.segments(), naming.fill)?;
-    let start = match info.settings().start {
-        Some(start) => start,
-        None => start_or_end(alloc, None, &layout, text)?,
-    };
+    let start = start_or_end(alloc, info.settings().start, &layout, text)?;
     let source = Source {
         language: Language::Repair,
         layout: &layout,
@@ -39,7 +38,7 @@ pub fn listing_by_names(
         text,
     };
     if !naming.labels_first {
-        return named_text(alloc, name, &source, info, tags, naming.used);
+        return Ok(named_text(alloc, name, &source, info, tags, naming.used)?);
     }
     let first = with_labels_first(alloc, name, &source)?;
     let source = Source {

@@ -1,14 +1,16 @@
 //! The listing by names.
 
 ghost use Rattle.std.specs.Prelude.{◌≡◌, IfErr, IfOk, IsTrue, Ok};
-ghost use Rattle.stmt65.specs.Words.{meaning_in, source_addresses, source_meaning};
-ghost use Rattle.name65.specs.NamedText.{IsNamed, MeansTheSame, Reports, listing_of};
+ghost use Rattle.stmt65.specs.Words.{held_definitions, meaning_in, source_addresses, source_definitions, source_meaning};
+ghost use Rattle.files65.specs.FaultyLine.{MayReport};
+ghost use Rattle.name65.specs.NamedText.{IsNamed, MeansTheSame, listing_of};
 
 use crate::changes::changed_text;
 use crate::failure::{Failure, Refused};
+use files65::faulty_listing;
 use info65::{Info, Tag};
 use std::alloc::{AllocError, Global};
-use stmt65::{AsmFaultKind, Assembly, Source, Symbols, assemble_known, assemble_lines};
+use stmt65::{Assembly, Source, Symbols, assemble_known, assemble_lines};
 
 /// What the listing of this name means.
 pub(crate) fn assembled<'t, 'b>(
@@ -18,12 +20,13 @@ pub(crate) fn assembled<'t, 'b>(
 ) -> Result<Assembly<'t, 'b, Global>, Failure>
     ensures bytes { IfOk result (λ a. source_meaning source.now ≡ Ok a.bytes.items) }
     ensures ends { IfOk result (λ a. a.ends ≡ source_addresses source.now) }
-    ensures fault { IfErr result (Reports name.now source.now) }
+    ensures names { IfOk result (λ a. a.names
+        ≡ held_definitions (source_definitions source.now)) }
+    ensures fault { IfErr result (MayReport name.now source.now) }
 {
     match assemble_lines(alloc, source) {
         Ok(assembly) => Ok(assembly),
-        Err(fault) if fault.kind == AsmFaultKind::Memory => Err(Failure::Memory),
-        Err(fault) => Err(Failure::Own(Refused::Line(String::from_str(*alloc, name)?, fault))),
+        Err(fault) => Err(faulty_listing(*alloc, fault, name, source)),
     }
 }
 
@@ -71,16 +74,23 @@ pub fn named_text(
     /// is added or subtracted, or `TO - FROM`; in that of the address of an instruction whose first byte a group
     /// names, a name with what is added or subtracted. Each operand that a group names changes so, or nothing is
     /// written. A `.byte` all of whose operands become halves without a sign is `.lobytes` or `.hibytes`. A number of
-    /// a `.word` changes only if groups name both of its bytes. Nothing in a comment changes. Which of the names stands
-    /// there is tested, not proved.
+    /// a `.word` changes only if groups name both of its bytes. Nothing in a comment changes.
+    ///
+    /// For HALVES the name is that of the address of the pair: its own; or else that of which it is one of the
+    /// addresses of a LABEL with a SIZE; or else that of the next address, unless that is the name of a constant line
+    /// and the address is one of the image. If one address of a table has to be written by the name of the next one,
+    /// that comes first for all. Of several names of an address a label comes before a constant line, and of two of a
+    /// kind the first. For BASE the name is that of FROM, and for DIFFERENCE the names are those of TO and FROM.
     ///
     /// A constant line is left out only with `--used`. It moves after the last line if a group names its value and
     /// that is not before the end of the text: there a line defines the same name with the same value, `NAME := * +
     /// n`, with the same comment. Nothing else comes after the last line. Each other constant line stays. That no
     /// line uses a name that was left out follows from `same`: a text that uses an undefined name means nothing.
-    ensures rest { IfOk result (λ text. IsNamed (listing_of source.now) tags.now used text.items) }
-    /// If a line of the listing is reported, it is the line of the first fault, with the name of the listing.
-    ensures fault { IfErr result (Reports name.now source.now) }
+    ensures rest { IfOk result
+        (λ text. IsNamed (listing_of source.now) info.now tags.now used text.items) }
+    /// If a line of the listing is reported, it is the line of the first fault, with the name of the listing, a hint or
+    /// none, and the beginning of the line, as as65 reports it.
+    ensures fault { IfErr result (MayReport name.now source.now) }
 {
     let assembly = assembled(&alloc, name, source)?;
     let changed = changed_text(&alloc, source, &assembly, info, tags, used)?;

@@ -1,14 +1,16 @@
 //! The operands of a line, and what stands in their places.
 
-ghost use Rattle.std.specs.Prelude.{◌≡◌, IsTrue, OnOk, true};
+ghost use Rattle.std.specs.Prelude.{◌≡◌, ◌+◌, IfSome, IsTrue, OnOk, true};
 ghost use Rattle.std.specs.List.{list_all};
 ghost use Rattle.map65.specs.Words.{is_marked};
-ghost use Rattle.name65.specs.Changes.{IsValue, are_named, count_of, directive_of, is_between, may_keep, size_of};
-ghost use Rattle.name65.specs.Written.{IsNamedNumber, Replaces};
+ghost use Rattle.name65.specs.Changes.{AreHalves, IsValue, are_named, count_of, directive_of, is_between, may_keep, size_of};
+ghost use Rattle.name65.specs.NameFor.{IsHalf, reference_seen};
+ghost use Rattle.name65.specs.Written.{IsNamedNumber, Replaces, scope_seen};
 
 use crate::complaint::{Complaint, Refusal, after, need};
 use crate::marks::has_mark;
-use crate::reference::put_in_list;
+use crate::plan::Plan;
+use crate::reference::{Reference, put_in_list};
 use crate::rewriting::Run;
 use crate::wishes::{Wish, Wished, Wishes};
 use map65::Marks;
@@ -71,7 +73,7 @@ pub fn count_of(style: Style, text: &[u8]) -> u64
 }
 
 /// The wish can't be followed where it is.
-pub fn misplaced<T>(wished: Wished<'_>, address: u64) -> Result<T, Refusal> {
+pub fn misplaced<T>(wished: Wished, address: u64) -> Result<T, Refusal> {
     let address = address.min(0xFFFF) as u16;
     let complaint = match wished.wish {
         Wish::Address(_) => Complaint::NoAddress(address),
@@ -90,30 +92,64 @@ pub fn keep_free(wishes: &Wishes<'_>, from: u64, count: u64) -> Result<(), Refus
     Ok(())
 }
 
+/// The address by its name whose halves groups have at a place, low byte first.
+fn word_at<'t>(plan: &Plan<'_, 't>, group: usize, at: u64) -> Option<Reference<'t>>
+    ensures low { IfSome result (λ r. IsHalf (scope_seen plan.now).known (scope_seen plan.now).tags
+        at Half.Low (reference_seen r)) }
+    ensures high { IfSome result (λ r. IsHalf (scope_seen plan.now).known (scope_seen plan.now).tags
+        (at + 1) Half.High (reference_seen r)) }
+{
+    let next = at.checked_add(1)?;
+    let wished = plan.wishes.at(next)?;
+    let low = plan.groups.half_at(group, Half::Low, at)?;
+    let high = plan.groups.half_at(wished.group, Half::High, next)?;
+    if low.name == high.name && low.offset == high.offset {
+        Some(low)
+    } else {
+        None
+    }
+}
+
+/// The address by its name that stands in the place of an operand of a list, of which a group has this half.
+fn address_at<'t>(
+    plan: &Plan<'_, 't>,
+    style: Style,
+    half: Half,
+    group: usize,
+    at: u64,
+) -> Option<Reference<'t>>
+    ensures { IfSome result (λ r. AreHalves (scope_seen plan.now) style at half
+        (reference_seen r)) }
+{
+    match style {
+        Style::Bytes => plan.groups.half_at(group, half, at),
+        Style::Halves(half) => plan.groups.half_at(group, half, at),
+        Style::Words => word_at(plan, group, at),
+    }
+}
+
 /// What is wished of a number of a list, whose first byte is at an address.
-fn of_number<'t>(run: &Run<'_, 't>, address: u64) -> Result<Option<Wish<'t>>, Refusal> {
-    let (wishes, size) = (run.plan.wishes, run.style.size());
-    let Some(wished) = wishes.at(address) else {
-        keep_free(wishes, address, size)?;
+fn of_number(run: &Run<'_, '_>, address: u64) -> Result<Option<Wished>, Refusal> {
+    let (plan, size) = (run.plan, run.style.size());
+    let Some(wished) = plan.wishes.at(address) else {
+        keep_free(plan.wishes, address, size)?;
         return Ok(None);
     };
-    let next = address.saturating_add(1);
     match wished.wish {
-        Wish::Half(half, to)
-            if size == 1 || half == Half::Low && wishes.is_half(next, Half::High, to) => {
-            Ok(Some(wished.wish))
+        Wish::Half(half) if address_at(plan, run.style, half, wished.group, address).is_some() => {
+            Ok(Some(wished))
         }
-        Wish::Difference(_, _) if size == 2 => Ok(Some(wished.wish)),
+        Wish::Difference if size == 2 => Ok(Some(wished)),
         _ => misplaced(wished, address),
     }
 }
 
 /// Where the next operand of a list stands, whose first byte is at an address, and what is wished of it.
-pub fn next_operand<'t>(
-    run: &Run<'_, 't>,
+pub fn next_operand(
+    run: &Run<'_, '_>,
     places: &mut Places<'_>,
     address: u64,
-) -> Result<Option<(Span, Option<Wish<'t>>)>, Refusal> {
+) -> Result<Option<(Span, Option<Wished>)>, Refusal> {
     let Some(found) = places.operand() else {
         return Ok(None);
     };
@@ -182,30 +218,62 @@ fn is_named_number(item: &Run<'_, '_>) -> bool
 pub fn put_operand(
     out: &mut Vec<u8>,
     item: &Run<'_, '_>,
-    wish: Option<Wish<'_>>,
+    wished: Option<Wished>,
 ) -> Result<(), Refusal>
     ensures { OnOk result (Replaces item.now out.old.items out.new.items) }
 {
-    match (wish, item.style) {
-        (None, style) => {
-            let next = after(item.at, count_of(style, item.text))?;
-            need(style.may_keep())?;
-            need(!has_mark(item.plan.marks, item.at, next))?;
-            Ok(out.extend_from_slice(item.text)?)
-        }
-        (Some(Wish::Half(half, reference)), style) => {
-            need(is_named_number(item))?;
-            need(has_name_form(reference.name))?;
-            Ok(put_in_list(out, style, half, reference)?)
-        }
-        (Some(Wish::Difference(to, from)), Style::Words) => {
-            need(is_named_number(item))?;
-            need(has_name_form(to))?;
-            need(has_name_form(from))?;
-            out.extend_from_slice(to)?;
-            out.extend_from_slice(b" - ")?;
-            Ok(out.extend_from_slice(from)?)
-        }
+    let Some(Wished { group, wish, .. }) = wished else {
+        return put_same(out, item);
+    };
+    need(is_named_number(item))?;
+    match wish {
+        Wish::Half(half) => put_address_at(out, item, half, group),
+        Wish::Difference => put_difference(out, item, group),
         _ => Err(Refusal::Changed),
     }
+}
+
+/// Appends an operand of which no group names a byte.
+fn put_same(out: &mut Vec<u8>, item: &Run<'_, '_>) -> Result<(), Refusal>
+    ensures { OnOk result (Replaces item.now out.old.items out.new.items) }
+{
+    let next = after(item.at, count_of(item.style, item.text))?;
+    need(item.style.may_keep())?;
+    need(!has_mark(item.plan.marks, item.at, next))?;
+    Ok(out.extend_from_slice(item.text)?)
+}
+
+/// Appends the address of which a group has this half in the place of a number.
+fn put_address_at(
+    out: &mut Vec<u8>,
+    item: &Run<'_, '_>,
+    half: Half,
+    group: usize,
+) -> Result<(), Refusal>
+    requires { IsNamedNumber item.now }
+    ensures { OnOk result (Replaces item.now out.old.items out.new.items) }
+{
+    let Some(reference) = address_at(item.plan, item.style, half, group, item.at) else {
+        return Err(Refusal::Changed);
+    };
+    need(has_name_form(reference.name))?;
+    Ok(put_in_list(out, item.style, half, reference)?)
+}
+
+/// Appends the difference that a group has in the place of a word.
+fn put_difference(out: &mut Vec<u8>, item: &Run<'_, '_>, group: usize) -> Result<(), Refusal>
+    requires { IsNamedNumber item.now }
+    ensures { OnOk result (Replaces item.now out.old.items out.new.items) }
+{
+    let Style::Words = item.style else {
+        return Err(Refusal::Changed);
+    };
+    let Some((to, from)) = item.plan.groups.difference_at(group, item.at) else {
+        return Err(Refusal::Changed);
+    };
+    need(has_name_form(to))?;
+    need(has_name_form(from))?;
+    out.extend_from_slice(to)?;
+    out.extend_from_slice(b" - ")?;
+    Ok(out.extend_from_slice(from)?)
 }

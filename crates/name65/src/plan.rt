@@ -1,12 +1,13 @@
 //! What is asked of the lines of a listing.
 
+use crate::groups::Groups;
 use crate::wishes::Wishes;
 use map65::Marks;
 use std::alloc::Global;
 use stmt65::Language;
 
 /// The language of the lines, which addresses groups name, whether the constant lines of unused names are left out, the
-/// address after the last line, and what groups wish.
+/// address after the last line, the groups, and what they wish.
 #[derive(Clone, Copy)]
 pub struct Plan<'w, 't> {
     pub alloc: Global,
@@ -14,6 +15,7 @@ pub struct Plan<'w, 't> {
     pub marks: &'w Marks,
     pub used: bool,
     pub last: u64,
+    pub groups: &'w Groups<'w, 't>,
     pub wishes: &'w Wishes<'t>,
 }
 

@@ -4,6 +4,7 @@ use info65::{Tag, TagKind};
 use map65::Marks;
 use reach65::rules::Steps;
 use reach65::rules::bytes::bases::{Base, bases_of};
+use reach65::rules::bytes::cells::{Cell, cells_of};
 use reach65::rules::bytes::copies::{Copied, copies_of};
 use reach65::rules::bytes::ground::Ground;
 use reach65::rules::bytes::items::items_of;
@@ -14,11 +15,11 @@ use reach65::rules::bytes::pointers::mark_pointers;
 use reach65::rules::bytes::rows::{mark_rows, words_of};
 use reach65::rules::bytes::survey::Survey;
 use reach65::rules::bytes::tables::{Split, mark_tables};
+use reach65::rules::bytes::threads::mark_threads;
 use reach65::rules::bytes::variables::{Variables, variables_of};
-use reach65::rules::entries::declared::declared_of;
+use reach65::rules::entries::declared::{declared_of, said_places};
 use reach65::rules::entries::growth::{Followed, follow};
 use reach65::rules::entries::halves::{Halves, Pair, halves_of};
-use reach65::rules::entries::readers::{PATIENCE, Table};
 use reach65::rules::entries::starts::entries_of;
 use reach65::rules::image::ends;
 use std::alloc::{AllocError, Global};
@@ -38,6 +39,36 @@ pub struct Reach<'a> {
     pub followed: &'a Followed,
 }
 
+/// What the bytes are that nothing speaks for.
+#[derive(Drop)]
+pub struct Data<'a> {
+    /// What nothing speaks for, with the words among it.
+    pub ground: Ground<'a>,
+    /// Where words begin that may be addresses of routines and names.
+    pub words: Vec<u16>,
+    /// Where words begin to whose routines nothing else leads.
+    pub orphans: Vec<u16>,
+    /// The tables of halves.
+    pub splits: Vec<Split>,
+    /// The halves of the information file.
+    pub declared: Vec<Split>,
+    /// The words that are copied to pointers.
+    pub cells: Vec<Cell>,
+}
+
+/// The addresses that reached code has otherwise than by operands in the image.
+#[derive(Drop)]
+pub struct Addresses {
+    /// The variables after the image.
+    pub variables: Variables,
+    /// The code that is copied and runs elsewhere.
+    pub copies: Vec<Copied>,
+    /// The addresses in halves.
+    pub pairs: Vec<Pair>,
+    /// Those that may be one.
+    pub likely: Vec<Pair>,
+}
+
 /// What is found of an image.
 #[derive(Drop)]
 pub struct Advice<'a> {
@@ -45,24 +76,10 @@ pub struct Advice<'a> {
     pub reach: Reach<'a>,
     /// What reached instructions do with addresses.
     pub survey: Survey<'a>,
-    /// What nothing speaks for, with the words among it.
-    pub ground: Ground<'a>,
-    /// Where words begin that may be addresses of routines and names.
-    pub words: Vec<u16>,
-    /// The addresses in halves.
-    pub pairs: Vec<Pair>,
-    /// Those that may be one.
-    pub likely: Vec<Pair>,
-    /// The tables of halves.
-    pub splits: Vec<Split>,
-    /// The halves of the information file.
-    pub declared: Vec<Split>,
-    /// The code that is copied and runs elsewhere.
-    pub copies: Vec<Copied>,
+    pub addresses: Addresses,
+    pub data: Data<'a>,
     /// The operands that are likely counted from a table behind them.
     pub bases: Vec<Base>,
-    /// The variables after the image.
-    pub variables: Variables,
     /// The addresses that get labels.
     pub labels: Vec<u16>,
 }
@@ -84,105 +101,115 @@ pub fn followed(steps: &Steps<'_>, given: &[u16], plain: bool) -> Result<Followe
     follow(steps, &entries_of(steps, given, plain)?, plain)
 }
 
-/// The places of the bytes that groups HALVES and NUMBER of the information file have.
-fn said_places(alloc: Global, tags: &[Tag]) -> Result<Marks, AllocError> {
-    let mut marks = Marks::none(alloc)?;
-    for tag in tags {
-        if let (TagKind::Number, Some(address)) = (tag.kind, tag.address) {
-            marks.set(address);
-        }
-        if tag.kind == TagKind::Halves {
-            for first in [tag.low, tag.high] {
-                if let Some(first) = first {
-                    let from = usize::from(first);
-                    marks.set_span(from, from + usize::from(tag.size.unwrap_or(1)));
-                }
-            }
-        }
-    }
-    Ok(marks)
-}
-
 /// The addresses that nothing speaks for, with the words and halves of tables among them, and the tables of halves.
 fn ground_of<'a>(
     survey: &Survey<'a>,
     reach: Reach<'a>,
     said: &Marks,
-    tables: &[Table],
 ) -> Result<(Ground<'a>, Vec<Split>), AllocError> {
     let alloc = survey.steps.alloc();
     let numbers = said.copy(alloc)?;
     let texts = survey.texts.copy(alloc)?;
     let mut ground = Ground::of(alloc, survey.steps.image(), reach.taken, numbers, texts)?;
     ground.put_vectors(reach.reached);
-    let splits = mark_tables(&mut ground, survey, tables)?;
+    let splits = mark_tables(&mut ground, survey, &reach.followed.tables)?;
     for &at in &reach.followed.words {
         ground.put_word(usize::from(at));
+    }
+    if !reach.followed.words.is_empty() {
+        mark_threads(&mut ground, survey);
     }
     Ok((ground, splits))
 }
 
-/// The pairs of halves, whose addresses lie in the image or little behind the last of these
-/// variables. None is at a place that `said` has.
+impl<'a> Data<'a> {
+    /// Looks at the bytes that nothing speaks for. Code has the addresses of these pairs.
+    fn of(
+        survey: &Survey<'a>,
+        reach: Reach<'a>,
+        said: &Marks,
+        pairs: &[Pair],
+    ) -> Result<Data<'a>, AllocError> {
+        let declared = declared_of(survey.steps, &reach.followed.tables)?;
+        let (mut ground, splits) = ground_of(survey, reach, said)?;
+        let words = words_of(&ground, survey)?;
+        mark_rows(&mut ground, survey, &words);
+        mark_loaded(&mut ground, survey)?;
+        mark_calls(&mut ground, survey);
+        mark_pointers(survey.steps.alloc(), &mut ground)?;
+        let orphans = mark_orphans(&mut ground, survey, pairs, &words)?;
+        let cells = cells_of(&ground, survey)?;
+        Ok(Data {
+            ground,
+            words,
+            orphans,
+            splits,
+            declared,
+            cells,
+        })
+    }
+}
+
+/// The pairs of halves, whose addresses lie in the image or little behind the last of these variables, or of those that
+/// may be some. None is at a place that `said` has.
 fn pairs_of(
     survey: &Survey<'_>,
     taken: &Marks,
     said: Marks,
-    variables: &[u16],
+    variables: &Variables,
 ) -> Result<Halves, AllocError> {
     let (_, end) = ends(survey.steps.image());
-    let behind = variables.last().map_or(end, |last| usize::from(*last));
     let items = items_of(survey, taken)?;
-    halves_of(survey, &items, said, behind.saturating_add(PAGE))
+    let behind = |addresses: &[u16]| {
+        let last = addresses.last().map_or(end, |last| usize::from(*last));
+        last.saturating_add(PAGE)
+    };
+    let limit = behind(&variables.addresses);
+    let most = limit.max(behind(&variables.beyond));
+    halves_of(survey, &items, said, (limit, most))
+}
+
+impl Addresses {
+    /// Looks for the addresses that reached code has. No pair is at a place that `said` has.
+    fn of(survey: &Survey<'_>, taken: &Marks, said: &Marks) -> Result<Addresses, AllocError> {
+        let variables = variables_of(survey)?;
+        let copies = copies_of(survey)?;
+        let said = said.copy(survey.steps.alloc())?;
+        let Halves { mut sure, likely } = pairs_of(survey, taken, said, &variables)?;
+        sure.retain(|pair| !copies.iter().any(|copied| copied.hides(pair.low)));
+        Ok(Addresses {
+            variables,
+            copies,
+            pairs: sure,
+            likely,
+        })
+    }
 }
 
 impl<'a> Advice<'a> {
     /// Looks at an image of which this is reached.
     pub fn of(steps: &'a Steps<'a>, reach: Reach<'a>) -> Result<Advice<'a>, AllocError> {
-        let survey = Survey::of(steps, reach.reached, reach.code)?;
         let said = said_places(steps.alloc(), steps.tags())?;
-        let readers = &reach.followed.readers;
-        let mut left = PATIENCE;
-        let tables = readers.tables(steps, reach.reached, reach.code, &mut left)?;
-        let declared = declared_of(steps, &tables)?;
-        let (mut ground, splits) = ground_of(&survey, reach, &said, &tables)?;
-        let words = words_of(&ground, &survey)?;
-        mark_rows(&mut ground, &survey, &words);
-        let variables = variables_of(&survey)?;
-        let copies = copies_of(&survey)?;
-        let Halves { mut sure, likely } = pairs_of(
-            &survey,
-            reach.taken,
-            said,
-            &variables.addresses,
-        )?;
-        sure.retain(|pair| !copies.iter().any(|copied| copied.hides(pair.low)));
-        mark_loaded(&mut ground, &survey)?;
-        mark_calls(&mut ground, &survey);
-        mark_pointers(steps.alloc(), &mut ground)?;
-        mark_orphans(&mut ground, &survey, &sure, &words)?;
+        let survey = Survey::of(steps, reach.reached, reach.code)?;
+        let addresses = Addresses::of(&survey, reach.taken, &said)?;
+        let data = Data::of(&survey, reach, &said, &addresses.pairs)?;
         let mut bases = bases_of(&survey)?;
+        let copies = &addresses.copies;
         bases.retain(|base| !copies.iter().any(|copied| copied.reader == base.reader));
         let labels = labels_of(
             &survey,
-            &sure,
-            &variables.addresses,
+            &addresses.pairs,
+            &addresses.variables.addresses,
             &bases,
-            [&splits, &declared],
+            [&data.splits, &data.declared],
         )?;
         Ok(Advice {
             steps,
             reach,
             survey,
-            ground,
-            words,
-            pairs: sure,
-            likely,
-            splits,
-            declared,
-            copies,
+            addresses,
+            data,
             bases,
-            variables,
             labels,
         })
     }

@@ -32,8 +32,7 @@ pub fn information(rt: &HostRuntime, options: &Options, bytes: &[u8]) -> Result<
 
 /// The failure for a fault of the image.
 fn image_failure(fault: ImageFault) -> Failure
-    /// A fault of the image ends the program as that fault; those of the command line and of a file are kept too
-    /// (`files65`).
+    /// A fault of the image is reported as that fault.
     ensures { result ≡ Own (Refused.Image fault) }
 {
     Failure::Own(Refused::Image(fault))

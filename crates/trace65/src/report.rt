@@ -4,10 +4,10 @@ ghost use Rattle.std.specs.Prelude.{◌≡◌, ◌++◌, ℕ, List, IfOk, Ok, On
 ghost use Rattle.info65.specs.Words.{Adds, information};
 ghost use Rattle.map65.specs.Words.{is_marked};
 ghost use Rattle.reach65.specs.Words.{AreInOrder, HaveAllFree, LieIn};
-ghost use Rattle.trace65.specs.Words.{AreFindings, AreSkips, Begins, HaveTheRest, IsAccepted, IsReadBack, IsWritten, after_file, flow_of, proposals, proposed_ranges, unshown_lines};
+ghost use Rattle.trace65.specs.Words.{AreFindings, AreSkips, Begins, HasGroups, HaveTheRest, IsAccepted, IsReadBack, IsWritten, after_file, flow_of, proposals, proposed_ranges, unshown_lines};
 
 use crate::advice::{Advice, Reach, followed, given_entries};
-use crate::check::read_back;
+use crate::check::{need_groups, read_back};
 use crate::failure::Failure;
 use crate::request::Tracing;
 use crate::skips::skips_of;
@@ -94,7 +94,7 @@ fn propose_from<'a>(
         AreSkips steps.entry.now.map reach.entry.reached.now p.skips.items) }
 {
     let advice = Advice::of(steps, reach)?;
-    let pieces = Pieces::of(steps.alloc(), &advice.ground)?;
+    let pieces = Pieces::of(steps.alloc(), &advice.data.ground)?;
     let ranges = ranges_by(steps, reach.taken, &pieces)?;
     let skips = skips_of(steps.alloc(), steps, reach.reached, &advice.survey.skips)?;
     let text = text_of(&advice, given, &ranges, &skips)?;
@@ -247,6 +247,9 @@ pub fn report_of(
     /// the addresses that the comments `# no item of its own: ..` name. They name exactly those, in order
     /// (`shown`).
     ensures accepted { IfOk result (IsAccepted tracing.now.options file.now map.now) }
+    /// The groups in the lines `#: ..` of the information file, followed by everything that is added to it, are read
+    /// by `read_tags` without a fault.
+    ensures tagged { IfOk result (HasGroups file.now) }
     /// What is written is the information file, if `--whole` asks for it, then what is found, and then these
     /// comments.
     ensures written { IfOk result (IsWritten tracing.now.whole file.now) }
@@ -254,6 +257,7 @@ pub fn report_of(
     let steps = Steps::of(alloc, map, file.tags)?;
     let found = find(alloc, &steps, tracing)?;
     let (unshown, text) = unshown_with(alloc, &tracing.options, file, &steps, &found)?;
+    need_groups(alloc, &text)?;
     let text = written(alloc, tracing.whole, file, text)?;
     Ok(Report {
         found,

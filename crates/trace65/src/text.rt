@@ -79,6 +79,8 @@ impl<'a> Text<'a> {
         self.put_likely()?;
         self.put_pointers()?;
         self.put_words()?;
+        self.put_firsts()?;
+        self.put_cells()?;
         self.put_bases()?;
         self.put_digits()?;
         self.put_unreached()?;

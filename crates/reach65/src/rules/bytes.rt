@@ -4,6 +4,7 @@
 //! - `skips`: the opcodes that hide an instruction.
 //! - `ground`: the addresses that nothing speaks for.
 //! - `tables`: the words and halves that reached code reads by an index.
+//! - `threads`: the words of threaded code.
 //! - `rows`: the words in rows that are addresses of routines.
 //! - `variables`: those right after the image.
 //! - `items`: which instructions are listed, for the pairs of halves that are sure.
@@ -11,11 +12,13 @@
 //! - `pointers`: the words in rows that are addresses of texts.
 //! - `orphans`: the words to whose routines nothing else leads.
 //! - `copies`: the code that is copied and runs elsewhere.
+//! - `cells`: the words that are copied to pointers.
 //! - `bases`: the operands that are counted from a table behind them.
 //! - `labels`: the addresses that get labels.
 //! - `pieces`: what is left, cut into pieces. `texts` says which are texts.
 
 pub mod bases;
+pub mod cells;
 pub mod copies;
 pub mod ground;
 pub mod items;
@@ -29,4 +32,5 @@ pub mod skips;
 pub mod survey;
 pub mod tables;
 pub mod texts;
+pub mod threads;
 pub mod variables;

@@ -2,7 +2,9 @@
 
 ghost use Rattle.std.specs.Prelude.{◌≤◌};
 
-use map65::{ADDRESSES, Image};
+use info65::Info;
+use map65::{ADDRESSES, Image, Marks};
+use std::alloc::{AllocError, Global};
 
 /// Returns the byte at the address, if that lies in the image.
 pub fn byte(image: &Image, at: usize) -> Option<u8> {
@@ -33,6 +35,15 @@ pub fn ends(image: &Image) -> (usize, usize)
     let start = usize::from(image.start());
     let end = start.saturating_add(image.bytes().len());
     (start, end.min(ADDRESSES))
+}
+
+/// Returns marks of what the ranges of the information file have.
+pub fn given(alloc: Global, info: &Info) -> Result<Marks, AllocError> {
+    let mut marks = Marks::none(alloc)?;
+    for range in info.ranges() {
+        marks.set_span(usize::from(range.first), usize::from(range.last) + 1);
+    }
+    Ok(marks)
 }
 
 /// Returns the address, if it is at most $FFFF.

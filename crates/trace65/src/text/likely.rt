@@ -1,5 +1,5 @@
-//! Comments for words in data that are likely addresses, and for operands that are
-//! likely counted from a table behind them.
+//! Comments for words in data that are likely addresses, also the first ones of data whose address code has in halves,
+//! and for operands that are likely counted from a table behind them.
 
 use crate::advice::Advice;
 use crate::text::Text;
@@ -21,7 +21,7 @@ impl Text<'_> {
     /// not reached. Returns whether it is.
     fn put_call(&mut self, at: u16, word: u16) -> Result<bool, AllocError> {
         let before = at.saturating_sub(1);
-        let ground = &self.advice.ground;
+        let ground = &self.advice.data.ground;
         if !ground.is_plain(usize::from(before)) {
             return Ok(false);
         }
@@ -40,8 +40,8 @@ impl Text<'_> {
     /// differ, and no row of words has them.
     pub fn put_words(&mut self) -> Result<(), AllocError> {
         let advice = self.advice;
-        for &at in &advice.words {
-            if let Some(word) = advice.ground.word(usize::from(at))
+        for &at in &advice.data.words {
+            if let Some(word) = advice.data.ground.word(usize::from(at))
                 && word / 256 != word % 256
                 && is_meant(advice, word)
                 && !self.put_call(at, word)?
@@ -51,6 +51,46 @@ impl Text<'_> {
                 self.put_name(word)?;
                 self.put(b": AddrTable?\n")?;
             }
+        }
+        Ok(())
+    }
+
+    /// Adds a comment for the first word of data whose address is that of a pair, if it is where other data begins:
+    /// that is an operand or the address of a pair, or stands right behind a zero byte.
+    pub fn put_firsts(&mut self) -> Result<(), AllocError> {
+        let advice = self.advice;
+        let ground = &advice.data.ground;
+        let mut firsts = Vec::new(advice.steps.alloc());
+        for pair in &advice.addresses.pairs {
+            firsts.push((pair.address, pair.low.min(pair.high).saturating_sub(1)))?;
+        }
+        firsts.sort()?;
+        firsts.dedup_by_key(|first| first.0);
+        for &(at, reader) in &firsts {
+            let Some(word) = ground.word(usize::from(at)) else {
+                continue;
+            };
+            let is_first = firsts.binary_search_by_key(&word, |first| first.0).is_ok()
+                || advice.survey.operands.get(word)
+                || byte(ground.image, usize::from(word).saturating_sub(1)) == Some(0);
+            if is_first && ground.is_plain(usize::from(word)) && !is_meant(advice, word) {
+                self.put_address(b"# the word at $", at)?;
+                self.put_address(b" is $", word)?;
+                self.put_address(b", the first of the data that $", reader)?;
+                self.put(b" loads: AddrTable?\n")?;
+            }
+        }
+        Ok(())
+    }
+
+    /// Adds a comment for each word that is copied to a pointer.
+    pub fn put_cells(&mut self) -> Result<(), AllocError> {
+        for cell in &self.advice.data.cells {
+            self.put_address(b"# the word at $", cell.place)?;
+            self.put_address(b" is $", cell.address)?;
+            self.put_address(b", which $", cell.reader)?;
+            self.put_address(b" copies to the pointer $", cell.pointer)?;
+            self.put(b": AddrTable?\n")?;
         }
         Ok(())
     }

@@ -75,7 +75,7 @@ impl Text<'_> {
     pub fn put_copies(&mut self) -> Result<(), AllocError> {
         let map = self.advice.steps.map();
         let before = map.info().settings().offset as usize;
-        for copied in &self.advice.copies {
+        for copied in &self.advice.addresses.copies {
             let inside = copied.from.saturating_sub(map.image().start());
             let offset = before.saturating_add(usize::from(inside));
             self.put_address(b"# code from $", copied.from)?;
@@ -113,7 +113,7 @@ impl Text<'_> {
         let advice = self.advice;
         let (mut told, mut left) = (0usize, ADDRESSES);
         let end = self.last_end();
-        for split in &advice.declared {
+        for split in &advice.data.declared {
             let count = split.count.min(left);
             left = left.saturating_sub(count);
             let image = advice.steps.image();

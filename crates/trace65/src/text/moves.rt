@@ -6,6 +6,12 @@ use info65::TagKind;
 use reach65::rules::image::ends;
 use std::alloc::AllocError;
 
+/// How many instructions that have far operands are told.
+const TOLD: usize = 256;
+
+/// How many of them stand in a line.
+const IN_LINE: usize = 12;
+
 impl Text<'_> {
     /// Adds the lines of the labels, with their default names.
     pub fn put_labels(&mut self) -> Result<(), AllocError> {
@@ -19,7 +25,7 @@ impl Text<'_> {
 
     /// Adds a line for each pair.
     pub fn put_pairs(&mut self) -> Result<(), AllocError> {
-        for pair in &self.advice.pairs {
+        for pair in &self.advice.addresses.pairs {
             let meant = pair.address.saturating_add(pair.less);
             self.put_address(b"#: HALVES { LOW $", pair.low)?;
             self.put_address(b"; HIGH $", pair.high)?;
@@ -35,7 +41,7 @@ impl Text<'_> {
 
     /// Adds a comment for each pair that may be an address.
     pub fn put_likely(&mut self) -> Result<(), AllocError> {
-        for pair in &self.advice.likely {
+        for pair in &self.advice.addresses.likely {
             self.put_address(b"# the bytes at $", pair.low)?;
             self.put_address(b" and $", pair.high)?;
             self.put_address(b" are $", pair.address)?;
@@ -47,7 +53,7 @@ impl Text<'_> {
 
     /// Adds a line for each two tables of halves.
     pub fn put_splits(&mut self) -> Result<(), AllocError> {
-        for split in &self.advice.splits {
+        for split in &self.advice.data.splits {
             self.put_address(b"#: HALVES { LOW $", split.table.low)?;
             self.put_address(b"; HIGH $", split.table.high)?;
             self.put_decimal(b"; SIZE ", split.count)?;
@@ -60,8 +66,14 @@ impl Text<'_> {
     /// lies there, and unless the file says it.
     pub fn put_after(&mut self) -> Result<(), AllocError> {
         let advice = self.advice;
-        let mut last = advice.variables.addresses.last().copied().unwrap_or(0);
-        for pair in &advice.pairs {
+        let mut last = advice
+            .addresses
+            .variables
+            .addresses
+            .last()
+            .copied()
+            .unwrap_or(0);
+        for pair in &advice.addresses.pairs {
             last = last.max(pair.address);
         }
         let (_, end) = ends(advice.steps.image());
@@ -74,28 +86,56 @@ impl Text<'_> {
         self.put(b"; };\n")
     }
 
-    /// Adds a comment for operands that lie far behind the image, if they may be variables of it, unless the file says
-    /// what lies there.
+    /// Adds a comment for operands that lie far behind the image or its variables, if they may be some of it, with the
+    /// instructions that have them, unless the file says what lies there.
     pub fn put_far(&mut self) -> Result<(), AllocError> {
-        let far = &self.advice.variables.far;
-        let tags = self.advice.steps.tags();
-        if tags.iter().any(|tag| tag.kind == TagKind::After) {
+        let advice = self.advice;
+        let (_, end) = ends(advice.steps.image());
+        let tags = advice.steps.tags();
+        let said = tags.iter().filter(|tag| tag.kind == TagKind::After);
+        let said = said.filter_map(|tag| tag.last).max();
+        let variables = &advice.addresses.variables;
+        if said.is_none() {
+            self.put_operands(&variables.far, end, b" bytes after the image")?;
+        }
+        let last = variables.addresses.last().or(variables.far.last()).copied();
+        let behind = last
+            .max(said)
+            .map_or(end, |last| usize::from(last).saturating_add(1));
+        let known = variables
+            .beyond
+            .partition_point(|at| usize::from(*at) < behind);
+        let beyond = variables.beyond.get(known..).unwrap_or(&[]);
+        self.put_operands(beyond, behind, b" bytes after the variables")
+    }
+
+    /// Adds a comment for these operands, which begin behind this end, and lines with the instructions that have them.
+    fn put_operands(&mut self, far: &[u16], end: usize, what: &[u8]) -> Result<(), AllocError> {
+        let (Some(&first), Some(&last)) = (far.first(), far.last()) else {
             return Ok(());
+        };
+        let advice = self.advice;
+        self.put_address(b"# the operands $", first)?;
+        self.put_address(b" to $", last)?;
+        self.put_decimal(b" lie ", usize::from(first).saturating_sub(end))?;
+        self.put(what)?;
+        let (_, end) = ends(advice.steps.image());
+        put_address(&mut self.out, b": AFTER { START $", end)?;
+        self.put_address(b"; END $", last)?;
+        self.put(b"; }?")?;
+        let mut count = 0usize;
+        for &at in &advice.survey.users {
+            let operand = advice.steps.at(at).and_then(|step| step.operand);
+            if count < TOLD && operand.is_some_and(|operand| far.binary_search(&operand).is_ok()) {
+                self.put(if count % IN_LINE == 0 {
+                    b"\n#  used by"
+                } else {
+                    b""
+                })?;
+                self.put_address(b" $", at)?;
+                count = count.saturating_add(1);
+            }
         }
-        if let (Some(&first), Some(&last)) = (far.first(), far.last()) {
-            let (_, end) = ends(self.advice.steps.image());
-            let gap = usize::from(first).saturating_sub(end);
-            self.put_address(b"# the operands $", first)?;
-            self.put_address(b" to $", last)?;
-            self.put_decimal(b" lie ", gap)?;
-            put_address(
-                &mut self.out,
-                b" bytes after the image: AFTER { START $",
-                end,
-            )?;
-            self.put_address(b"; END $", last)?;
-            self.put(b"; }?\n")?;
-        }
-        Ok(())
+        self.put(b"\n")
     }
 }

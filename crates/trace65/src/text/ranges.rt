@@ -1,8 +1,9 @@
 //! The lines of the ranges that are proposed: each is a group, with the bytes of the range as a comment.
 
 use crate::text::Text;
-use info65::RangeType;
+use info65::{RangeSpec, RangeType};
 use reach65::rules::bytes::texts::Alphabet;
+use reach65::rules::image::word;
 use std::alloc::AllocError;
 
 /// How many bytes of a range are shown.
@@ -81,7 +82,23 @@ impl Text<'_> {
             self.put(type_text(range.role).as_bytes())?;
             self.put(b"; }; # ")?;
             self.put_bytes(range.role, self.bytes(range))?;
+            self.put_orphans(range)?;
             self.put(b"\n")?;
+        }
+        Ok(())
+    }
+
+    /// Adds which words of the range are all that leads to their routines.
+    fn put_orphans(&mut self, range: RangeSpec) -> Result<(), AllocError> {
+        let advice = self.advice;
+        let first = advice.data.orphans.partition_point(|at| *at < range.first);
+        for &at in advice.data.orphans.get(first..).unwrap_or(&[]) {
+            if range.last < at {
+                break;
+            }
+            self.put_address(b"; only the word at $", at)?;
+            let to = word(advice.data.ground.image, usize::from(at)).unwrap_or(0);
+            self.put_address(b" leads to $", to)?;
         }
         Ok(())
     }

@@ -55,12 +55,17 @@ fn uses_of(advice: &Advice<'_>) -> Result<Vec<Use>, AllocError> {
             }
         }
     }
-    for pair in advice.pairs.iter().chain(&advice.likely) {
+    for pair in advice
+        .addresses
+        .pairs
+        .iter()
+        .chain(&advice.addresses.likely)
+    {
         let at = pair.low.min(pair.high).saturating_sub(1);
         found.push((pair.address, Way::Loads, at))?;
         found.push((pair.address.saturating_add(1), Way::Loads, at))?;
     }
-    for splits in [&advice.splits, &advice.declared] {
+    for splits in [&advice.data.splits, &advice.data.declared] {
         for &label in &addresses_of(steps, splits)? {
             found.push((label, Way::Named, label))?;
         }

@@ -12,6 +12,9 @@ use std::alloc::AllocError;
 /// How many addresses get a comment.
 const MOST: usize = 16;
 
+/// How many instructions of a way are looked at.
+const WAY: usize = 1024;
+
 /// The table of a range, whose words are so much less than the addresses.
 fn table_of(range: RangeSpec, less: u16) -> Split {
     Split {
@@ -25,7 +28,7 @@ impl Text<'_> {
     /// it shares a byte with other code.
     fn put_reason(&mut self, address: u16) -> Result<(), AllocError> {
         let mut at = address;
-        for _ in 0..ADDRESSES {
+        for _ in 0..WAY {
             let Some(step) = self.advice.steps.at(at) else {
                 return self.put_address(b"undefined opcode at $", at);
             };
@@ -81,7 +84,7 @@ impl Text<'_> {
             }
         }
         let (mut left, mut entries) = (MOST, ADDRESSES);
-        for &split in &advice.declared {
+        for &split in &advice.data.declared {
             entries = entries.saturating_sub(split.count);
             if split.table.is_code && 1 < split.count && 0 < entries {
                 self.put_table(split, &mut left)?;

@@ -41,7 +41,7 @@ impl Text<'_> {
             let Some(step) = address(at).and_then(|address| advice.steps.at(address)) else {
                 break;
             };
-            if step.op.mnemonic == Brk || !advice.ground.is_free(at) || *left == 0 {
+            if step.op.mnemonic == Brk || !advice.data.ground.is_free(at) || *left == 0 {
                 break;
             }
             *left -= 1;
@@ -114,7 +114,7 @@ impl Text<'_> {
             let blank = usize::from(matches!(byte(image, at.saturating_add(1)), Some(0x20 | 0x28)));
             let from = at.saturating_add(1).saturating_add(blank);
             let (number, behind) = self.number(from);
-            if advice.ground.is_free(at)
+            if advice.data.ground.is_free(at)
                 && let (Some(to), Some(first)) = (address(number), address(from))
                 && let Some(last) = address(behind.saturating_sub(1))
                 && advice.survey.reached.get(to)

@@ -34,8 +34,8 @@ impl Copied {
     }
 }
 
-/// The address from which the instruction loads with an index, and that to which the one behind it stores.
-fn moved(survey: &Survey<'_>, load: Placed<'_>) -> Option<(u16, u16)> {
+/// Returns the address from which the instruction loads with an index, and that to which the one behind it stores.
+pub fn moved(survey: &Survey<'_>, load: Placed<'_>) -> Option<(u16, u16)> {
     let store = survey.steps.behind(survey.reached, load)?;
     if (load.step.op.mnemonic, store.step.op.mnemonic) != (Mnemonic::Lda, Mnemonic::Sta) {
         return None;
@@ -48,9 +48,9 @@ fn moved(survey: &Survey<'_>, load: Placed<'_>) -> Option<(u16, u16)> {
     Some((load.step.operand?, to))
 }
 
-/// How many bytes the loop copies in which the instruction loads: an index counts down from a number right before it,
-/// or up to one that is compared in the next four instructions, or else all.
-fn len_of(survey: &Survey<'_>, load: Placed<'_>) -> u16 {
+/// Returns how many bytes the loop copies in which the instruction loads: an index counts down from a number right
+/// before it, or up to one that is compared in the next four instructions, or else all.
+pub fn len_of(survey: &Survey<'_>, load: Placed<'_>) -> u16 {
     let (steps, reached) = (survey.steps, survey.reached);
     let before = steps.marked(reached, load.at.saturating_sub(2));
     if let Some(first) = before

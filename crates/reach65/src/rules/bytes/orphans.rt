@@ -1,14 +1,21 @@
-//! Routines to which nothing leads but a word of data.
+//! Routines to which nothing leads but a word of data, which no text has.
 
 use crate::rules::bytes::ground::Ground;
 use crate::rules::bytes::survey::Survey;
+use crate::rules::bytes::texts::Alphabet;
 use crate::rules::entries::halves::Pair;
-use crate::rules::image::{ends, word};
+use crate::rules::image::{address, byte, bytes_at, ends, word};
 use map65::Marks;
 use std::alloc::AllocError;
 
 /// How many words may have the address of one routine.
 const MOST: usize = 2;
+
+/// How many characters before and behind a word are looked at.
+const LOOKED: usize = 16;
+
+/// How many characters a text has that is rather one than words: the high bytes of addresses are often characters.
+const TEXT: usize = 10;
 
 /// Marks the address, and the one after it.
 fn set_two(marks: &mut Marks, address: u16) {
@@ -40,14 +47,33 @@ fn is_unled(survey: &Survey<'_>, address: u16) -> bool {
         && !survey.goals.get(address)
 }
 
+/// Whether a text of ASCII, of ten characters at least, has both bytes at the address, and they are not behind the
+/// opcode of a call or a jump.
+fn is_in_text(ground: &Ground<'_>, at: usize) -> bool {
+    if matches!(byte(ground.image, at.saturating_sub(1)), Some(0x20 | 0x4C)) {
+        return false;
+    }
+    let mut first = at;
+    for _ in 0..LOOKED {
+        let before = first.saturating_sub(1);
+        let is_char = byte(ground.image, before).is_some_and(|it| Alphabet::Ascii.is_char(it));
+        if !is_char || !ground.is_plain(before) {
+            break;
+        }
+        first = before;
+    }
+    let len = Alphabet::Ascii.text_len(bytes_at(ground.image, first, 2 * LOOKED));
+    TEXT <= len && at.saturating_add(1) < first.saturating_add(len)
+}
+
 /// Marks the words of data that are the address of a reached routine to which nothing else refers, where two words at
-/// most are it. `words` has where such words may begin.
+/// most are it, and no text has them. Returns where they begin, in order. `words` has where such words may begin.
 pub fn mark_orphans(
     ground: &mut Ground<'_>,
     survey: &Survey<'_>,
     pairs: &[Pair],
     words: &[u16],
-) -> Result<(), AllocError> {
+) -> Result<Vec<u16>, AllocError> {
     let start = ground.image.start();
     let mut found = Vec::new(survey.steps.alloc());
     for &first in words {
@@ -59,8 +85,9 @@ pub fn mark_orphans(
             found.push((word, at))?;
         }
     }
+    let mut marked = Vec::new(survey.steps.alloc());
     if found.is_empty() {
-        return Ok(());
+        return Ok(marked);
     }
     let referred = referred(ground, survey, pairs)?;
     found.sort()?;
@@ -69,10 +96,16 @@ pub fn mark_orphans(
             continue;
         }
         for &(word, at) in same {
-            if !referred.get(word) && ground.word(at).is_some() {
+            if let Some(first) = address(at)
+                && !referred.get(word)
+                && ground.word(at).is_some()
+                && !is_in_text(ground, at)
+            {
                 ground.put_words(0, at, at.saturating_add(2));
+                marked.push(first)?;
             }
         }
     }
-    Ok(())
+    marked.sort()?;
+    Ok(marked)
 }

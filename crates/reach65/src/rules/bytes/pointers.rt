@@ -46,7 +46,7 @@ fn begins_any(here: u8, before: u8, second: u8) -> bool {
 struct Beginnings {
     /// Those of five characters or more.
     texts: Marks,
-    /// Those behind the end of another one, of any length.
+    /// These, and those behind the end of another one, of any length.
     any: Marks,
     /// Whether there are any.
     has_any: bool,
@@ -68,6 +68,7 @@ fn text_beginnings(alloc: Global, ground: &Ground<'_>) -> Result<Beginnings, All
         {
             if here != before && begins_text(ground.image, at, before, here) {
                 found.texts.set(address);
+                found.any.set(address);
                 found.has_any = true;
             }
             if begins_any(here, before, second) && start < at {

@@ -1,12 +1,15 @@
 //! Opcodes that hide an instruction: code is reached in the operand of a reached `bit`, or of a load or a comparison
 //! with a number, and ends where that operand ends. Not one whose operand is an address that other code uses, or that
-//! has a name, and none in a range of the information file.
+//! has a name, and none in a range of the information file. If there are more than 4,096, none counts.
 
 use crate::rules::entries::sound::hides;
-use crate::rules::image::{address, ends};
+use crate::rules::image::{address, ends, given};
 use crate::rules::{Placed, Steps};
 use map65::Marks;
 use std::alloc::AllocError;
+
+/// How many there may be. Few programs have so many, and the text of more gets too long.
+const MOST: usize = 4096;
 
 /// Whether reached instructions fill the operand of this one.
 fn is_filled(steps: &Steps<'_>, reached: &Marks, outer: Placed<'_>) -> bool {
@@ -38,15 +41,6 @@ fn used(steps: &Steps<'_>, reached: &Marks, outers: &[u16]) -> Result<Marks, All
     Ok(marks)
 }
 
-/// Marks of what the ranges of the information file have.
-fn given(steps: &Steps<'_>) -> Result<Marks, AllocError> {
-    let mut marks = Marks::none(steps.alloc())?;
-    for range in steps.map().info().ranges() {
-        marks.set_span(usize::from(range.first), usize::from(range.last) + 1);
-    }
-    Ok(marks)
-}
-
 /// Returns where such opcodes stand, in order.
 pub fn skips_of(steps: &Steps<'_>, reached: &Marks) -> Result<Vec<u16>, AllocError> {
     let mut found = Vec::new(steps.alloc());
@@ -60,12 +54,15 @@ pub fn skips_of(steps: &Steps<'_>, reached: &Marks) -> Result<Vec<u16>, AllocErr
             found.push(outer.at)?;
         }
     }
+    if MOST < found.len() {
+        found.clear();
+    }
     if found.is_empty() {
         return Ok(found);
     }
     let used = used(steps, reached, &found)?;
-    let given = given(steps)?;
     let info = steps.map().info();
+    let given = given(steps.alloc(), info)?;
     found.retain(|at| {
         let operand = steps.at(*at).and_then(|step| step.operand);
         !given.get(*at) && operand.map_or(true, |to| !used.get(to) && info.covering(to).is_none())

@@ -11,6 +11,9 @@ pub enum Alphabet {
     Petscii,
 }
 
+/// How many characters a text has at least.
+const LEAST: usize = 5;
+
 /// The alphabets, from the one that is preferred on.
 pub const ALPHABETS: [Alphabet; 3] = [Alphabet::Ascii, Alphabet::High, Alphabet::Petscii];
 
@@ -35,6 +38,10 @@ impl Alphabet {
 
     /// Returns how many characters the bytes begin with, if they are a text, else 0.
     pub fn text_len(self, bytes: &[u8]) -> usize {
+        // Most bytes of code end here.
+        if bytes.iter().take(LEAST).any(|byte| !self.is_char(*byte)) {
+            return 0;
+        }
         let mut chars = Chars::none();
         for &byte in bytes {
             if !self.is_char(byte) {
@@ -115,7 +122,7 @@ impl Chars {
     /// Returns whether they are a text of the alphabet: there are five at least, or eight with the high bit set, and
     /// half of them are letters or blanks, or digits in a row of four.
     pub fn are_text(self, alphabet: Alphabet) -> bool {
-        let least = if alphabet == Alphabet::High { 8 } else { 5 };
-        least <= self.count && self.count <= self.letters.saturating_mul(2)
+        let least = if alphabet == Alphabet::High { 8 } else { LEAST };
+        least <= self.count as usize && self.count <= self.letters.saturating_mul(2)
     }
 }

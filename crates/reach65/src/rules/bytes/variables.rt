@@ -24,6 +24,9 @@ const CLOSE: usize = 32;
 /// Where machines have registers and other ROMs whatever the program is.
 const REGISTERS: usize = 0xD000;
 
+/// Where some have registers.
+const IO: usize = 0xC000;
+
 /// The variables after an image.
 #[derive(Drop)]
 pub struct Variables {
@@ -31,6 +34,8 @@ pub struct Variables {
     pub addresses: Vec<u16>,
     /// Those that may be some: the first lies far from the image.
     pub far: Vec<u16>,
+    /// Those farther behind that may be some.
+    pub beyond: Vec<u16>,
 }
 
 /// How far after the one before a variable of this address may lie, of an image that ends there.
@@ -56,8 +61,8 @@ fn first_named(info: &Info, from: usize) -> usize {
     first
 }
 
-/// Whether so many of these addresses are both read and written that they are variables, however far they lie.
-fn are_used(survey: &Survey<'_>, addresses: &[u16]) -> Result<bool, AllocError> {
+/// How many of these addresses are both read and written.
+fn used_count(survey: &Survey<'_>, addresses: &[u16]) -> Result<usize, AllocError> {
     let mut read = Marks::none(survey.steps.alloc())?;
     for &at in &survey.users {
         if let Some(step) = survey.steps.at(at)
@@ -68,7 +73,7 @@ fn are_used(survey: &Survey<'_>, addresses: &[u16]) -> Result<bool, AllocError> 
         }
     }
     let is_used = |address: &&u16| read.get(**address) && survey.written.get(**address);
-    Ok(USED <= addresses.iter().filter(is_used).count())
+    Ok(addresses.iter().filter(is_used).count())
 }
 
 /// The operands after the image that are its variables. Empty if the image writes to none of them.
@@ -100,23 +105,50 @@ fn operands_after(survey: &Survey<'_>) -> Result<Vec<u16>, AllocError> {
     Ok(found)
 }
 
+/// The operands from the address on that may be variables of the image, if it reads and writes one at least: below
+/// where machines have registers, and before a name of the information file.
+fn operands_beyond(survey: &Survey<'_>, from: usize) -> Result<Vec<u16>, AllocError> {
+    let map = survey.steps.map();
+    let mut found = Vec::new(survey.steps.alloc());
+    let (_, end) = ends(map.image());
+    for at in from..first_named(map.info(), end).min(IO) {
+        if let Some(operand) = address(at)
+            && survey.operands.get(operand)
+        {
+            found.push(operand)?;
+        }
+    }
+    if !found.is_empty() && used_count(survey, &found)? == 0 {
+        found.clear();
+    }
+    Ok(found)
+}
+
 /// Returns the variables after the image: from its end on the operands, each at most 2,048 bytes after the one before,
 /// up to where a name of the information file covers one, and before $D000. Where the image ends before $8000, $9000 or
 /// $C000, the first from there on lies at most 32 bytes after the one before. Where the first of all lies more than 256
 /// bytes after the image they only may be some, unless eight of them are both read and written. An image that ends in
-/// the zero page has none, and one that writes to none of them has none.
+/// the zero page has none, and one that writes to none of them has none. The operands behind these up to $C000 may be
+/// some too, if one is both read and written.
 pub fn variables_of(survey: &Survey<'_>) -> Result<Variables, AllocError> {
     let alloc = survey.steps.alloc();
     let (_, end) = ends(survey.steps.image());
     let (mut addresses, mut far) = (Vec::new(alloc), Vec::new(alloc));
+    let mut beyond = Vec::new(alloc);
     if 0x100 < end {
         let found = operands_after(survey)?;
         let first = found.first().map_or(end, |first| usize::from(*first));
-        if first <= end.saturating_add(NEAR) || are_used(survey, &found)? {
+        let behind = found.last().map_or(end, |last| usize::from(*last) + 1);
+        beyond = operands_beyond(survey, behind)?;
+        if first <= end.saturating_add(NEAR) || USED <= used_count(survey, &found)? {
             addresses = found;
         } else {
             far = found;
         }
     }
-    Ok(Variables { addresses, far })
+    Ok(Variables {
+        addresses,
+        far,
+        beyond,
+    })
 }

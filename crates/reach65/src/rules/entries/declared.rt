@@ -3,9 +3,9 @@
 use crate::rules::Steps;
 use crate::rules::bytes::tables::Split;
 use crate::rules::entries::readers::Table;
-use info65::TagKind;
+use info65::{Tag, TagKind};
 use map65::{ADDRESSES, Marks};
-use std::alloc::AllocError;
+use std::alloc::{AllocError, Global};
 
 /// The table whose halves begin at these addresses: as code reads it, if it is one of these, which are in order; else
 /// as one of addresses of code, or of such addresses less one, if only the address after its first one has a name.
@@ -27,22 +27,38 @@ fn table_of(steps: &Steps<'_>, tables: &[Table], low: u16, high: u16) -> Table {
     table
 }
 
-/// Returns the halves of the groups HALVES without ADDR: as code reads them, if they are one of these tables, else as
-/// addresses of code.
+/// Returns the halves of the groups HALVES without ADDR: as code reads them, if they are one of these tables, which are
+/// in order, else as addresses of code.
 pub fn declared_of(steps: &Steps<'_>, tables: &[Table]) -> Result<Vec<Split>, AllocError> {
-    let alloc = steps.alloc();
-    let mut tables = Vec::from_slice(alloc, tables)?;
-    tables.sort_by_key(|table| (table.low, table.high))?;
-    let mut found = Vec::new(alloc);
+    let mut found = Vec::new(steps.alloc());
     for tag in steps.tags() {
         let halves = (tag.kind, tag.low, tag.high, tag.address);
         if let (TagKind::Halves, Some(low), Some(high), None) = halves {
-            let table = table_of(steps, &tables, low, high);
+            let table = table_of(steps, tables, low, high);
             let count = usize::from(tag.size.unwrap_or(1));
             found.push(Split { table, count })?;
         }
     }
     Ok(found)
+}
+
+/// Returns marks of the bytes that groups HALVES and NUMBER of the information file have.
+pub fn said_places(alloc: Global, tags: &[Tag]) -> Result<Marks, AllocError> {
+    let mut marks = Marks::none(alloc)?;
+    for tag in tags {
+        if let (TagKind::Number, Some(address)) = (tag.kind, tag.address) {
+            marks.set(address);
+        }
+        if tag.kind == TagKind::Halves {
+            for first in [tag.low, tag.high] {
+                if let Some(first) = first {
+                    let from = usize::from(first);
+                    marks.set_span(from, from + usize::from(tag.size.unwrap_or(1)));
+                }
+            }
+        }
+    }
+    Ok(marks)
 }
 
 /// Returns the addresses in these tables, each once. At most as many entries count as there are addresses: no more

@@ -3,7 +3,7 @@
 use crate::rules::entries::declared::{addresses_of, declared_of};
 use crate::rules::entries::halves::{may_begin, pairs_at};
 use crate::rules::entries::obstacles::{Obstacle, worst_of};
-use crate::rules::entries::readers::{Readers, Table};
+use crate::rules::entries::readers::Table;
 use crate::rules::entries::search::{Least, Search};
 use crate::rules::entries::sound::is_passed;
 use crate::rules::entries::starts::pointers_of;
@@ -176,25 +176,31 @@ impl Search<'_> {
         Ok(())
     }
 
-    /// Whether the entries of a table have been looked at: what has failed once would fail again.
-    fn is_known(&self, table: Table) -> bool {
-        self.tables.binary_search(&table).is_ok()
+    /// Looks for the tables that reached code reads, unless nothing has joined since.
+    fn read_tables(&mut self) -> Result<(), AllocError> {
+        if self.tabled != self.joined.len() {
+            let left = &mut self.entries_left;
+            self.tables = self
+                .readers
+                .tables(self.steps, &self.marks, &self.code, left)?;
+            self.tabled = self.joined.len();
+        }
+        Ok(())
     }
 
     /// Lets the sound beginnings join to which the entries of tables lead, of those that reached code reads, and of
     /// those that the information file has in halves.
     fn join_tables(&mut self) -> Result<(), AllocError> {
         let steps = self.steps;
-        let left = &mut self.entries_left;
-        let tables = self.readers.tables(steps, &self.marks, &self.code, left)?;
+        // What has failed once would fail again.
+        let known = Vec::from_slice(steps.alloc(), &self.tables)?;
+        self.read_tables()?;
+        let tables = Vec::from_slice(steps.alloc(), &self.tables)?;
         for &table in &tables {
-            if table.is_code && !self.is_known(table) {
+            if table.is_code && known.binary_search(&table).is_err() {
                 self.join_table(table)?;
             }
         }
-        self.tables.clear();
-        self.tables.extend_from_slice(&tables)?;
-        self.tables.sort()?;
         let mut declared = declared_of(steps, &tables)?;
         declared.retain(|split| split.table.is_code && 1 < split.count);
         for &to in &addresses_of(steps, &declared)? {
@@ -236,7 +242,8 @@ impl Search<'_> {
 #[derive(Drop)]
 pub struct Followed {
     pub entries: Vec<u16>,
-    pub readers: Readers,
+    /// The tables that reached code reads, in order.
+    pub tables: Vec<Table>,
     /// The places of words of data that lead to some of them, alone or behind texts.
     pub words: Vec<u16>,
     /// The three worst obstacles.
@@ -254,10 +261,11 @@ pub fn follow(steps: &Steps<'_>, entries: &[u16], plain: bool) -> Result<Followe
     if !plain {
         search.join_all()?;
     }
+    search.read_tables()?;
     let obstacles = worst_of(&search)?;
     Ok(Followed {
         entries: search.entries,
-        readers: search.readers,
+        tables: search.tables,
         words: search.words,
         obstacles,
         calls: search.calls,

@@ -97,8 +97,12 @@ impl Pair {
     /// A if the low one is in X or Y, the first load is not one of Y and the second one of X, and they are not
     /// compared with.
     pub fn is_plausible(&self) -> bool {
-        self.meant() % 256 != 0
-            && self.rank != 4
+        self.meant() % 256 != 0 && self.has_usual_form()
+    }
+
+    /// Whether it is an address more often than two numbers, whatever its low half is.
+    fn has_usual_form(&self) -> bool {
+        self.rank != 4
             && self.rank != 5
             && self.rank != COMPARED
             && !(self.rank == 6 && self.low < self.high)
@@ -286,30 +290,38 @@ impl<'a> Code<'a> {
         fits.then_some(Pair::of(COMPARED, low, high)?)
     }
 
-    /// The pair from which a number is taken away: `lda #`, `sec`, `sbc`, what keeps the low half, and `lda #` and
-    /// `sbc` again, with no more than an instruction that changes Y before each `sbc`.
-    fn taken_from(&self, low: Placed<'a>) -> Option<Pair> {
-        let sec = self.behind(low)?;
-        if low.step.op.mnemonic != Lda || sec.step.op.mnemonic != Sec {
+    /// The pair to which a number is added, or from which one is taken away: `lda #`, `clc` and `adc`, or `sec` and
+    /// `sbc`, what keeps the low half, and `lda #` and the sum again, with no more than an instruction that changes Y
+    /// before each of the others.
+    fn summed(&self, low: Placed<'a>) -> Option<Pair> {
+        if low.step.op.mnemonic != Lda {
             return None;
         }
-        let keeps = self.behind(self.less(sec)?)?;
-        let high = self.behind(keeps)?;
-        self.less(high)?;
-        let fits = keeps_carry(keeps.step.op)
+        let carry = self.past_y(low)?;
+        let (rank, sum) = match carry.step.op.mnemonic {
+            Clc => (ADDED, Adc),
+            Sec => (COMPARED, Sbc),
+            _ => return None,
+        };
+        let first = self.past_y(carry)?;
+        let keeps = self.behind(first)?;
+        let high = self.past_y(keeps)?;
+        let second = self.past_y(high)?;
+        let fits = first.step.op.mnemonic == sum
+            && second.step.op.mnemonic == sum
+            && keeps_carry(keeps.step.op)
             && is_load(high.step.op)
             && high.step.op.mnemonic == Lda;
-        fits.then_some(Pair::of(COMPARED, low, high)?)
+        fits.then_some(Pair::of(rank, low, high)?)
     }
 
-    /// The `sbc` behind the instruction, with no more than one that changes Y between.
-    fn less(&self, placed: Placed<'a>) -> Option<Placed<'a>> {
+    /// The instruction behind this one, but for one that changes Y.
+    fn past_y(&self, placed: Placed<'a>) -> Option<Placed<'a>> {
         let then = self.behind(placed)?;
-        let sum = match then.step.op.mnemonic {
-            Ldy | Iny | Dey => self.behind(then)?,
-            _ => then,
-        };
-        (sum.step.op.mnemonic == Sbc).then_some(sum)
+        match then.step.op.mnemonic {
+            Ldy | Iny | Dey => self.behind(then),
+            _ => Some(then),
+        }
     }
 
     /// The pair with which A and another register are compared, with a branch between: the low half is in A.
@@ -365,11 +377,7 @@ impl<'a> Code<'a> {
         };
         if !is_load(two.step.op) {
             let kept = self.kept_twice(one, two);
-            return [
-                kept.or(self.stored_twice(one, two)),
-                self.taken_from(one),
-                None,
-            ];
+            return [kept.or(self.stored_twice(one, two)), self.summed(one), None];
         }
         if one.step.op == two.step.op {
             return [None; 3];
@@ -378,7 +386,8 @@ impl<'a> Code<'a> {
             Some(store) if two.step.op.mnemonic == Ldy => self.stored_twice(one, store),
             _ => None,
         };
-        [Pair::of_loads(one, two), Pair::of_loads(two, one), through]
+        let more = through.or(self.summed(one));
+        [Pair::of_loads(one, two), Pair::of_loads(two, one), more]
     }
 }
 
@@ -412,13 +421,56 @@ fn is_broken(survey: &Survey<'_>, pair: Pair) -> bool {
     })
 }
 
-/// Whether a pair is sure to be meant as an address: it is plausible, nothing breaks
-/// it, and its instructions are listed.
-fn is_sure(survey: &Survey<'_>, items: &Marks, pair: Pair) -> bool {
-    pair.is_plausible()
-        && !is_broken(survey, pair)
+/// Whether the address has a name of the information file, or reached code has it as an operand.
+fn is_used(survey: &Survey<'_>, address: u16) -> bool {
+    let name = survey.steps.map().info().covering(address);
+    survey.operands.get(address) || name.is_some_and(|name| name.address == address)
+}
+
+/// Whether nothing breaks the pair, and its instructions are listed.
+fn is_whole(survey: &Survey<'_>, items: &Marks, pair: Pair) -> bool {
+    !is_broken(survey, pair)
         && items.get(pair.low.saturating_sub(1))
         && items.get(pair.high.saturating_sub(1))
+}
+
+/// Whether a pair is sure to be meant as an address: it is whole, and plausible, or only its low half is not, and its
+/// address is used elsewhere.
+fn is_sure(survey: &Survey<'_>, items: &Marks, pair: Pair) -> bool {
+    let is_meant = pair.is_plausible() || pair.has_usual_form() && is_used(survey, pair.address);
+    is_meant && is_whole(survey, items, pair)
+}
+
+/// Whether the address may be meant: no reached instruction has it, or a routine begins there.
+fn is_address(survey: &Survey<'_>, pair: Pair) -> bool {
+    pair.less == 0 && survey.is_likely(pair.address) || survey.is_routine(pair.meant())
+}
+
+/// Whether reached code stores to the address, or to one of the two before it.
+fn is_over_code(survey: &Survey<'_>, pair: Pair) -> bool {
+    let from = usize::from(pair.address.saturating_sub(2));
+    let to = usize::from(pair.address).saturating_add(1);
+    pair.less == 0 && (from..to).any(|at| survey.written.get_at(at))
+}
+
+/// Adds the whole pairs among the likely ones that have the address of a sure one.
+fn put_known(
+    survey: &Survey<'_>,
+    items: &Marks,
+    sure: &mut Vec<Pair>,
+    likely: &[Pair],
+) -> Result<(), AllocError> {
+    let mut known = Vec::new(survey.steps.alloc());
+    for pair in sure.as_slice() {
+        known.push(pair.address)?;
+    }
+    known.sort()?;
+    for &pair in likely {
+        if known.binary_search(&pair.address).is_ok() && is_whole(survey, items, pair) {
+            sure.push(pair)?;
+        }
+    }
+    Ok(())
 }
 
 /// The pairs that are an address, and those that may be one.
@@ -429,14 +481,17 @@ pub struct Halves {
 }
 
 /// Returns each pair of immediates in reached code that is an address, by the places of their low bytes: no reached
-/// instruction has that address, or a routine begins there; it lies in the image, or behind it before `limit`; each
-/// byte is in one pair, of two the likelier; and none is at a place that `said` has. A pair that is not sure, or not in
-/// `items`, which are listed, is only likely.
+/// instruction has that address, or a routine begins there; it lies in the image, or behind it before the first limit;
+/// each byte is in one pair, of two the likelier; and none is at a place that `said` has.
+///
+/// A pair that is not sure, or not in `items`, which are listed, is only likely, unless one that is sure has its
+/// address. So is one before the second limit, or where reached code stores into other code: variables may lie over
+/// code that runs once.
 pub fn halves_of(
     survey: &Survey<'_>,
     items: &Marks,
     said: Marks,
-    limit: usize,
+    (limit, most): (usize, usize),
 ) -> Result<Halves, AllocError> {
     let (steps, alloc) = (survey.steps, survey.steps.alloc());
     let mut pairs = Vec::new(alloc);
@@ -448,11 +503,12 @@ pub fn halves_of(
         for pair in pairs_at(steps, survey.reached, first) {
             if let Some(pair) = pair
                 && steps.image().start() <= pair.address
-                && pair.meant() < limit
-                && (pair.less == 0 && survey.is_likely(pair.address)
-                    || survey.is_routine(pair.meant()))
+                && pair.meant() < most
+                && (is_address(survey, pair) || is_over_code(survey, pair))
             {
-                let is_sure = is_sure(survey, items, pair);
+                let is_sure = pair.meant() < limit
+                    && is_address(survey, pair)
+                    && is_sure(survey, items, pair);
                 let more = if is_sure { 0 } else { LIKELY };
                 let rank = pair.rank.saturating_add(more);
                 ranks |= 1 << (rank % 32);
@@ -476,7 +532,9 @@ pub fn halves_of(
             }
         }
     }
+    put_known(survey, items, &mut sure, &likely)?;
     sure.sort_by_key(|pair| pair.low)?;
+    likely.retain(|pair| sure.binary_search_by_key(&pair.low, |one| one.low).is_err());
     likely.sort_by_key(|pair| pair.low)?;
     Ok(Halves { sure, likely })
 }

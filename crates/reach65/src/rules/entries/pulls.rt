@@ -1,7 +1,7 @@
 //! Routines that pull their return address and read what stands behind their calls: a text up to a zero byte, behind
 //! which they go on, or a word of a table through which they jump.
 
-use crate::rules::image::{address, byte, ends, word};
+use crate::rules::image::{address, byte, ends, given, word};
 use info65::{Tag, TagKind};
 use isa65::Mnemonic::{
     Adc, Asl, Beq, Bne, Clc, Inc, Iny, Jmp, Lda, Ldx, Ldy, Pha, Pla, Rti, Rts, Sta, Stx, Sty, Tax,
@@ -175,19 +175,15 @@ fn words_end(map: &Map<'_>, given: &Marks, from: usize) -> usize {
     at
 }
 
-/// Marks of the addresses that ranges of the information file have.
-fn given_marks(alloc: Global, map: &Map<'_>) -> Result<Marks, AllocError> {
-    let mut given = Marks::none(alloc)?;
-    for range in map.info().ranges() {
-        given.set_span(usize::from(range.first), usize::from(range.last) + 1);
+/// Marks of the addresses that groups INLINE name.
+fn named(alloc: Global, tags: &[Tag]) -> Result<Marks, AllocError> {
+    let mut marks = Marks::none(alloc)?;
+    for tag in tags {
+        if let (TagKind::Inline, Some(address)) = (tag.kind, tag.address) {
+            marks.set(address);
+        }
     }
-    Ok(given)
-}
-
-/// Whether a group INLINE names the address.
-fn is_named(tags: &[Tag], address: u16) -> bool {
-    let names = |tag: &Tag| tag.kind == TagKind::Inline && tag.address == Some(address);
-    tags.iter().any(|tag| names(tag))
+    Ok(marks)
 }
 
 /// The addresses where the bytes are a call, and what it calls.
@@ -214,7 +210,7 @@ fn words_of(
     routines: &Marks,
 ) -> Result<Vec<Words>, AllocError> {
     let mut found = Vec::new(alloc);
-    let given = given_marks(alloc, map)?;
+    let given = given(alloc, map.info())?;
     let mut last = 0;
     for &(call, to) in calls {
         let from = usize::from(call).saturating_add(3);
@@ -262,7 +258,8 @@ pub fn pulls_of(alloc: Global, map: &Map<'_>, tags: &[Tag]) -> Result<Pulls, All
         opcodes: DecodeTable::new(map.info().settings().cpu),
     };
     let calls = calls_of(alloc, map)?;
-    let mut seen = Marks::none(alloc)?;
+    let named = named(alloc, tags)?;
+    let mut seen = named.copy(alloc)?;
     let mut tables = Marks::none(alloc)?;
     for &(at, to) in &calls {
         found.calls_prodos = found.calls_prodos || is_prodos(map, usize::from(at), to);
@@ -271,12 +268,12 @@ pub fn pulls_of(alloc: Global, map: &Map<'_>, tags: &[Tag]) -> Result<Pulls, All
         }
         seen.set(to);
         match routines.behind(usize::from(to)) {
-            Some(Behind::Text) if !is_named(tags, to) => found.texts.push(to)?,
-            Some(Behind::Words) if !is_named(tags, to) => tables.set(to),
-            _ => {}
+            Some(Behind::Text) => found.texts.push(to)?,
+            Some(Behind::Words) => tables.set(to),
+            None => {}
         }
     }
     found.words = words_of(alloc, map, &calls, &tables)?;
-    found.calls_prodos = found.calls_prodos && !is_named(tags, PRODOS);
+    found.calls_prodos = found.calls_prodos && !named.get(PRODOS);
     Ok(found)
 }

@@ -6,7 +6,7 @@ use crate::rules::entries::sound::reads_on;
 use crate::rules::image::{address, byte};
 use crate::rules::{Placed, Step, Steps};
 use isa65::{Mnemonic, Mode};
-use map65::{Image, Marks, is_inside};
+use map65::{ADDRESSES, Image, Marks, is_inside};
 use std::alloc::{AllocError, Global};
 
 /// The most entries of a table that an index of a byte reaches.
@@ -23,6 +23,7 @@ const COPIED: u16 = 64;
 
 /// How many entries a table may have that is loaded into two registers.
 const REGISTERS: usize = 64;
+
 /// How many entries of tables are looked at, all together. Few programs come near it. It keeps the time in proportion
 /// to the image, whatever that has.
 pub const PATIENCE: usize = 0x1_0000;
@@ -229,6 +230,23 @@ fn loaded_table(steps: &Steps<'_>, first: &Step, second: &Step) -> Option<Table>
     fits.then_some(table)
 }
 
+/// Bytes that code copies: where they stand, and where they go.
+#[derive(Clone, Copy)]
+struct Copies {
+    from: u16,
+    to: u16,
+}
+
+/// What this instruction and the one behind it copy: a load and a store with the same index.
+fn copies_at(steps: &Steps<'_>, reached: &Marks, reader: u16) -> Option<Copies> {
+    let first = steps.marked(reached, reader)?;
+    let from = indexed(first.step)?;
+    let second = steps.behind(reached, first)?;
+    let to = second.step.operand?;
+    let is_copy = second.step.op.mode == first.step.op.mode && is_kept(first.step, second.step);
+    is_copy.then_some(Copies { from, to })
+}
+
 /// Which reached instructions may read tables, and what reached code does with pointers.
 #[derive(Drop)]
 pub struct Readers {
@@ -299,36 +317,46 @@ impl Readers {
         Some(Table { is_code, ..table })
     }
 
-    /// Adds the words that this instruction and the one behind it copy to where a jump leads through: a load and a
-    /// store with the same index.
+    /// Where jumps lead through, in order.
+    fn jump_places(&self, alloc: Global) -> Result<Vec<u16>, AllocError> {
+        let mut places = Vec::new(alloc);
+        for at in 0..ADDRESSES {
+            if let Some(place) = address(at)
+                && self.jumps.get(place)
+            {
+                places.push(place)?;
+            }
+        }
+        Ok(places)
+    }
+
+    /// Adds the words that these instructions copy to where jumps lead through.
     fn put_copied(
         &self,
-        found: &mut Vec<(Table, u16)>,
-        steps: &Steps<'_>,
-        reached: &Marks,
-        at: u16,
+        alloc: Global,
+        found: &mut Vec<Table>,
+        copies: &[Copies],
     ) -> Result<(), AllocError> {
-        let Some(first) = steps.marked(reached, at) else {
+        if copies.is_empty() {
             return Ok(());
-        };
-        if let Some(from) = indexed(first.step)
-            && let Some(second) = steps.behind(reached, first)
-            && second.step.op.mode == first.step.op.mode
-            && let Some(to) = second.step.operand
-            && is_kept(first.step, second.step)
-        {
-            for offset in 0..COPIED {
-                let place = from.saturating_add(offset);
-                if self.jumps.get(to.saturating_add(offset)) {
-                    let word = Table::of_code(place, place.saturating_add(1), 0);
-                    found.push((Table { limit: 1, ..word }, at))?;
+        }
+        let places = self.jump_places(alloc)?;
+        for copy in copies {
+            let first = places.partition_point(|place| *place < copy.to);
+            for &place in places.get(first..).unwrap_or(&[]) {
+                let offset = place.saturating_sub(copy.to);
+                if COPIED <= offset {
+                    break;
                 }
+                let low = copy.from.saturating_add(offset);
+                let word = Table::of_code(low, low.saturating_add(1), 0);
+                found.push(Table { limit: 1, ..word })?;
             }
         }
         Ok(())
     }
 
-    /// Returns the tables that reached code reads, which has these bytes, each once, in the order of the instructions.
+    /// Returns the tables that reached code reads, which has these bytes, each once, in order.
     /// `left` is how many entries may still be looked at.
     pub fn tables(
         &self,
@@ -338,24 +366,26 @@ impl Readers {
         left: &mut usize,
     ) -> Result<Vec<Table>, AllocError> {
         let alloc = steps.alloc();
-        let mut read = Vec::new(alloc);
+        let (mut read, mut copies) = (Vec::new(alloc), Vec::new(alloc));
         for &at in &self.readers {
             if let Some(table) = self.table_at(steps, reached, at) {
-                read.push((table, at))?;
-            } else {
-                self.put_copied(&mut read, steps, reached, at)?;
+                read.push(table)?;
+            } else if let Some(copy) = copies_at(steps, reached, at) {
+                copies.push(copy)?;
             }
         }
+        self.put_copied(alloc, &mut read, &copies)?;
         read.sort()?;
-        read.dedup_by_key(|one| one.0);
-        read.sort_by_key(|one| one.1)?;
+        read.dedup();
         let mut found = Vec::new(alloc);
-        for &(table, _) in &read {
+        for &table in &read {
             let behind = table.behind(code, left);
             let is_better = behind.low != table.low && behind.is_whole(steps, left);
             let table = if is_better { behind } else { table };
             found.push(table.from_first(steps).of_records(steps))?;
         }
+        found.sort()?;
+        found.dedup();
         Ok(found)
     }
 }

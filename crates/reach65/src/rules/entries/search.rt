@@ -1,7 +1,8 @@
 //! The search for code, with trials: an entry joins if all that is reached from it
 //! reads as code, else all is as before.
 
-use crate::rules::bytes::texts::ALPHABETS;
+use crate::rules::bytes::texts::{ALPHABETS, Alphabet};
+use crate::rules::entries::declared::said_places;
 use crate::rules::entries::obstacles::{Obstacle, obstacle_of};
 use crate::rules::entries::readers::{self, Readers, Table};
 use crate::rules::entries::sound::{is_apart, is_fine, is_passed};
@@ -48,8 +49,9 @@ pub struct Search<'a> {
     pub readers: Readers,
     /// The places of words of data that lead to what has joined, alone or behind texts.
     pub words: Vec<u16>,
-    /// The tables whose entries were looked at, sorted.
+    /// The tables that those read, in order, and how many had joined when they were looked for.
     pub tables: Vec<Table>,
+    pub tabled: usize,
     /// How many entries of tables may still be looked at.
     pub entries_left: usize,
     todo: Vec<u16>,
@@ -60,6 +62,8 @@ pub struct Search<'a> {
     meets: bool,
     /// The addresses of the zero page that the image stores to.
     stored: Marks,
+    /// The bytes that are halves or numbers by the information file: no instruction begins there.
+    said: Marks,
     wasted: usize,
     /// Where trials could not go on, and how many bytes they had read.
     pub obstacles: Vec<Obstacle>,
@@ -82,6 +86,23 @@ fn stored_marks(alloc: Global, image: &Image) -> Result<Marks, AllocError> {
     Ok(marks)
 }
 
+/// How many bytes of texts these begin with, with a zero byte between two of them.
+fn texts_len(alphabet: &Alphabet, bytes: &[u8]) -> usize {
+    let mut end = 0;
+    for _ in 0..bytes.len() {
+        let rest = bytes.get(end..).unwrap_or(&[]);
+        let len = alphabet.text_len(rest);
+        if len == 0 {
+            break;
+        }
+        if rest.get(len) != Some(&0) {
+            return end.saturating_add(len);
+        }
+        end = end.saturating_add(len).saturating_add(1);
+    }
+    end
+}
+
 impl<'a> Search<'a> {
     /// Returns the search of all that is reached from the entries.
     pub fn from(steps: &'a Steps<'a>, entries: &[u16]) -> Result<Search<'a>, AllocError> {
@@ -96,12 +117,14 @@ impl<'a> Search<'a> {
             readers: Readers::none(alloc)?,
             words: Vec::new(alloc),
             tables: Vec::new(alloc),
+            tabled: 0,
             entries_left: readers::PATIENCE,
             todo: Vec::new(alloc),
             added: Vec::new(alloc),
             fresh: Marks::none(alloc)?,
             meets: false,
             stored: stored_marks(alloc, steps.image())?,
+            said: said_places(alloc, steps.tags())?,
             wasted: 0,
             obstacles: Vec::new(alloc),
             calls: Vec::new(alloc),
@@ -187,7 +210,7 @@ impl<'a> Search<'a> {
         }
     }
 
-    /// Whether the bytes from the address on that were added begin with a text that is half of them at least.
+    /// Whether the bytes from the address on that were added begin with texts that are half of them at least.
     fn is_text(&self, address: u16) -> bool {
         let image = self.steps.image();
         let mut at = usize::from(address);
@@ -200,7 +223,7 @@ impl<'a> Search<'a> {
         let run = at.saturating_sub(usize::from(address));
         let bytes = bytes_at(image, usize::from(address), run.saturating_add(MARGIN));
         ALPHABETS.iter().any(|alphabet| {
-            let len = alphabet.text_len(bytes);
+            let len = texts_len(alphabet, bytes);
             0 < len && run <= len.saturating_mul(2)
         })
     }
@@ -231,9 +254,9 @@ impl<'a> Search<'a> {
     }
 
     /// Whether a trial of the address is not worth while: none is left, or no instruction
-    /// begins there that is not marked.
+    /// begins there that is not marked, or none may.
     fn is_vain(&mut self, address: u16) -> bool {
-        if self.is_tired() || self.marks.get(address) {
+        if self.is_tired() || self.marks.get(address) || self.said.get(address) {
             return true;
         }
         let is_vain = self.steps.at(address).is_none();

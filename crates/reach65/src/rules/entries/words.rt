@@ -5,7 +5,7 @@ use crate::rules::Steps;
 use crate::rules::entries::growth::{Candidate, IN_TABLE};
 use crate::rules::entries::search::{Least, Search};
 use crate::rules::entries::sound::is_passed;
-use crate::rules::image::{address, ends, word};
+use crate::rules::image::{address, ends, given, word};
 use isa65::Mnemonic;
 use map65::{ADDRESSES, Image, Marks};
 use std::alloc::AllocError;
@@ -110,10 +110,7 @@ impl<'i> DataWords<'i> {
         let alloc = steps.alloc();
         let reached = &search.marks;
         let image = steps.image();
-        let mut given = Marks::none(alloc)?;
-        for range in steps.map().info().ranges() {
-            given.set_span(usize::from(range.first), usize::from(range.last) + 1);
-        }
+        let given = given(alloc, steps.map().info())?;
         let mut hopeful = Marks::none(alloc)?;
         let (start, end) = ends(image);
         for at in (start..end).rev() {

@@ -1,8 +1,0 @@
-use Rattle.std.proofs.Common.{drop, refl}
-use Rattle.std.proofs.lemmas.Str.Ascii.{trim_ascii_is}
-use Rattle.std.specs.Char.{is_ascii_whitespace}
-use Rattle.std.specs.List.{prefix_len}
-use Rattle.as65.proofs.differences.trimmed.Goals as goal
-
-pub returns : goal.returns
-returns c = trim_ascii_is c.args.line.now c.trim_ascii.result.now (drop (prefix_len is_ascii_whitespace c.args.line.now) c.args.line.now) refl c.trim_ascii.ensures.value

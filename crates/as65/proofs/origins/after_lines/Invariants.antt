@@ -1,9 +1,0 @@
-use Rattle.std.proofs.Common.{◌≡◌, drop}
-use Rattle.text65.specs.Lines.{text_lines}
-use Rattle.as65.proofs.origins.after_lines.Given as goal
-
-abbrev pub invariant-lines : goal.invariant-lines
-invariant-lines l = drop l.left (text_lines l.rest) ≡ drop l.fn.count (text_lines l.fn.text)
-
-abbrev pub decreases-lines : goal.decreases-lines
-decreases-lines l = l.left
