@@ -207,7 +207,7 @@ segment = .code | .segment "one" | .segment "Two"
 branch = bcc | bcs | beq | bmi | bne | bpl | bvc | bvs
 far = jmp | jsr | inc | asl | bit | ldx | sty
 one = asl a | ROL A | lsr a | jmp ($1234) | ldx $20,y | sty $20,x | {newer}
-newer = bra here1 | stz $10 | lda ($20) | rmb3 $40 | bbs7 $12,here1 | inc a | inc | dec
+newer = bra here1 | bra {near} | stz $10 | lda ($20) | rmb3 $40 | bbs7 $12,here1 | bbr3 $12,{near} | inc a | inc | dec
 implied = brk | clc | cld | cli | clv | dex | dey | inx | iny | nop | pha | php | pla | plp | rti | rts | sec | sed | \
 sei | tax | tay | tsx | txa | txs | tya
 load = adc | and | cmp | eor | lda | ora | sbc | sta
@@ -228,7 +228,9 @@ expressions = {expression} | {expression}, {expressions}
 expression = {difference} | 2*{value}
 differences = {difference} | {difference}, {differences}
 value = 25*{number} | 5*{number}{plus}{#256} | 6*{name}{minus}{#300} | 5*{name}+{#300} | {name}+{#300}-1 | \
-15*{name} | 3*{name}-1
+15*{name} | 3*{name}-1 | 2*{star}
+star = * | *{minus}{#300} | *+{#300} | *+{#300}-1
+near = *{minus}{#120} | *+{#120}
 number = {#65536} | 3*{#256}
 plus = + | \x20+\x20
 minus = 2*- | \x20-\x20
@@ -297,8 +299,9 @@ class Text:
 
 
 # as65 refuses what ca65 takes: a value below 0 or above $FFFF whose half is taken or that .dbyt has, a value below 0 in
-# .dword, of which ca65 takes the low bytes, and a text without a byte.
-EXCUSED = re.compile(r"(?mi): value out of range: .*([<>]|\.lobytes|\.hibytes|\.dbyt|\.dword)|: no bytes$")
+# .dword, of which ca65 takes the low bytes, a text without a byte, and * in a list of several.
+EXCUSED = re.compile(r"(?mi): value out of range: .*([<>]|\.lobytes|\.hibytes|\.dbyt|\.dword)|: no bytes$"
+                     r"|: undefined name: \* ")
 
 
 def judged(as65, lines, start):
@@ -359,14 +362,15 @@ rmb0 rmb1 rmb2 rmb3 rmb4 rmb5 rmb6 rmb7 smb0 smb1 smb2 smb3 smb4 smb5 smb6 smb7 
 """}
 
 
+@pytest.mark.parametrize("here", ("w{}", "*", "*+122", "*-3"))
 @pytest.mark.parametrize("cpu, count", zip(CPUS, (151, 178, 210)))
-def test_each_operation(as65, cpu, count):
-    """Each opcode of a CPU once. Branches lead to themselves."""
+def test_each_operation(as65, cpu, count, here):
+    """Each opcode of a CPU once. Branches lead to themselves, or to an address before or after them."""
     rows = [row.split(" = ") for more in CPUS[:CPUS.index(cpu) + 1] for row in OPERATIONS[more].splitlines()]
     found = [f"{word} {operand.strip('.')}" for words, operands in rows for word in words.split()
              for operand in operands.split()]
     assert len(set(found)) == len(found) == count
-    lines = [f"w{k}: " + text.replace("here", f"w{k}") for k, text in enumerate(found)]
+    lines = [f"w{k}: " + text.replace("here", here.format(k)) for k, text in enumerate(found)]
     assert judged(as65, [f'.setcpu "{cpu}"', *lines], 0x1000) == (True, None)
 
 

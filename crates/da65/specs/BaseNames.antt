@@ -4,6 +4,7 @@
 -- must be for a listing to assemble back.
 use Rattle.std.specs.Prelude.{◌≡◌, ℕ, ◌<◌, ◌≤◌, ◌==◌, not, Bool, true, false, List, Option, Some, None}
 use Rattle.map65.specs.Words.{Base, ImageView, MapView, base_at, is_inside, place_of, text_by}
+use Rattle.stmt65.specs.Words.{is_name}
 use Rattle.da65.specs.Types.{Place}
 use Rattle.map65.specs.declared.name.Place.TheVariants as place
 
@@ -44,6 +45,8 @@ pub record IsBaseOf (m : AddressNames) (a : ℕ) (b : Base) : Type 0 where
 pub record AreSound (image : ImageView) (m : AddressNames) : Type 0 where
   -- no two bases share a text
   pub distinct : (u v : ℕ) → is_base m u ≡ true → is_base m v ≡ true → base_name m u ≡ base_name m v → u ≡ v
+  -- each is a name
+  pub named : (v : ℕ) → is_base m v ≡ true → is_name (base_name m v) ≡ true
   pub in_space : (v : ℕ) → is_base m v ≡ true → v < 65536
   pub bases : (a : ℕ) (b : Base) → m.base_at a ≡ Some b → IsBaseOf m a b
   pub constants : (v : ℕ) → is_base m v ≡ true → m.has_constant v ≡ not (is_inside image v)

@@ -43,6 +43,7 @@ fn put_about(
 ) -> Result<(), AllocError> {
     let text = match about {
         About::Line => return Ok(()),
+        About::Name(b"*") => String::from_str(alloc, "* (alone after a directive, or as a label)")?,
         About::Name(name) => return put_undefined(alloc, out, name, source),
         About::Forward(count) => format!(in alloc; "branch too far: {count} bytes ({REACH})")?,
         About::Back(count) => format!(in alloc; "branch too far: -{count} bytes ({REACH})")?,

@@ -7,7 +7,7 @@ use Rattle.std.proofs.lemmas.Bool.{cases_lt, ltb-true}
 use Rattle.std.proofs.lemmas.Bool.Decides.{nat_tests, Decides-at, Decides-like, Decides-ltb, Decides-not, Decides-or, Decides-and}
 use Rattle.std.proofs.lemmas.Option.{same_Some}
 use Rattle.std.proofs.lemmas.List.Folds.{Any-from_list_any, list_any-from_Any, list_all-map, list_all-append}
-use Rattle.stmt65.specs.Words.{AsmFaultKind, Data, Datum, DefinedTwice, Definition, DifferenceValue, LessValue, Direct, Distance, EntersPast, Entry, Fill, FindsLowest, FindsNone, Fixed, Form, Fragment, HalfDatum, HalfOf, HasFault, HasNoMode, HasRoom, Instr, IsUnknown, LineHasFault, Memory, NameValue, NamesNoCpu, NoSuchForm, NumberDatum, NumberValue, One, Operation, OutOfRange, Oversized, PastEnd, PastStart, Plain, Reserve, Segment, SetCpu, Single, SourceLine, State, StringDatum, Syntax, Test, Undefined, UnknownCpu, Value, ValueDatum, Values, ZeroPage, below, coding, datum_fragments, datum_values, defined_by, entry_in, entry_limit, fault_of, find_name, first_of, form_values, fragment_fits, fragments_of, gap, has_no_form, has_unknown_cpu, is_before, is_fragment_known, is_known, is_out_of_range, is_past_end, is_past_start, is_short, is_twice, is_undefined, next_of, operation_in, operation_values, rank, start_of, tests_of, value_in, ways, word_in}
+use Rattle.stmt65.specs.Words.{AsmFaultKind, Data, Datum, DefinedTwice, Definition, DifferenceValue, LessValue, Direct, Distance, EntersPast, Entry, Fill, FindsLowest, FindsNone, Fixed, Form, Fragment, HalfDatum, HalfOf, HasFault, HasNoMode, HasRoom, Instr, IsUnknown, LineHasFault, Memory, NameValue, NamesNoCpu, NoSuchForm, NumberDatum, NumberValue, One, Operation, OutOfRange, Oversized, PastEnd, PastStart, Plain, Reserve, Segment, SetCpu, Single, SourceLine, State, StringDatum, Syntax, Test, Undefined, UnknownCpu, Value, ValueDatum, Values, ZeroPage, below, coding, datum_fragments, datum_values, defined_by, entry_in, entry_limit, fault_of, find_name, first_of, form_values, fragment_fits, fragments_of, gap, has_no_form, has_unknown_cpu, is_before, is_fragment_known, is_known, is_out_of_range, is_past_end, is_past_start, is_short, is_twice, is_undefined, names_for, next_of, operation_in, operation_values, rank, start_of, tests_of, value_in, ways, word_in}
 use Rattle.isa65.specs.Words.{cpu_named}
 use Rattle.stmt65.proofs.Cases.{by_option, by_test}
 use Rattle.stmt65.proofs.CodingLemmas.{string_known}
@@ -211,7 +211,7 @@ none_after all s source _ le = absurd (omega arith)
 lowest : (all : List Definition) (s : State) (line : Option SourceLine) → Lowest (LineHasFault all s line) 0 (fault_of all s line)
 unfolding fault_of
 lowest all s None = (omega arith, refl, λ other le lt. absurd (omega arith))
-lowest all s (Some source) = first_is_lowest (HasFault all s source) 0 ((Syntax, false) ∷ tests_of all s source) (
+lowest all s (Some source) = first_is_lowest (HasFault (names_for all s source) s source) 0 ((Syntax, false) ∷ tests_of (names_for all s source) s source) (
   refl,
   never,
   λ _. (
@@ -222,11 +222,11 @@ lowest all s (Some source) = first_is_lowest (HasFault all s source) 0 ((Syntax,
       no_form_tied s source,
       λ form. (
         refl,
-        undefined_tied all s source form,
+        undefined_tied (names_for all s source) s source form,
         λ _. (
           refl,
           twice_tied s source,
-          λ _. (refl, range_tied all s source, λ _. (refl, start_tied s (operation_in source), λ _. (refl, end_tied s source, λ _. none_after all s source))),
+          λ _. (refl, range_tied (names_for all s source) s source, λ _. (refl, start_tied s (operation_in source), λ _. (refl, end_tied s source, λ _. none_after (names_for all s source) s source))),
         ),
       ),
     ),

@@ -1,13 +1,13 @@
 -- What the code holds of a text is enough for its meaning.
 use Rattle.std.proofs.Common.{◌≡◌, ℕ, Bool, false, ltb, ◌+◌, ◌<◌, List, [], ◌∷◌, Option, Some, None, refl, sym, ap, ◌∙◌, arith}
-use Rattle.std.specs.Prelude.{Result, is_none, unwrap_or, is_some, ◌||◌}
+use Rattle.std.specs.Prelude.{◌≤◌, Result, is_none, unwrap_or, is_some, ◌||◌}
 use Rattle.std.specs.List.{list_any}
 use Rattle.std.proofs.lemmas.List.{map-append}
 use Rattle.std.proofs.lemmas.Bool.{ltb-false, ltb-true}
 use Rattle.std.proofs.lemmas.Bool.Decides.{nat_tests}
-use Rattle.stmt65.specs.Words.{AsmFault, Assignment, Coded, Definition, DifferenceValue, Distance, Form, Fragment, Instr, IsCoding, Language, Layout, LessValue, NameValue, NumberValue, One, Operation, PlaceAssignment, Segment, SourceLine, State, Statement, Two, Value, address_of, after, below, below_place, bytes_at, bytes_of, coded, coding, coding_len, defined_by, definitions_of, fault_at, fault_of, final, find_name, fragment_fits, fragments_in, fragments_of, gap, has_large, has_no_form, has_zero_page_size, held, held_after, held_coded, held_definitions, held_final, initial, is_before, is_named_in, is_near, is_out_of_range, is_past_end, is_past_start, is_short, is_twice, is_undefined, line_in, line_then, meaning_in, meaning_of, next_of, operation_in, place_in, readings, unless, value_in, with_front, word_in}
+use Rattle.stmt65.specs.Words.{AsmFault, Assignment, Coded, Data, Definition, DifferenceValue, Distance, Form, Fragment, Instr, IsCoding, Language, Layout, LessValue, NameValue, NumberValue, One, Operation, PlaceAssignment, Segment, SourceLine, State, Statement, Two, Value, Values, address_of, after, below, below_place, bytes_at, bytes_of, coded, coding, coding_len, defined_by, definitions_of, fault_at, fault_of, final, find_name, fragment_fits, fragments_in, fragments_of, gap, IfSome, has_large, has_no_form, has_zero_page_size, held, held_after, held_coded, held_definitions, held_final, here_in, here_offset, initial, is_before, is_named_in, is_near, is_out_of_range, is_past_end, is_past_start, is_short, is_twice, is_undefined, line_in, line_then, meaning_in, meaning_of, names_for, next_of, operation_in, option_map, place_in, readings, unless, value_in, with_front, with_here, word_in}
 use Rattle.stmt65.proofs.Cases.{by_option, by_test}
-use Rattle.stmt65.proofs.NameLemmas.{address-held, constant-held, find_name-held, line_then-held, number-held, small_capped, some-held}
+use Rattle.stmt65.proofs.NameLemmas.{address-held, constant-held, find_name-held, held_here, here_held, line_then-held, number-held, same_fault, small_capped, some-held}
 
 -- what the coding of a line is coded as, and the address after it
 pub fragments_coded : (s : State) (source : SourceLine) (coded : Option Coded) → IsCoding coded s (operation_in source) → fragments_in coded ≡ fragments_of s source
@@ -46,18 +46,37 @@ past-held n = grind (arith, nat_tests)
 fault-placed : (all : List Definition) (s : State) (source : SourceLine) → fault_at all (Some (place_in s source)) ≡ fault_of all s (Some source)
 unfolding fault_at place_in fault_of is_undefined is_twice is_out_of_range is_past_end
 fault-placed all s source =
+    let at : Option ℕ = here_in s.at (operation_in source) in
+    let names : List Definition = names_for all s source in
     let named = any_named-held (λ w. is_some (find_name w s.above)) (defined_by s.at source) in
-    let fits : fragment_fits all (held (next_of s source)) ≡ fragment_fits all (next_of s source) = λ i f. fits-held all (next_of s source) f i in
-    rw (named, large-held (defined_by s.at source), fits, past-held (next_of s source)) refl
+    let fits : fragment_fits names (held (next_of s source)) ≡ fragment_fits names (next_of s source) = λ i f. fits-held names (next_of s source) f i in
+    same_fault names (with_here (option_map held at) all) (place_in s source) (held_here at all) (here_held at all)
+    ∙ rw (named, large-held (defined_by s.at source), fits, past-held (next_of s source)) refl
 
 -- the address after a line without a fault
 pub none_past : (all : List Definition) (s : State) (source : SourceLine) → None ≡ fault_of all s (Some source) → held (next_of s source) ≡ next_of s source
 unfolding fault_of is_past_end
 none_past all s source h = let past : ltb 65536 (next_of s source) ≡ false = grind arith in omega (arith, ltb-false 65536 (next_of s source) past)
 
+offset-small : (o : Operation) → IfSome (here_offset o) (λ n. n ≤ 2)
+offset-small (Instr m (Two v w)) = omega arith
+offset-small (Instr m _) = omega arith
+offset-small (Data (d ∷ [])) = omega arith
+offset-small (Values d (v ∷ [])) = omega arith
+offset-small _ = tt
+
+here-exact : (at : ℕ) (offset : Option ℕ) → at ≤ 65536 → IfSome offset (λ n. n ≤ 2) → option_map held (option_map (λ n. at + n) offset) ≡ option_map (λ n. at + n) offset
+here-exact at None low small = refl
+here-exact at (Some n) low small = let same : held (at + n) ≡ at + n = omega (arith, small) in rw same refl
+
+-- the address of a line without a fault
+none_low : (all : List Definition) (s : State) (source : SourceLine) → None ≡ fault_of all s (Some source) → s.at ≤ 65536
+unfolding fault_of is_past_end next_of
+none_low all s source h = let past : ltb 65536 (s.at + coding_len (fragments_of s source)) ≡ false = grind arith in omega (arith, ltb-false 65536 (s.at + coding_len (fragments_of s source)) past)
+
 bytes-placed : (all : List Definition) (s : State) (source : SourceLine) → None ≡ fault_of all s (Some source) → bytes_at all (Some (place_in s source)) ≡ bytes_of all s (Some source)
 unfolding bytes_at place_in bytes_of
-bytes-placed all s source h = rw (none_past all s source h) refl
+bytes-placed all s source h = rw (none_past all s source h, here-exact s.at (here_offset (operation_in source)) (none_low all s source h) (offset-small (operation_in source))) refl
 
 -- ---- a state, held
 
@@ -105,11 +124,15 @@ named-held : (above ds : List Definition) → is_named_in (held_definitions abov
 named-held above [] = refl
 named-held above (d ∷ ds) = rw (find_name-held d.name above, some-held (find_name d.name above), named-held above ds) refl
 
+here-held : (at : ℕ) (offset : Option ℕ) → option_map held (option_map (λ n. held at + n) offset) ≡ option_map held (option_map (λ n. at + n) offset)
+here-held at None = refl
+here-held at (Some n) = let same : held (held at + n) ≡ held (at + n) = omega arith in rw same refl
+
 place-held : (s : State) (source : SourceLine) → place_in (held_state s) source ≡ place_in s source
 unfolding place_in next_of has_no_form fragments_of held_state
 place-held s source =
     let same : held (held s.at + coding_len (fragments_of s source)) ≡ held (s.at + coding_len (fragments_of s source)) = omega arith in
-    rw (coding-held s (operation_in source), past_start-held s (operation_in source), defined-held s.at source, named-held s.above (held_definitions (defined_by s.at source)), same) refl
+    rw (coding-held s (operation_in source), past_start-held s (operation_in source), defined-held s.at source, named-held s.above (held_definitions (defined_by s.at source)), here-held s.at (here_offset (operation_in source)), same) refl
 
 pub after-held : (s : State) (line : Option SourceLine) → held_after (held_state s) line ≡ held_state (after s line)
 unfolding held_after after held_state place_in

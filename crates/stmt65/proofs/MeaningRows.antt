@@ -90,6 +90,18 @@ rows =
     (meaning_in Repair free 0x1000 (codes "foo = $102\nlda foo-2\nlda foo-$10\nlda a:foo-$10\n"), Ok (0xAD ∷ 0 ∷ 1 ∷ 0xA5 ∷ 0xF2 ∷ 0xAD ∷ 0xF2 ∷ 0 ∷ [])) ∷
     (meaning_in Repair free 0x1000 (codes "lda foo-2\nfoo = $22\n"), Ok (0xAD ∷ 0x20 ∷ 0 ∷ [])) ∷
     (meaning_in Repair free 0x1000 (codes ".byte <(bar-2),>(bar-2),bar-$FFF\nbar:\n"), Ok (1 ∷ 0x10 ∷ 4 ∷ [])) ∷
+    -- `*` is the address of the line, in the target of a branch on a bit two more; in a list of several it has no value
+    (meaning_in Repair free 0x1001 (codes "bne *+5\njmp *-3\nbpl *+122\n"), Ok (0xD0 ∷ 3 ∷ 0x4C ∷ 0 ∷ 0x10 ∷ 0x10 ∷ 0x78 ∷ [])) ∷
+    (meaning_in Repair free 0x1008 (codes ".setcpu \"65C02\"\nbbr0 $12,*+4\nbbs7 $12,*\nbbr1 $12,*-2\n"), Ok (0x0F ∷ 0x12 ∷ 3 ∷ 0xFF ∷ 0x12 ∷ 0xFF ∷ 0x1F ∷ 0x12 ∷ 0xFD ∷ [])) ∷
+    (meaning_in Repair free 0x1033 (codes "lda *\nlda *,x\nlda a:*\nlda #<*\nlda #>(*+1)\njmp (*+3)\n"), Ok (0xAD ∷ 0x33 ∷ 0x10 ∷ 0xBD ∷ 0x36 ∷ 0x10 ∷ 0xAD ∷ 0x39 ∷ 0x10 ∷ 0xA9 ∷ 0x3C ∷ 0xA9 ∷ 0x10 ∷ 0x6C ∷ 0x43 ∷ 0x10 ∷ [])) ∷
+    (meaning_in Repair free 0x1000 (codes "foo: nop\n.byte *-foo\nlda #*-foo\n.byte <*\n.word *-1\n"), Ok (0xEA ∷ 1 ∷ 0xA9 ∷ 2 ∷ 4 ∷ 4 ∷ 0x10 ∷ [])) ∷
+    (meaning_in Repair free 0x10 (codes "lda *\n"), Ok (0xAD ∷ 0x10 ∷ 0 ∷ [])) ∷
+    (meaning_in Repair free 0x10 (codes "lda (*),y\n"), at_line 1 OutOfRange) ∷
+    (meaning_in Repair free 0x1000 (codes "bne *+129\nbne *-126\n"), Ok (0xD0 ∷ 0x7F ∷ 0xD0 ∷ 0x80 ∷ [])) ∷
+    (meaning_in Repair free 0x1000 (codes "bne *+130\n"), at_line 1 OutOfRange) ∷
+    (meaning_in Repair free 2 (codes "jmp *-2\njmp *-6\n"), at_line 2 OutOfRange) ∷
+    (meaning_in Repair free 0x1000 (codes ".word *,1\n"), at_line 1 Undefined) ∷
+    (meaning 0x1000 (codes "jmp *\n"), at_line 1 Syntax) ∷
     -- it is not below 0, nor is a half of it
     (meaning_in Repair free 0x1000 (codes "foo = 5\n.word foo-5\n.word foo-6\n"), at_line 3 OutOfRange) ∷
     (meaning_in Repair free 0x1000 (codes "foo = 5\n.byte <(foo-6)\n"), at_line 2 OutOfRange) ∷

@@ -2,7 +2,7 @@
 use Rattle.std.specs.Prelude.{◌≡◌, ◌+◌, ◌≤◌, ◌∷◌, ℕ, Bool, false, option_and_then}
 use Rattle.stmt65.proofs.Lemmas.{and_parts, ap, arith, nat_tests, refl, sym, ◌∙◌}
 use Rattle.std.proofs.lemmas.Bool.{cases_lt}
-use Rattle.stmt65.specs.Words.{AreFirstOf, AsmFault, AsmFaultKind, Definition, DifferenceValue, Directive, Entry, Fill, Fixed, Fragment, LessValue, List, Minus, NameValue, None, NumberValue, Option, Oversized, Place, Result, Some, Value, [], address_of, apart, below, bytes_at, bytes_eq, capped, entry_in, entry_limit, fault_at, find_name, flat_map, fragment_bytes, fragment_fits, held, held_definition, held_definitions, is_constant, is_fragment_known, is_known, is_small, is_some, length, line_then, list_all, lowered, option_map, take, true, unless, value_in, word_in}
+use Rattle.stmt65.specs.Words.{AreFirstOf, AsmFault, AsmFaultKind, Definition, DifferenceValue, Directive, Entry, Fill, Fixed, Fragment, LessValue, List, Minus, NameValue, None, NumberValue, Option, Oversized, Place, Result, Some, Value, [], address_of, apart, below, bytes_at, bytes_eq, capped, entry_in, entry_limit, fault_at, fault_with, find_name, flat_map, fragment_bytes, fragment_fits, held, held_definition, held_definitions, here, is_constant, is_fragment_known, is_known, is_small, is_some, length, line_then, list_all, lowered, option_map, take, true, unless, value_in, with_here, word_in}
 use Rattle.stmt65.specs.declared.directive.Directive.TheVariants.{Word}
 use Rattle.stmt65.proofs.Cases.{by_test}
 
@@ -80,6 +80,23 @@ known_alike ds all (NameValue w n less) agree h = seen_alike is_some ds all w so
 known_alike ds all (LessValue w n) agree h = seen_alike is_some ds all w some-held agree h ∙ h
 known_alike ds all (DifferenceValue w v) agree h = let both = and_parts (is_some (find_name w ds)) (is_some (find_name v ds)) h in rw (seen_alike is_some ds all w some-held agree both.0, seen_alike is_some ds all v some-held agree both.1) h
 
+-- the same with `*`
+here_agree : (here : Option ℕ) (ds all : List Definition) → Agree ds all → Agree (with_here here ds) (with_here here all)
+unfolding find_name
+here_agree None ds all agree w h = agree w h
+here_agree (Some at) ds all agree w h = by_test (bytes_eq here w) (λ e. rw e refl) (λ e. rw e (agree w (rw e at h)))
+
+-- `*` as it is held
+pub held_here : (at : Option ℕ) (all : List Definition) → Agree (with_here at all) (with_here (option_map held at) all)
+unfolding find_name
+held_here None all w h = refl
+held_here (Some at) all w h = let same : held (held at) ≡ held at = omega arith in by_test (bytes_eq here w) (λ e. rw (e, same) refl) (λ e. rw e refl)
+
+pub here_held : (at : Option ℕ) (all : List Definition) → Agree (with_here (option_map held at) all) (with_here at all)
+unfolding find_name
+here_held None all w h = refl
+here_held (Some at) all w h = let same : held (held at) ≡ held at = omega arith in by_test (bytes_eq here w) (λ e. rw (e, same) refl) (λ e. rw e refl)
+
 -- ---- fragments
 
 word_alike : (ds all : List Definition) (v : Value) → Agree ds all → is_known ds v ≡ true → word_in all v ≡ word_in ds v
@@ -117,24 +134,32 @@ alike ds all next (f ∷ fs) agree h =
 -- ---- lines
 
 abbrev pub knows : List Definition → Place → Bool
-knows all p = list_all (is_fragment_known all) p.fragments
+knows all p = list_all (is_fragment_known (with_here p.here all)) p.fragments
 
 pub fault_alike : (ds all : List Definition) (p : Place) → Agree ds all → knows ds p ≡ true → fault_at all (Some p) ≡ fault_at ds (Some p)
 unfolding fault_at
-fault_alike ds all p agree h = let same = alike ds all p.next p.fragments agree h in rw (same.known, same.fits, h) refl
+fault_alike ds all p agree h = let same = alike _ _ p.next p.fragments (here_agree p.here ds all agree) h in rw (same.known, same.fits, h) refl
 
 pub bytes_alike : (ds all : List Definition) (p : Place) → Agree ds all → knows ds p ≡ true → bytes_at all (Some p) ≡ bytes_at ds (Some p)
 unfolding bytes_at
-bytes_alike ds all p agree h = (alike ds all p.next p.fragments agree h).bytes
+bytes_alike ds all p agree h = (alike _ _ p.next p.fragments (here_agree p.here ds all agree) h).bytes
 
 pub unless_any : (n : ℕ) (fault : Option AsmFaultKind) (a b : Result (List ℕ) AsmFault) → is_some fault ≡ true → unless n fault a ≡ unless n fault b
 unless_any n None a b h = absurd cc
 unless_any n (Some kind) a b h = refl
 
 -- a line with a name that has no definition has a fault, which no value and no address changes
-fault_unknown : (ds all : List Definition) (p : Place) → knows ds p ≡ false → knows all p ≡ false → (fault_at all (Some p) ≡ fault_at ds (Some p)) × (is_some (fault_at ds (Some p)) ≡ true)
-unfolding fault_at
+fault_unknown : (ds all : List Definition) (p : Place) → list_all (is_fragment_known ds) p.fragments ≡ false → list_all (is_fragment_known all) p.fragments ≡ false → (fault_with all p ≡ fault_with ds p) × (is_some (fault_with ds p) ≡ true)
 fault_unknown ds all p e g = grind arith
+
+-- by definitions that agree both ways a line has the same fault, and the same bytes if it has none
+pub same_fault : (ds all : List Definition) (p : Place) → Agree ds all → Agree all ds → fault_with all p ≡ fault_with ds p
+same_fault ds all p agree back =
+    by_test (list_all (is_fragment_known ds) p.fragments)
+    (λ e. let same = alike ds all p.next p.fragments agree e in rw (same.known, same.fits, e) refl)
+    (λ e. by_test (list_all (is_fragment_known all) p.fragments)
+    (λ g. absurd (let h = (alike all ds p.next p.fragments back g).known in cc))
+    (λ g. (fault_unknown ds all p e g).0))
 
 -- what comes of a line by the definitions that are held
 pub line_then-held : (all : List Definition) (n : ℕ) (line : Option Place) (rest : Result (List ℕ) AsmFault) → line_then (held_definitions all) n line rest ≡ line_then all n line rest
@@ -144,5 +169,5 @@ line_then-held all n (Some p) rest =
     by_test (knows all p)
     (λ e. rw (fault_alike all (held_definitions all) p (held_agree all) e, bytes_alike all (held_definitions all) p (held_agree all) e) refl)
     (λ e. by_test (knows (held_definitions all) p)
-    (λ g. absurd (let h = (alike (held_definitions all) all p.next p.fragments (agree_held all) g).known in cc))
-    (λ g. let same = fault_unknown all (held_definitions all) p e g in rw same.0 (unless_any n _ _ _ same.1)))
+    (λ g. absurd (let h = (alike _ _ p.next p.fragments (here_agree p.here (held_definitions all) all (agree_held all)) g).known in cc))
+    (λ g. let same = fault_unknown (with_here p.here all) (with_here p.here (held_definitions all)) p e g in rw same.0 (unless_any n _ _ _ same.1)))

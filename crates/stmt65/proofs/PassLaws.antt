@@ -3,7 +3,7 @@ use Rattle.std.proofs.Common.{◌≡◌, ℕ, Bool, true, false, ltb, ◌+◌, �
 use Rattle.std.specs.Prelude.{◌||◌, Result, Ok, Err, is_some}
 use Rattle.std.proofs.Math.Seq.{take-append_seam, take-length}
 use Rattle.std.proofs.lemmas.List.{append-nil, drop-append-le, drop_all, drop_more, length-drop, take-append-le, take_all}
-use Rattle.stmt65.specs.Words.{AreFirstOf, AsmFault, AsmFaultKind, Codes, Definition, Fit, GoesOn, IsFaulty, IsIdle, IsLeft, IsOf, IsPassed, IsSound, Late, Layout, Pass, Place, PutsAll, Settles, Source, SourceLine, State, Takes, Work, bytes_at, coded_late, fault_at, fault_by, fronts, held_after, held_coded, held_definitions, held_final, late_line, line_in, line_then, parts, reading_of, readings, said_of, source_definitions, source_meaning, source_state, state_in, with_front, work_of}
+use Rattle.stmt65.specs.Words.{AreFirstOf, AsmFault, AsmFaultKind, Codes, Definition, Fit, GoesOn, IsFaulty, IsIdle, IsLeft, IsOf, IsPassed, IsSound, Late, Layout, Pass, Place, PutsAll, Settles, Source, SourceLine, State, Takes, Work, bytes_at, coded_late, fault_at, fault_by, fronts, held_after, held_coded, held_definitions, held_final, late_line, line_in, line_then, parts, reading_of, readings, said_of, source_definitions, source_meaning, source_state, state_in, with_front, with_here, work_of}
 use Rattle.text65.specs.Lines.{text_lines}
 use Rattle.stmt65.proofs.Cases.{by_test}
 use Rattle.stmt65.proofs.CodingLemmas.{front_kept}
@@ -66,7 +66,7 @@ late_push all layout (k ∷ ls) l settled rest h = grind (arith, (late_push all 
 none_fits : (fit : Fit) (p : Place) → None ≡ fault_by fit p → (fit.is_known ≡ true) × (fit.has_room ≡ true)
 none_fits fit p e = grind arith
 
-pub codes : (all : List Definition) (p : Place) (fit : Fit) (fault : Option AsmFaultKind) (old new : List ℕ) → PutsAll fit all p.next p.fragments old new → fault ≡ fault_by fit p → Codes fault all (Some p) old new
+pub codes : (all : List Definition) (p : Place) (fit : Fit) (fault : Option AsmFaultKind) (old new : List ℕ) → PutsAll fit (with_here p.here all) p.next p.fragments old new → fault ≡ fault_by fit p → Codes fault all (Some p) old new
 unfolding fault_at bytes_at
 codes all p fit None old new puts e = record { finds = rw (← puts.fits.known, ← puts.fits.room) e; adds = rw (none_fits fit p e).1 at puts.adds }
 codes all p fit (Some kind) old new puts e = record { finds = rw (← puts.fits.known, ← puts.fits.room) e; adds = tt }
@@ -79,7 +79,7 @@ takes_bytes : {A : Type 0} (p q : Work A) (n : ℕ) (layout : Layout) (above : L
 takes_bytes p q n layout above line bytes e late mark over put h k = grind (arith, length-append, late_more)
 
 pub settles_now : {A : Type 0} (p q : Work A) (place : Place) (fit : Fit) (above : List Definition) → p.is_over ≡ false → q.late ≡ p.late → q.mark ≡ p.mark → q.is_over ≡ p.is_over
-    → PutsAll fit above place.next place.fragments p.settled.items q.settled.items → None ≡ fault_by fit place → Settles p q above (Some place) None
+    → PutsAll fit (with_here place.here above) place.next place.fragments p.settled.items q.settled.items → None ≡ fault_by fit place → Settles p q above (Some place) None
 settles_now p q place fit above e late mark over puts none =
     let known : knows above place ≡ true = sym puts.fits.known ∙ (none_fits fit place none).0 in
     let coded = codes above place fit None p.settled.items q.settled.items puts none in
@@ -96,7 +96,7 @@ unfolding fault_at
 past_end all p past = grind arith
 
 pub settles_later : {A : Type 0} (p q : Work A) (place : Place) (fit : Fit) (above : List Definition) (mid : List ℕ) (is_faulty : Bool) → p.is_over ≡ false → q.late ≡ p.late → q.mark ≡ p.mark → q.is_over ≡ p.is_over
-    → PutsAll fit above place.next place.fragments p.settled.items mid → q.settled.items ≡ take (length p.settled.items) mid → is_some (fault_by fit place) ≡ true → is_faulty ≡ (fit.is_known || ltb 65536 place.next)
+    → PutsAll fit (with_here place.here above) place.next place.fragments p.settled.items mid → q.settled.items ≡ take (length p.settled.items) mid → is_some (fault_by fit place) ≡ true → is_faulty ≡ (fit.is_known || ltb 65536 place.next)
     → Settles p q above (Some place) (Some is_faulty)
 unfolding fault_at
 settles_later p q place fit above mid is_faulty e late mark over puts cut some f = record {

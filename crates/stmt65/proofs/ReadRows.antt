@@ -1,6 +1,6 @@
 -- What lines say in each language, and lines that say nothing in it.
 use Rattle.std.proofs.Common.{◌≡◌, ℕ, List, [], ◌∷◌, ◌++◌, Option, Some, None, refl}
-use Rattle.stmt65.specs.Words.{AbsoluteX, AbsoluteY, Accumulator, Addr, Asl, Assignment, Bbr0, Bne, Cmp, Code, Data, Dbyt, DifferenceValue, Direct, DirectX, DirectY, Dword, Empty, Form, HalfDatum, High, Immediate, Inc, Indirect, IndirectX, IndirectY, Instr, Jmp, Language, Lda, Ldx, LessValue, Listing, Low, Mnemonic, NameValue, Nop, Nothing, NumberDatum, NumberValue, One, Operation, PlaceAssignment, Plain, Repair, Reserve, Ror, Rts, Segment, SetCpu, SourceLine, Statement, StringDatum, Two, Value, ValueDatum, Values, Zero, codes, constant_of, directive_named, filter, further_at, halved_in, has_name_form, immediate_of, inner_at, is_name, is_reserved_word, is_some, joined, less_one, line_at, map, mark_datum, mnemonic_named, named_at, next_datum, next_half, next_value, operation_at, other_at, part_at, parts, parts_after, reading_of, replicate, tail_at, text_in, word_datum}
+use Rattle.stmt65.specs.Words.{AbsoluteX, AbsoluteY, Accumulator, Addr, Asl, Assignment, Bbr0, Bne, Cmp, Code, Data, Dbyt, DifferenceValue, Direct, DirectX, DirectY, Dword, Empty, Form, HalfDatum, High, Immediate, Inc, Indirect, IndirectX, IndirectY, Instr, Jmp, Language, Lda, Ldx, LessValue, Listing, Low, Mnemonic, NameValue, Nop, Nothing, NumberDatum, NumberValue, One, Operation, PlaceAssignment, Plain, Repair, Reserve, Ror, Rts, Segment, SetCpu, SourceLine, Statement, StringDatum, Two, Value, ValueDatum, Values, Zero, codes, constant_of, directive_named, filter, further_at, halved_in, has_name_form, here, immediate_of, inner_at, is_name, is_reserved_word, is_some, joined, less_one, line_at, map, mark_datum, mnemonic_named, named_at, next_datum, next_half, next_value, operation_at, other_at, part_at, parts, parts_after, reading_of, replicate, tail_at, text_in, word_datum}
 use Rattle.stmt65.specs.Parts.{number_of}
 use Rattle.stmt65.specs.Reading.{form_of, operation_of}
 use Rattle.stmt65.specs.declared.directive.Directive.TheVariants.{Word}
@@ -106,6 +106,8 @@ refused =
     ∷ codes "nop\r" ∷ codes "\r"
     -- reserved words are no names, in any case, and neither is a word of 81 bytes
     ∷ codes "A:" ∷ codes "z := 1" ∷ codes "lda s" ∷ codes "LdA:" ∷ codes "rmb7:" ∷ codes "Wai2: .dword" ∷ codes ".name:" ∷ (long ++ codes "n:")
+    -- `*` is no operand
+    ∷ codes "bne *+5" ∷ codes "jmp *" ∷ codes ".word *" ∷ codes ".byte *" ∷ codes "lda #*"
     ∷ codes "v := name" ∷ codes "v := *" ∷ codes "v := * - 1" ∷ codes "v : = 1" ∷ codes "v := 1 2" ∷ codes "label: v := 1" ∷ codes "label: label: nop"
     -- numbers end where their digits do
     ∷ codes "lda $" ∷ codes "lda $G" ∷ codes "lda $123456789" ∷ codes "lda 12ab" ∷ codes "frob" ∷ codes "frob $12" ∷ codes "nop nop" ∷ codes "12" ∷ codes "\"\""
@@ -155,6 +157,17 @@ repairs =
     ∷ (codes ".res $10,%1", line (Reserve 16 1))
     ∷ (codes "v = 5", Assignment (codes "v") 5)
     ∷ (codes "v:='A'", Assignment (codes "v") 65)
+    ∷ (codes "bne *+5", op Bne (One (Plain Direct) (plus here 5)))
+    ∷ (codes "JMP * - 3 ; again", op Jmp (One (Plain Direct) (LessValue here 3)))
+    ∷ (codes "jmp *", op Jmp (One (Plain Direct) (plus here 0)))
+    ∷ (codes "jmp (*-1)", op Jmp (One (Plain Indirect) (minus_one here 0)))
+    ∷ (codes "lda a:*+3,x", op Lda (One AbsoluteX (plus here 3)))
+    ∷ (codes "bbr0 $12,*+4", op Bbr0 (Two (number 0x12) (plus here 4)))
+    ∷ (codes "lda #<*", op Lda (One (Half Low) (plus here 0)))
+    ∷ (codes "lda #>(*+2)", op Lda (One (Half High) (plus here 2)))
+    ∷ (codes "ldx #*-start", op Ldx (One (Plain Immediate) (DifferenceValue here (codes "start"))))
+    ∷ (codes ".word *,*+1", line (Values Word (plus here 0 ∷ plus here 1 ∷ [])))
+    ∷ (codes ".byte <*,*-start", line (Data (HalfDatum Low (plus here 0) ∷ ValueDatum (DifferenceValue here (codes "start")) ∷ [])))
     ∷ (codes "asl", op Asl Accumulator)
     ∷ (codes "l1: ROR ; one", label (codes "l1") (Instr Ror Accumulator))
     ∷ (codes "inc", op Inc Accumulator)
@@ -181,6 +194,8 @@ refused_of_repairs =
     ∷ codes "lda #''" ∷ codes "lda #'AB'" ∷ codes "lda #'\t'" ∷ (codes "lda #'" ++ 0x80 ∷ codes "'")
     -- one number is added to a number
     ∷ codes "lda 5+1+1" ∷ codes "lda 5+name" ∷ codes "lda 5+1-1" ∷ codes "lda 5-1" ∷ codes ".byte 5+" ∷ codes "v = 5+1"
+    -- `*` is an address, and no factor
+    ∷ codes "lda *-start" ∷ codes "lda #start-*" ∷ codes "bne *+name" ∷ codes "bne *5" ∷ codes "bne **" ∷ codes "lda #2*3" ∷ codes ".res *" ∷ codes "* = 5" ∷ codes "*: nop" ∷ codes "lda #<*+1"
     ∷ codes "asl (" ∷ codes "lda #(name)" ∷ codes ".org $1000" ∷ codes "@loop: nop"
     ∷ []
 

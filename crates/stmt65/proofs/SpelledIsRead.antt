@@ -1,6 +1,6 @@
 -- What is spelled so is read, in either language; in a repair an instruction without an operand may work on the accumulator.
 use Rattle.std.specs.Prelude.{◌++◌, ◌∷◌, ◌≡◌, ◌≤◌}
-use Rattle.stmt65.proofs.Lemmas.{List, None, Option, Some, [], ap, append-nil, append_assoc, arith, bytes_eq-Decides, eqb, false, inl, inr, length, length-append, refl, suc, sym, true, zero, ℕ, ◌∙◌}
+use Rattle.stmt65.proofs.Lemmas.{List, None, Option, Some, [], ap, append-nil, append_assoc, arith, bytes_eq-Decides, eqb, eqb-true, false, inl, inr, length, length-append, refl, suc, sym, true, zero, ℕ, ◌∙◌}
 use Rattle.stmt65.specs.Words.{Accumulator, Adc, AddressSize, Assignment, Automatic, Code, Data, Datum, Define, DifferenceValue, Direct, DirectX, DirectY, Directive, Empty, Form, High, Immediate, Indirect, IndirectX, IndirectY, Instr, IsDatum, IsItem, IsList, IsMinus, IsPlus, IsSpelling, IsValue, Item, Language, Listing, Low, Mark, Minus, Mnemonic, NameValue, Nothing, Number, NumberDatum, NumberValue, One, Operation, Part, PlaceAssignment, Repair, Reserve, Segment, SetCpu, SourceLine, Spells, Statement, StringDatum, Two, Value, Values, Word, Zero, codes, constant_of, data_list, data_of, define, directive_named, directive_text, form_items, further_at, immediate_of, inner_at, is_absolute, is_define, is_difference, is_equals, is_mark, is_name, is_nil, is_word_here, joined, less_one, line_at, mark, mark_datum, mnemonic_named, name, named_at, next_address, next_datum, next_half, next_value, number, number_at, number_datum, operand_in, operation_at, operation_items, other_at, prefix_items, quoted_name, reading_of, reserve_of, same, segment_of, set_cpu_of, sized, str_to_ascii_lowercase, string, tail_at, text_in, text_of, unwritten, value, value_list, values_of, whole, word, word_datum, ◌>>=◌}
 use Rattle.stmt65.specs.declared.source_line.AddressSize.TheVariants.{Absolute}
 use Rattle.stmt65.specs.declared.source_line.Minus.TheVariants.{One as MinusOne}
@@ -227,10 +227,18 @@ record IsNoLabel (l : Language) (ps : List Part) : Type 0 where
   define : is_define ps ≡ false
   equals : is_equals l ps ≡ false
 
+-- a byte with which an operation goes on is none with which nothing can
+other_mark : (l : Language) (w : List ℕ) (b c : ℕ) (ps : List Part) (o : Operation) → operation_at l w (Mark b ∷ ps) ≡ Some o → operation_at l w (Mark c ∷ ps) ≡ None → eqb b c ≡ false
+other_mark l w b c ps o e none = by_test (eqb b c) (λ same. absurd (let e' = rw (eqb-true b c same) at e in cc)) (λ other. other)
+
 no_label : (l : Language) (w : List ℕ) (ps : List Part) (o : Operation) → operation_at l w ps ≡ Some o → IsNoLabel l ps
 unfolding joined next_value next_datum word_datum mark_datum text_in form_of immediate_of next_half
 no_label Listing w (Mark b ∷ ps) o e = grind (arith, by_test, eqb, none_at)
-no_label Repair w (Mark b ∷ ps) o e = grind (arith, by_test, eqb, none_at)
+no_label Repair w (Mark b ∷ ps) o e = record {
+  colon = other_mark Repair w b 58 ps o e (none_at Repair w (Mark 58 ∷ ps) (λ d. refl) refl refl refl refl refl refl refl refl);
+  define = refl;
+  equals = other_mark Repair w b 61 ps o e (none_at Repair w (Mark 61 ∷ ps) (λ d. refl) refl refl refl refl refl refl refl refl);
+}
 no_label Listing w (Define ∷ ps) o e = absurd (let e' = rw (none_at Listing w (Define ∷ ps) (λ d. refl) refl refl refl refl refl refl refl refl) at e in cc)
 no_label Repair w (Define ∷ ps) o e = absurd (let e' = rw (none_at Repair w (Define ∷ ps) (λ d. refl) refl refl refl refl refl refl refl refl) at e in cc)
 no_label Listing w _ o e = record { colon = refl; define = refl; equals = refl }

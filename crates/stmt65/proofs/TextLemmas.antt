@@ -1,7 +1,7 @@
 -- The meaning of a text, line by line.
 use Rattle.std.specs.Prelude.{◌++◌, ◌+◌, ◌∷◌, ◌≡◌}
 use Rattle.stmt65.proofs.Lemmas.{All-cons, All-head, All-tail, List, None, Option, Some, [], ap, arith, length, length-append, length-replicate, refl, sym, ℕ, ◌∙◌}
-use Rattle.stmt65.specs.Words.{All, AsmFault, AsmFaultKind, Definition, Entry, Err, Fill, Fragment, IsFaultless, IsFirstFault, Line, MeansBytes, MeansFault, Ok, Result, SourceLine, StandsAtItsBytes, State, after, bytes_of, coded, coding_len, entry_in, fault_of, flat_map, fragment_bytes, fragment_len, fragments_of, initial, line_bytes, lines_below, low, meaning_of, next_of, or_zero, unless, with_front}
+use Rattle.stmt65.specs.Words.{All, AsmFault, AsmFaultKind, Definition, Entry, Err, Fill, Fragment, IsFaultless, IsFirstFault, Line, MeansBytes, MeansFault, Ok, Result, SourceLine, StandsAtItsBytes, State, after, bytes_of, coded, coding_len, entry_in, fault_of, flat_map, fragment_bytes, fragment_len, fragments_of, initial, line_bytes, lines_below, low, meaning_of, names_for, next_of, or_zero, unless, with_front}
 use Rattle.stmt65.proofs.EntryLaws.{entry_bytes-length}
 
 -- ---- lengths
@@ -21,7 +21,7 @@ coding_len-bytes all next (f ∷ fs) = length-append (fragment_bytes all next f)
 pub at-after : (all : List Definition) (s : State) (l : Option SourceLine) → (after s l).at ≡ s.at + length (bytes_of all s l)
 unfolding after bytes_of next_of
 at-after all s None = omega arith
-at-after all s (Some source) = ap (λ (n : ℕ). s.at + n) (sym (coding_len-bytes all (next_of s source) (fragments_of s source)))
+at-after all s (Some source) = ap (λ (n : ℕ). s.at + n) (sym (coding_len-bytes (names_for all s source) (next_of s source) (fragments_of s source)))
 
 stands : (all : List Definition) (s : State) (ls : List (Option SourceLine)) (above below : List Line) (line : Line)
     → lines_below s ls ≡ above ++ line ∷ below → line.state.at ≡ s.at + length (flat_map (line_bytes all) above)

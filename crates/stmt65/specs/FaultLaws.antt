@@ -7,7 +7,7 @@ use Rattle.stmt65.specs.SourceLine.{Value, NumberValue, NameValue, LessValue, Di
 use Rattle.stmt65.specs.Symbols.{Definition, find_name, value_in}
 use Rattle.stmt65.specs.Coding.{entry_limit, Fragment, Fixed, Single, ZeroPage, Oversized, Entry, Distance, HalfOf, Fill, State}
 use Rattle.stmt65.specs.Layout.{start_of}
-use Rattle.stmt65.specs.Meaning.{operation_in, fragments_of, next_of, defined_by, fault_of}
+use Rattle.stmt65.specs.Meaning.{operation_in, fragments_of, names_for, next_of, defined_by, fault_of}
 use Rattle.stmt65.specs.Forms.{form_values}
 use Rattle.stmt65.specs.ModeLaws.{LacksForm}
 
@@ -80,7 +80,7 @@ EntersPast s (Segment name) = (start : ℕ) × (start_of s.layout name ≡ Some 
 EntersPast s _ = ⊥
 
 -- A line that says something has a fault of a kind; `s` is what stands above it, `all`
--- are the definitions of the whole text.
+-- are the definitions by which its operands have their values.
 abbrev pub HasFault : List Definition → State → SourceLine → AsmFaultKind → Type 0
 HasFault all s source Syntax = ⊥
 HasFault all s source UnknownCpu = NamesNoCpu (operation_in source)
@@ -95,7 +95,7 @@ HasFault all s source Memory = ⊥
 -- the same of any line: one that says nothing that the assembler knows is a syntax error, and has no other fault
 abbrev pub LineHasFault : List Definition → State → Option SourceLine → AsmFaultKind → Type 0
 LineHasFault all s None kind = kind ≡ Syntax
-LineHasFault all s (Some source) kind = HasFault all s source kind
+LineHasFault all s (Some source) kind = HasFault (names_for all s source) s source kind
 
 -- The fault of a line is of the lowest kind of which it has one.
 abbrev pub FindsLowest : Type 0

@@ -5,12 +5,13 @@
 -- are a list of tests, the lowest kind first; the first that holds counts.
 use Rattle.std.specs.Prelude.{ℕ, ◌+◌, Bool, true, false, ◌||◌, not, List, [], ◌∷◌, ◌++◌, map, nat_lt, if◌then◌else◌, Option, Some, None, is_some, unwrap_or, Result, Ok, Err}
 use Rattle.std.specs.List.{list_any, list_all, flat_map}
+use Rattle.std.specs.Option.{option_map}
 use Rattle.stmt65.specs.Types.{AsmFault, AsmFaultKind, Cpu, DefinedTwice, Language, Listing, M6502, NoSuchForm, OutOfRange, PastEnd, PastStart, Syntax, Undefined, UnknownCpu}
-use Rattle.stmt65.specs.SourceLine.{Operation, Nothing, Segment, SetCpu, SourceLine, Assignment, PlaceAssignment, Statement}
+use Rattle.stmt65.specs.SourceLine.{Two, Operation, Nothing, Instr, Data, Values, Segment, SetCpu, SourceLine, Assignment, PlaceAssignment, Statement}
 use Rattle.text65.specs.Lines.{text_lines}
 use Rattle.stmt65.specs.Lexing.{parts}
 use Rattle.stmt65.specs.Reading.{reading_of}
-use Rattle.stmt65.specs.Symbols.{Definition, find_name}
+use Rattle.stmt65.specs.Symbols.{Definition, find_name, with_here}
 use Rattle.isa65.specs.Words.{cpu_named}
 use Rattle.stmt65.specs.Layout.{Layout, free, start_of, is_before}
 use Rattle.stmt65.specs.Coding.{State, Fragment, fragment_fits, fragment_bytes, are_known, coding, coding_len}
@@ -29,6 +30,23 @@ fragments_of s source = unwrap_or (coding s (operation_in source)) []
 -- the address after the line
 unfoldable pub next_of : State → SourceLine → ℕ
 next_of s source = s.at + coding_len (fragments_of s source)
+
+-- How many bytes of an operation ca65 has written when it reads its `*`: of `bbr0 E,*` two, of another one none. In a
+-- list of several that would differ from one to the next, so there `*` has no value.
+abbrev pub here_offset : Operation → Option ℕ
+here_offset (Instr m (Two v w)) = Some 2
+here_offset (Instr m form) = Some 0
+here_offset (Data (d ∷ [])) = Some 0
+here_offset (Values d (v ∷ [])) = Some 0
+here_offset operation = None
+
+-- the address that `*` is in an operation at an address
+abbrev pub here_in : ℕ → Operation → Option ℕ
+here_in at operation = option_map (λ n. at + n) (here_offset operation)
+
+-- the definitions by which the operands of a line have their values; `all` are those of the whole text
+abbrev pub names_for : List Definition → State → SourceLine → List Definition
+names_for all s source = with_here (here_in s.at (operation_in source)) all
 
 -- the CPU that the text of `.setcpu` names, in any letter case
 abbrev pub cpu_set : List ℕ → Option Cpu
@@ -87,7 +105,7 @@ abbrev pub first_of : List Test → Option AsmFaultKind
 first_of [] = None
 first_of (t ∷ ts) = if t.1 then Some t.0 else first_of ts
 
--- the tests of a line, lowest kind first; `all` are the definitions of the whole text
+-- the tests of a line, lowest kind first; `all` are the definitions by which its operands have their values
 abbrev pub tests_of : List Definition → State → SourceLine → List Test
 tests_of all s source =
     (UnknownCpu, has_unknown_cpu (operation_in source)) ∷
@@ -101,14 +119,14 @@ tests_of all s source =
 -- the lowest fault of a line
 unfoldable pub fault_of : List Definition → State → Option SourceLine → Option AsmFaultKind
 fault_of all s None = Some Syntax
-fault_of all s (Some source) = first_of (tests_of all s source)
+fault_of all s (Some source) = first_of (tests_of (names_for all s source) s source)
 
 -- ---- bytes
 
 -- the bytes of a line that has no fault
 unfoldable pub bytes_of : List Definition → State → Option SourceLine → List ℕ
 bytes_of all s None = []
-bytes_of all s (Some source) = flat_map (fragment_bytes all (next_of s source)) (fragments_of s source)
+bytes_of all s (Some source) = flat_map (fragment_bytes (names_for all s source) (next_of s source)) (fragments_of s source)
 
 -- ---- a line after the other
 

@@ -12,6 +12,7 @@ use Rattle.stmt65.specs.declared.source_line.Minus.TheVariants.{One as MinusOne}
 use Rattle.stmt65.specs.declared.source_line.Notation.TheVariants as notation
 use Rattle.stmt65.specs.Parts.{Part, Word, Number, Text, Define, Mark, number_of}
 use Rattle.stmt65.specs.Names.{same, is_name}
+use Rattle.stmt65.specs.Symbols.{here}
 use Rattle.stmt65.specs.Directives.{directive_named}
 
 infixl 10 ◌>>=◌
@@ -87,9 +88,15 @@ abbrev pub number_at : Language → ℕ → List Part → Option (Value × List 
 number_at Listing n ps = Some (NumberValue n, ps)
 number_at Repair n ps = if is_mark plus ps then (number_in (drop 1 ps) >>= λ m. Some (NumberValue (n + m.0), m.1)) else Some (NumberValue n, ps)
 
+-- after this byte by itself: in a repair `*` is a name
+abbrev pub mark_value : Language → ℕ → List Part → Option (Value × List Part)
+mark_value Listing b ps = None
+mark_value Repair b ps = if b == star then named_at Repair here ps else None
+
 unfoldable pub next_value : Language → List Part → Option (Value × List Part)
 next_value language (Number t ∷ ps) = number_at language (number_of t) ps
 next_value language (Word w ∷ ps) = if_name w (named_at language w ps)
+next_value language (Mark b ∷ ps) = mark_value language b ps
 next_value language _ = None
 
 -- whether it is a difference of names
@@ -108,12 +115,12 @@ next_address Repair ps = next_value Repair ps >>= λ v. if is_difference v.0 the
 abbrev pub bracketed_in : List Part → Option (Value × List Part)
 bracketed_in ps = next_value Repair ps >>= λ v. if is_mark right_paren v.1 then Some (v.0, drop 1 v.1) else None
 
--- what `<` and `>` take: a number, a name, or an expression in parentheses, since ca65
+-- what `<` and `>` take: a number, a name, `*`, or an expression in parentheses, since ca65
 -- reads `<name+1` as one more than the half
 unfoldable pub halved_in : List Part → Option (Value × List Part)
 halved_in (Number t ∷ ps) = Some (NumberValue (number_of t), ps)
 halved_in (Word w ∷ ps) = if_name w (Some (NameValue w 0 Zero, ps))
-halved_in (Mark b ∷ ps) = if b == left_paren then bracketed_in ps else None
+halved_in (Mark b ∷ ps) = if b == left_paren then bracketed_in ps else (if b == star then Some (NameValue here 0 Zero, ps) else None)
 halved_in _ = None
 
 -- ---- operands
@@ -181,10 +188,10 @@ word_datum Repair w ps = if_name w (named_at Repair w ps >>= λ v. Some (ValueDa
 abbrev pub half_datum : Half → List Part → Option (Datum × List Part)
 half_datum half ps = halved_in ps >>= λ v. Some (HalfDatum half v.0, v.1)
 
--- after this byte by itself: in a repair a half
+-- after this byte by itself: in a repair a half, or an expression with `*`
 unfoldable pub mark_datum : Language → ℕ → List Part → Option (Datum × List Part)
 mark_datum Listing b ps = None
-mark_datum Repair b ps = if b == less then half_datum Low ps else (if b == greater then half_datum High ps else None)
+mark_datum Repair b ps = if b == less then half_datum Low ps else (if b == greater then half_datum High ps else (mark_value Repair b ps >>= λ v. Some (ValueDatum v.0, v.1)))
 
 -- after the number n: in a repair a number that is added to it makes both an expression
 abbrev pub number_datum : Language → ℕ → List Part → Option (Datum × List Part)

@@ -5,7 +5,7 @@
 -- A difference has a value if both names are addresses and the first is not below the second; so has a name from which
 -- a number is subtracted, if it is an address and not below the number. An operand has zero-page size if its value is
 -- below $100, no `a:` stands before it, and each name in it is defined as `name := number` on an earlier line.
-use Rattle.std.specs.Prelude.{ℕ, ◌+◌, ◌-◌, Bool, true, false, ◌&&◌, List, [], ◌∷◌, nat_le, nat_lt, ◌==◌, if◌then◌else◌, Option, Some, None, is_some, option_and_then}
+use Rattle.std.specs.Prelude.{ℕ, ◌+◌, ◌-◌, Bool, true, false, ◌&&◌, List, [], ◌∷◌, codes, nat_le, nat_lt, ◌==◌, if◌then◌else◌, Option, Some, None, is_some, option_and_then}
 use Rattle.std.specs.Str.{bytes_eq}
 use Rattle.stmt65.specs.Types.{Minus, Zero}
 use Rattle.stmt65.specs.declared.source_line.Minus.TheVariants.{One}
@@ -16,6 +16,15 @@ pub record Definition : Type 0 where
   pub name : List ℕ
   pub value : ℕ
   pub constant : Bool
+
+-- the name of the address of a line
+abbrev pub here : List ℕ
+here = codes "*"
+
+-- the definitions, after that of `*` if it has an address
+abbrev pub with_here : Option ℕ → List Definition → List Definition
+with_here None all = all
+with_here (Some at) all = record { name = here; value = at; constant = false } ∷ all
 
 -- of two definitions of a name the first counts
 unfoldable pub find_name : List ℕ → List Definition → Option Definition

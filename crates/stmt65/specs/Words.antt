@@ -9,7 +9,7 @@ pub use Rattle.stmt65.specs.Code.LateViews.{AreFirstOf, Codes, Follows, GoesOn, 
 unfoldable pub use Rattle.stmt65.specs.Code.LateViews.{coded_late, fronts}
 pub use Rattle.stmt65.specs.Code.LineEnds.{ends_left}
 pub use Rattle.stmt65.specs.Code.LineViews.{Appends, Lists, Prints, len_with}
-pub use Rattle.stmt65.specs.Code.MeaningViews.{IsCoding, Place, below_place, definitions_in, fault_by, fragments_in, held_definition, held_definitions, is_named_in, line_in, line_operation, line_then, place_of, state_of}
+pub use Rattle.stmt65.specs.Code.MeaningViews.{IsCoding, Place, below_place, definitions_in, fault_by, fault_with, fragments_in, held_definition, held_definitions, is_named_in, line_in, line_operation, line_then, place_of, state_of}
 unfoldable pub use Rattle.stmt65.specs.Code.MeaningViews.{bytes_at, fault_at, held_after, held_coded, held_final, place_in}
 pub use Rattle.stmt65.specs.Code.PartViews.{cut_by, part_of}
 pub use Rattle.stmt65.specs.Code.SourceLineViews.{datum_of, numeral_of, source_of, value_of}
@@ -33,7 +33,7 @@ pub use Rattle.stmt65.specs.Line.{plain_line, with_fields}
 unfoldable pub use Rattle.stmt65.specs.Line.{filled, line_of}
 pub use Rattle.stmt65.specs.LineAddresses.{FindsLine, GivesByte, address_after, line_past}
 unfoldable pub use Rattle.stmt65.specs.LineAddresses.{line_addresses}
-pub use Rattle.stmt65.specs.Meaning.{Test, first_of, has_large, initial, meaning, operation_in, readings, tests_of, unless, with_front}
+pub use Rattle.stmt65.specs.Meaning.{Test, first_of, has_large, here_in, here_offset, initial, meaning, names_for, operation_in, readings, tests_of, unless, with_front}
 unfoldable pub use Rattle.stmt65.specs.Meaning.{after, bytes_of, coded, cpu_after, defined_by, fault_of, final, fragments_of, has_no_form, has_unknown_cpu, is_out_of_range, is_past_end, is_past_start, is_twice, is_undefined, meaning_in, meaning_of, next_of}
 pub use Rattle.stmt65.specs.ModeLaws.{EachWay, HasMode, IsModeOf, IsWay, LacksForm, ModesAreWays, NeedsMode, TakesMode, TakesModes, WaysAreModes, is_way, mode_fragments}
 pub use Rattle.stmt65.specs.Names.{same}
@@ -45,7 +45,7 @@ pub use Rattle.stmt65.specs.Places.{GoesOver, IsAmong, IsRemarkOf, ReadsAs, Stan
 pub use Rattle.stmt65.specs.Printable.{AreOperands, IsLong, IsNameLong, IsOperand, IsPrintable, IsTable, IsWrittenIn, MayBeForced, MayBeLabelled, TakesLabel}
 pub use Rattle.stmt65.specs.Printed.{HasLabelName, HasName, HasNames, HasNamesIn, PrintsAs, ReadsBack, address_size, entry_value, row_form, source_line, source_value, with_label}
 unfoldable pub use Rattle.stmt65.specs.Printed.{source_form}
-pub use Rattle.stmt65.specs.Reading.{bracketed_in, data_of, half_datum, half_form, is_define, is_difference, is_equals, is_mark, is_nil, is_number_here, is_word_here, less_at, list_of, next_address, number_at, number_datum, number_in, number_of_name, operand_in, reserve_of, segment_of, set_cpu_of, stated, takes_accumulator, values_of, whole, ◌>>=◌}
+pub use Rattle.stmt65.specs.Reading.{bracketed_in, data_of, half_datum, half_form, is_define, is_difference, is_equals, is_mark, is_nil, is_number_here, is_word_here, less_at, list_of, mark_value, next_address, number_at, number_datum, number_in, number_of_name, operand_in, reserve_of, segment_of, set_cpu_of, stated, takes_accumulator, values_of, whole, ◌>>=◌}
 unfoldable pub use Rattle.stmt65.specs.Reading.{constant_of, further_at, halved_in, immediate_of, inner_at, joined, less_one, line_at, mark_datum, named_at, next_datum, next_half, next_value, operation_at, other_at, reading_of, tail_at, text_in, word_datum}
 pub use Rattle.stmt65.specs.ReadingLaws.{ReadsLines, ReadsSpellings, SpellsOne, TakesParts}
 pub use Rattle.stmt65.specs.SourceLine.{Accumulator, Assignment, Code, Data, Datum, DifferenceValue, Empty, Form, HalfDatum, Instr, LessValue, NameValue, Nothing, NumberDatum, NumberValue, One, Operation, PlaceAssignment, Reserve, Segment, SetCpu, SourceLine, Statement, StringDatum, Two, Value, ValueDatum, Values, is_absolute}
@@ -55,7 +55,7 @@ pub use Rattle.stmt65.specs.Spelling.{IsDatum, IsItem, IsList, IsMinus, IsPlus, 
 unfoldable pub use Rattle.stmt65.specs.Spelling.{Spells}
 pub use Rattle.stmt65.specs.Statements.{alone, bytes_text, data_text, datum_text, definition_fields, distance_text, entry_text, fields_of, has_bytes, instr_fields, label_fields, next_text, numbers_text, quoted, remark_fields, return_text, with_operands}
 unfoldable pub use Rattle.stmt65.specs.Statements.{comma_list}
-pub use Rattle.stmt65.specs.Symbols.{Definition, address_of, apart, below, is_constant, is_small, lowered}
+pub use Rattle.stmt65.specs.Symbols.{Definition, address_of, apart, below, here, is_constant, is_small, lowered, with_here}
 unfoldable pub use Rattle.stmt65.specs.Symbols.{find_name, has_zero_page_size, is_known, value_in, word_in}
 pub use Rattle.stmt65.specs.TableLaws.{CutsTexts, EndsStretch, IsCut, datum_bytes}
 pub use Rattle.stmt65.specs.Tables.{entry_len, entry_number, in_order, is_plain, onto_stretch, order_of}

@@ -21,7 +21,7 @@ pub enum Value<'a> {
     Number(Numeral<'a>),
     /// A number, and the number that is added to it. Only a repair has it.
     Sum(Numeral<'a>, Numeral<'a>),
-    /// A name, the number that is added to its value, and what is subtracted.
+    /// A name, the number that is added to its value, and what is subtracted. In a repair `*` is a name too.
     Name(&'a [u8], Numeral<'a>, Minus),
     /// A name, and the number that is subtracted from its value. Only a repair has it.
     Less(&'a [u8], Numeral<'a>),

@@ -3,11 +3,12 @@ use Rattle.std.proofs.Common.{arith, ◌≡◌, ℕ, Bool, true, false, cond, eq
 use Rattle.std.specs.Prelude.{◌||◌}
 use Rattle.std.specs.Str.{bytes_eq}
 use Rattle.std.proofs.lemmas.Slice.Eq.{bytes_eq-Decides}
-use Rattle.std.proofs.lemmas.Bool.{eqb-true}
+use Rattle.std.proofs.lemmas.Bool.{eqb-true, false_from_ne_true}
 use Rattle.std.proofs.lemmas.List.Elements.{filter-append}
-use Rattle.stmt65.specs.Words.{Definition, find_name}
+use Rattle.stmt65.specs.Words.{Definition, find_name, here, is_name, with_here}
+use Rattle.text65.specs.Names.{has_name_form}
 use Rattle.map65.specs.Words.{ImageView}
-use Rattle.da65.specs.Words.{AreSound, Knows, AddressNames, base_name, definition_of, definitions_of, is_base}
+use Rattle.da65.specs.Words.{AreSound, Knows, KnowsAll, AddressNames, base_name, definition_of, definitions_of, is_base}
 use Rattle.std.proofs.lemmas.Bool.Decides.{nat_tests}
 
 -- ---- the first definition
@@ -20,6 +21,18 @@ first-is : (w : List ℕ) (ds : List Definition) → find_name w ds ≡ first_of
 unfolding find_name
 first-is w [] = refl
 first-is w (d ∷ ds) = grind (arith, (first-is w ds))
+
+-- ---- `*`
+
+-- it is no name
+no-here : (w : List ℕ) → is_name w ≡ true → bytes_eq here w ≡ false
+unfolding is_name has_name_form
+no-here w h = false_from_ne_true (bytes_eq here w) (λ e. absurd (let same : here ≡ w = (bytes_eq-Decides here w).0 e in let h' = rw (← same) at h in cc))
+
+-- so with it all bases are known as without
+pub knows_here : (image : ImageView) (m : AddressNames) (at : Option ℕ) (all : List Definition) → AreSound image m → KnowsAll m all → KnowsAll m (with_here at all)
+knows_here image m None all names k = k
+knows_here image m (Some at) all names k = record { found = λ v base. rw (no-here (base_name m v) (names.named v base)) (k.found v base) }
 
 -- ---- one name
 

@@ -5,6 +5,7 @@ use Rattle.std.proofs.lemmas.List.{map-append}
 use Rattle.da65.specs.Words.{AsmFault, AsmFaultKind, Cpu, Knows, KnowsAll, ListingLine, AddressNames, is_base, reading_of_line}
 use Rattle.stmt65.specs.Words.{Definition, SourceLine, State, after, bytes_of, coded, fault_of, final, free, unless, with_front}
 use Rattle.da65.proofs.Blocks.Knowledge.{knows_same}
+use Rattle.da65.proofs.Statements.StandsLaws.{Always}
 
 -- the address and the CPU before a line, and the bases that are known there
 pub record Point : Type 0 where
@@ -24,7 +25,7 @@ pub record Leads (m : AddressNames) (p : Point) (above : List Definition) (ls : 
   pub all_above : List Definition
   pub known : Knows m q.knows all_above
   pub reaches : final (state p above) (map reading_of_line ls) ≡ state q all_above
-  pub codes : (all : List Definition) → KnowsAll m all → (n : ℕ) → coded all n (state p above) (map reading_of_line ls) ≡ Ok bytes
+  pub codes : (all : List Definition) → Always (λ all. KnowsAll m all) all → (n : ℕ) → coded all n (state p above) (map reading_of_line ls) ≡ Ok bytes
 
 -- the same from each state at the point
 pub record Gives (m : AddressNames) (p : Point) (ls : List ListingLine) (bytes : List ℕ) (q : Point) : Type 0 where

@@ -11,7 +11,7 @@ use Rattle.stmt65.specs.Views as view
 use Rattle.stmt65.specs.Words.{final, free, initial, meaning_of}
 use Rattle.map65.specs.Words.{AreBytes, ImageView, IsPlaced, MapView, end_of}
 use Rattle.da65.proofs.Blocks.GroupBlocks.{groups_give}
-use Rattle.da65.proofs.Blocks.Knowledge.{knows_nothing}
+use Rattle.da65.proofs.Blocks.Knowledge.{knows_here, knows_nothing}
 use Rattle.da65.proofs.Blocks.LineBlocks.{cpu_gives, empty_line_gives, quiet_blank, quiet_gives, quiet_remark}
 use Rattle.da65.proofs.Blocks.LineLaws.{Gives, Leads, gives_append, gives_from, gives_to, point}
 use Rattle.da65.proofs.Blocks.NameBlocks.{constants_give, constants_to, names_to}
@@ -74,4 +74,4 @@ pub listing_gives_image : ListingGivesImage
 unfolding meaning_of
 listing_gives_image m placed are known none =
     let all = all_leads m placed are known none in
-    all.codes (final (initial free m.image.start) (readings_of m)).above (rw all.reaches all.known) 1
+    all.codes (final (initial free m.image.start) (readings_of m)).above (λ at. rw all.reaches (knows_here m.image (names_of m) at all.all_above (names m placed are known none) all.known)) 1

@@ -1,5 +1,5 @@
 -- The names of a map are such that its listing assembles back.
-use Rattle.std.proofs.Common.{◌≡◌, ◌∙◌, inl, inr, ℕ, ◌+◌, ◌-◌, ◌<◌, Bool, true, false, not, length, Some, refl, sym, ap, subst, arith}
+use Rattle.std.proofs.Common.{◌≡◌, ◌∙◌, inl, inr, ℕ, ◌+◌, ◌-◌, ◌<◌, Bool, List, true, false, not, length, Some, refl, sym, ap, subst, arith}
 use Rattle.std.proofs.lemmas.Bool.{false_from_ne_true, true≢false}
 use Rattle.std.proofs.lemmas.List.Folds.{list_any_at}
 use Rattle.map65.specs.Words.{Base, BaseLaw, IsInCode, IsOutside, LiesBy, MapView, addresses, base_at, is_inside, is_skip, item_len, place_of, role_of, size_at, text_by}
@@ -7,7 +7,9 @@ use Rattle.da65.specs.Words.{NamesAreSound, Place, base_name, is_constant, names
 use Rattle.map65.specs.declared.name.Place.TheVariants as place
 use Rattle.map65.proofs.Public.{address-at, address-count, base_law, begun, inside-if, place_law, size-fits, within}
 use Rattle.da65.proofs.Groups.DefinedLemmas.{Defined, defined-base}
+use Rattle.da65.proofs.Names.NameTexts.{base-text}
 use Rattle.da65.proofs.Names.TargetBounds.{base-small}
+use Rattle.stmt65.specs.Words.{is_name}
 
 -- ---- skipped bytes
 
@@ -69,6 +71,7 @@ names_are_sound m placed are names none =
           let d : Defined m v = defined-base m v is_v in
           let text : b.base.text ≡ d.base.text = sym (text-is m u b.base b.is) ∙ same ∙ text-is m v d.base d.is in
           sym b.own ∙ some-same b.base d.base (law.distinct u v b.base d.base (base-small m u b.base placed are names b.is) (base-small m v d.base placed are names d.is) b.is d.is text) ∙ d.own;
+      named = λ v is. let b : Defined m v = defined-base m v is in subst (λ (w : List ℕ). is_name w ≡ true) (sym (text-is m v b.base b.is)) (base-text m v b.base names b.is).name;
       in_space = λ v is. let b : Defined m v = defined-base m v is in base-small m v b.base placed are names b.is;
       bases = λ a b is. record { base = law.own a b is; before = law.low a b is };
       constants = λ v is. let b : Defined m v = defined-base m v is in constant-is m v none b;

@@ -9,6 +9,7 @@ use Rattle.stmt65.specs.Words.{Data, Definition, Entry, Fixed, Instr, NameValue,
 use Rattle.stmt65.specs.declared.source_line.Minus.TheVariants.{One}
 use Rattle.stmt65.specs.declared.directive.Directive.TheVariants.{Word}
 use Rattle.map65.specs.Words.{AreBytes, ImageView, code_size, entry_of}
+use Rattle.da65.proofs.Blocks.Knowledge.{knows_here}
 use Rattle.da65.proofs.Statements.EachStatement.{OfCode, OfTable, of_group, of_item}
 use Rattle.da65.proofs.Statements.FragmentLaws.{FragmentsGive, fixed_gives, no_fragments}
 use Rattle.da65.proofs.Statements.LabelLaws.{group_takes, item_takes, label_read}
@@ -111,8 +112,8 @@ module _ (image : ImageView) (m : AddressNames) (names : AreSound image m) where
   stands_give : (all : List Definition) (s : State) (o : Operation) (bytes : List ℕ) → KnowsAll m all → Stands Full s o bytes → s.at + length bytes ≤ 65536 → GivesBytes all s (Statement None o) bytes
   unfolding is_twice defined_by
   stands_give all s o bytes k h room = record {
-    no_fault = no_fault Full s (Statement None o) s.cpu bytes h all k refl refl room;
-    gives = bytes_are Full s (Statement None o) s.cpu bytes h all k;
+    no_fault = no_fault Full s (Statement None o) s.cpu bytes h all (λ at. knows_here image m at all names k) refl refl room;
+    gives = bytes_are Full s (Statement None o) s.cpu bytes h all (λ at. knows_here image m at all names k);
     leads = after_is Full s (Statement None o) s.cpu bytes h ∙ rw (append-nil s.above) refl;
   }
 

@@ -5,7 +5,7 @@ use Rattle.std.specs.List.{flat_map, list_any}
 use Rattle.std.proofs.lemmas.Bool.{le-ltb}
 use Rattle.isa65.specs.Words.{Table, decoded, len_of}
 use Rattle.da65.specs.Words.{Cpu, Op, instruction_in}
-use Rattle.stmt65.specs.Words.{Data, Definition, Fragment, NumberDatum, Operation, SourceLine, State, after, bytes_of, coding, cpu_after, datum_fragments, defined_by, fault_of, fragments_of, has_no_form, has_unknown_cpu, is_out_of_range, is_past_end, is_past_start, is_twice, is_undefined, next_of, operation_in}
+use Rattle.stmt65.specs.Words.{Data, Definition, Fragment, NumberDatum, Operation, SourceLine, State, after, bytes_of, coding, cpu_after, datum_fragments, defined_by, fault_of, fragments_of, has_no_form, has_unknown_cpu, here_in, is_out_of_range, is_past_end, is_past_start, is_twice, is_undefined, names_for, next_of, operation_in, with_here}
 use Rattle.map65.specs.Words.{AreBytes}
 use Rattle.da65.proofs.Statements.FragmentLaws.{FragmentsGive, data_give}
 
@@ -24,6 +24,10 @@ Stands Full s o bytes = StandsTo Full s o s.cpu bytes
 
 -- ---- a line whose operation stands
 
+-- it holds of the definitions whatever address `*` has beside them
+abbrev pub Always : (List Definition → Type 0) → List Definition → Type 0
+Always Full all = (at : Option ℕ) → Full (with_here at all)
+
 module _ (Full : List Definition → Type 0) (s : State) (source : SourceLine) (cpu : Cpu) (bytes : List ℕ) (h : StandsTo Full s (operation_in source) cpu bytes) where
   fragments_are : fragments_of s source ≡ h.fragments
   unfolding fragments_of
@@ -37,9 +41,9 @@ module _ (Full : List Definition → Type 0) (s : State) (source : SourceLine) (
   unfolding after
   after_is = rw (next_is, h.next_cpu) refl
 
-  pub bytes_are : (all : List Definition) → Full all → bytes_of all s (Some source) ≡ bytes
+  pub bytes_are : (all : List Definition) → Always Full all → bytes_of all s (Some source) ≡ bytes
   unfolding bytes_of
-  bytes_are all full = rw (next_is, fragments_are) (h.gives.gives all full)
+  bytes_are all full = rw (next_is, fragments_are) (h.gives.gives (names_for all s source) (full (here_in s.at (operation_in source))))
 
   has_form : has_no_form s source ≡ false
   unfolding has_no_form
@@ -58,9 +62,12 @@ module _ (Full : List Definition → Type 0) (s : State) (source : SourceLine) (
   has_room room = rw next_is (le-ltb 65536 (s.at + length bytes) room)
 
   -- if it defines nothing twice, and all in the address space
-  pub no_fault : (all : List Definition) → Full all → is_twice s source ≡ false → list_any (λ d. nat_lt 65535 d.value) (defined_by s.at source) ≡ false → s.at + length bytes ≤ 65536 → fault_of all s (Some source) ≡ None
+  pub no_fault : (all : List Definition) → Always Full all → is_twice s source ≡ false → list_any (λ d. nat_lt 65535 d.value) (defined_by s.at source) ≡ false → s.at + length bytes ≤ 65536 → fault_of all s (Some source) ≡ None
   unfolding fault_of
-  no_fault all full new space room = rw (h.known_cpu, has_form, is_defined all full, new, in_range all full space, h.starts, has_room room) refl
+  no_fault all full new space room =
+      let names : List Definition = names_for all s source in
+      let holds : Full names = full (here_in s.at (operation_in source)) in
+      rw (h.known_cpu, has_form, is_defined names holds, new, in_range names holds space, h.starts, has_room room) refl
 
 -- ---- data
 

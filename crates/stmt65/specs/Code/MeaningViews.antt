@@ -7,13 +7,13 @@ use Rattle.stmt65.specs.declared.assembling.symbols.Definition.{Definition as Co
 use Rattle.stmt65.specs.declared.assembling.state.State.{State as CodeState}
 use Rattle.stmt65.specs.declared.source_line.SourceLine.{SourceLine as CodeSourceLine}
 use Rattle.stmt65.specs.SourceLine.{Operation, SourceLine}
-use Rattle.stmt65.specs.Symbols.{Definition, find_name}
+use Rattle.stmt65.specs.Symbols.{Definition, find_name, with_here}
 use Rattle.stmt65.specs.Code.SourceLineViews.{source_of}
 use Rattle.stmt65.specs.Code.SymbolViews.{definition_of}
 use Rattle.stmt65.specs.Coding.{State, Fragment, are_known, coding, fragment_bytes, fragment_fits}
 use Rattle.stmt65.specs.Code.CodingViews.{coded_of}
 use Rattle.stmt65.specs.Code.Held.{held}
-use Rattle.stmt65.specs.Meaning.{next_of, cpu_after, operation_in, defined_by, first_of, fragments_of, has_large, has_no_form, has_unknown_cpu, is_past_start, unless, with_front}
+use Rattle.stmt65.specs.Meaning.{next_of, cpu_after, operation_in, defined_by, first_of, fragments_of, has_large, here_in, has_no_form, has_unknown_cpu, is_past_start, unless, with_front}
 
 -- ---- a line
 
@@ -45,12 +45,13 @@ is_named_in above ds = list_any (λ d. is_some (find_name d.name above)) ds
 abbrev pub IsCoding : Option CodeCoded → State → Operation → Type 0
 IsCoding coded s operation = option_map coded_of coded ≡ coding s operation
 
--- A line in its state, as the code holds it: what its bytes stand for, the address after it, what it defines, and
--- whether it names an unknown CPU, has a form that the CPU has not, defines a name a second time, or enters a segment
--- past its start.
+-- A line in its state, as the code holds it: what its bytes stand for, the address after it, that which `*` is, what it
+-- defines, and whether it names an unknown CPU, has a form that the CPU has not, defines a name a second time, or
+-- enters a segment past its start.
 pub record Place : Type 0 where
   pub fragments : List Fragment
   pub next : ℕ
+  pub here : Option ℕ
   pub defined : List Definition
   pub unknown_cpu : Bool
   pub no_form : Bool
@@ -61,6 +62,7 @@ abbrev pub place_of : List Definition → Placed → Place
 place_of above p = record {
   fragments = fragments_in p.coded;
   next = p.next;
+  here = p.here;
   defined = definitions_in p.definition;
   unknown_cpu = p.has_unknown_cpu;
   no_form = is_none p.coded;
@@ -72,6 +74,7 @@ unfoldable pub place_in : State → SourceLine → Place
 place_in s source = record {
   fragments = fragments_of s source;
   next = held (next_of s source);
+  here = option_map held (here_in s.at (operation_in source));
   defined = held_definitions (defined_by s.at source);
   unknown_cpu = has_unknown_cpu (operation_in source);
   no_form = has_no_form s source;
@@ -94,15 +97,19 @@ fault_by fit p = first_of (
     (PastStart, p.past_start) ∷
     (PastEnd, nat_lt 65536 p.next) ∷ [])
 
+-- the same by the definitions by which its operands have their values
+abbrev pub fault_with : List Definition → Place → Option AsmFaultKind
+fault_with names p = fault_by (record { is_known = are_known names p.fragments; has_room = list_all (fragment_fits names p.next) p.fragments }) p
+
 -- the lowest fault of a line; `all` are the definitions of the whole text
 unfoldable pub fault_at : List Definition → Option Place → Option AsmFaultKind
 fault_at all None = Some Syntax
-fault_at all (Some p) = fault_by (record { is_known = are_known all p.fragments; has_room = list_all (fragment_fits all p.next) p.fragments }) p
+fault_at all (Some p) = fault_with (with_here p.here all) p
 
 -- the bytes of a line that has no fault
 unfoldable pub bytes_at : List Definition → Option Place → List ℕ
 bytes_at all None = []
-bytes_at all (Some p) = flat_map (fragment_bytes all p.next) p.fragments
+bytes_at all (Some p) = flat_map (fragment_bytes (with_here p.here all) p.next) p.fragments
 
 -- what comes of line n, with what comes of the lines below it
 abbrev pub line_then : List Definition → ℕ → Option Place → Result (List ℕ) AsmFault → Result (List ℕ) AsmFault

@@ -5,8 +5,9 @@ ghost use Rattle.stmt65.specs.Words.{out_of_memory};
 
 use crate::assembling::fault::{AsmFault, AsmFaultKind};
 use crate::assembling::layout::Layout;
-use crate::assembling::symbols::KnownNames;
+use crate::assembling::symbols::LineNames;
 use crate::assembling::values::word_in;
+use crate::reading::names::HERE;
 use crate::reading::numeral::Numeral;
 use crate::source_line::{Datum, Form, Notation, Operation, SourceLine, Value};
 use isa65::{Cpu, Mode, OpcodeSet, Pattern};
@@ -81,7 +82,7 @@ fn names_of(value: Value<'_>) -> [Option<&[u8]>; 2] {
     }
 }
 
-/// The names in the operands of an operation, in the order in which they are written.
+/// The names in the operands of an operation but `*`, in the order in which they are written.
 ///
 /// Fails if an allocation is refused.
 pub fn names_in<'a, A: Allocator, B: Allocator>(
@@ -94,8 +95,9 @@ pub fn names_in<'a, A: Allocator, B: Allocator>(
             break;
         };
         for name in names_of(value) {
-            if let Some(name) = name {
-                found.push(name)?;
+            match name {
+                Some(name) if name != HERE => found.push(name)?,
+                _ => {}
             }
         }
     }
@@ -104,7 +106,7 @@ pub fn names_in<'a, A: Allocator, B: Allocator>(
 
 /// The first name of an expression that has no definition.
 fn unknown_in<'a, A: Allocator + Clone>(
-    names: &KnownNames<'_, '_, A>,
+    names: &LineNames<'_, '_, '_, A>,
     value: Value<'a>,
 ) -> Option<About<'a>> {
     for name in names_of(value) {
@@ -118,7 +120,7 @@ fn unknown_in<'a, A: Allocator + Clone>(
 
 /// How far a difference of two addresses is below 0.
 fn below_zero<'a, A: Allocator + Clone>(
-    names: &KnownNames<'_, '_, A>,
+    names: &LineNames<'_, '_, '_, A>,
     value: Value<'_>,
 ) -> Option<About<'a>> {
     let Value::Difference(name, other) = value else {
@@ -145,7 +147,7 @@ fn target_of<'a, B: Allocator>(operation: &Operation<'a, B>) -> Option<Value<'a>
 
 /// How far it is from the address after a branch to its target, if that is too far.
 fn too_far<'a, A: Allocator + Clone, B: Allocator>(
-    names: &KnownNames<'_, '_, A>,
+    names: &LineNames<'_, '_, '_, A>,
     next: u64,
     operation: &Operation<'_, B>,
 ) -> Option<About<'a>> {
@@ -160,7 +162,7 @@ fn too_far<'a, A: Allocator + Clone, B: Allocator>(
 /// What the first expression that a fault of this kind is about says of it.
 fn of_values<'a, A: Allocator + Clone, B: Allocator>(
     kind: AsmFaultKind,
-    names: &KnownNames<'_, '_, A>,
+    names: &LineNames<'_, '_, '_, A>,
     operation: &Operation<'a, B>,
 ) -> Option<About<'a>> {
     for place in 0..usize::MAX {
@@ -180,7 +182,7 @@ fn of_values<'a, A: Allocator + Clone, B: Allocator>(
 /// definition, and the address after the line.
 pub fn explain<'a, L: Allocator + Clone, A: Allocator + Clone, B: Allocator>(
     kind: AsmFaultKind,
-    names: &KnownNames<'_, '_, A>,
+    names: &LineNames<'_, '_, '_, A>,
     layout: &Layout<'_, L>,
     next: u64,
     source: &SourceLine<'a, B>,

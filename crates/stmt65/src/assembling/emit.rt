@@ -6,7 +6,7 @@ ghost use Rattle.stmt65.specs.Words.{Emits, coded_of, coding_len, data_fragments
 use crate::assembling::coding::{Coded, Fragment, Instruction, Operand};
 use crate::assembling::entries::size;
 use crate::assembling::fragment_bytes::{is_fragment_known, put_fragment};
-use crate::assembling::symbols::KnownNames;
+use crate::assembling::symbols::LineNames;
 use crate::directive::Directive;
 use crate::source_line::{Datum, Value};
 use std::alloc::{AllocError, Allocator};
@@ -110,7 +110,7 @@ fn both(one: Fit, other: Fit) -> Fit
 #[tactic(auto, using(crate::proofs::CodingLemmas::fits_put, crate::proofs::CodingLemmas::misses_put))]
 fn put<A: Allocator + Clone, B: Allocator>(
     out: &mut Vec<u8, B>,
-    names: &KnownNames<'_, '_, A>,
+    names: &LineNames<'_, '_, '_, A>,
     next: u64,
     fragment: Fragment,
 ) -> Result<Fit, AllocError>
@@ -128,7 +128,7 @@ fn put<A: Allocator + Clone, B: Allocator>(
 #[tactic(auto, using(crate::proofs::CodingLemmas::text_put))]
 fn put_datum<A: Allocator + Clone, B: Allocator>(
     out: &mut Vec<u8, B>,
-    names: &KnownNames<'_, '_, A>,
+    names: &LineNames<'_, '_, '_, A>,
     next: u64,
     datum: &Datum,
 ) -> Result<Fit, AllocError>
@@ -151,7 +151,7 @@ fn put_datum<A: Allocator + Clone, B: Allocator>(
 #[tactic(auto, using(crate::proofs::CodingLemmas::data_put))]
 fn put_data<A: Allocator + Clone, B: Allocator>(
     out: &mut Vec<u8, B>,
-    names: &KnownNames<'_, '_, A>,
+    names: &LineNames<'_, '_, '_, A>,
     next: u64,
     items: &[Datum],
 ) -> Result<Fit, AllocError>
@@ -167,7 +167,7 @@ fn put_data<A: Allocator + Clone, B: Allocator>(
 #[tactic(auto, using(crate::proofs::CodingLemmas::entries_put))]
 fn put_values<A: Allocator + Clone, B: Allocator>(
     out: &mut Vec<u8, B>,
-    names: &KnownNames<'_, '_, A>,
+    names: &LineNames<'_, '_, '_, A>,
     next: u64,
     directive: Directive,
     values: &[Value],
@@ -187,7 +187,7 @@ fn put_values<A: Allocator + Clone, B: Allocator>(
 #[tactic(auto, using(crate::proofs::CodingLemmas::more_put, crate::proofs::CodingLemmas::nothing_put))]
 fn put_operand<A: Allocator + Clone, B: Allocator>(
     out: &mut Vec<u8, B>,
-    names: &KnownNames<'_, '_, A>,
+    names: &LineNames<'_, '_, '_, A>,
     next: u64,
     operand: Operand,
 ) -> Result<Fit, AllocError>
@@ -206,7 +206,7 @@ fn put_operand<A: Allocator + Clone, B: Allocator>(
 #[tactic(auto, using(crate::proofs::CodingLemmas::opcode_put))]
 fn put_instruction<A: Allocator + Clone, B: Allocator>(
     out: &mut Vec<u8, B>,
-    names: &KnownNames<'_, '_, A>,
+    names: &LineNames<'_, '_, '_, A>,
     next: u64,
     instruction: Instruction,
 ) -> Result<Fit, AllocError>
@@ -220,7 +220,7 @@ fn put_instruction<A: Allocator + Clone, B: Allocator>(
 #[tactic(auto, using(crate::proofs::CodingLemmas::nothing_put))]
 pub fn put_coded<A: Allocator + Clone, B: Allocator>(
     out: &mut Vec<u8, B>,
-    names: &KnownNames<'_, '_, A>,
+    names: &LineNames<'_, '_, '_, A>,
     next: u64,
     coded: Coded,
 ) -> Result<Fit, AllocError>

@@ -5,7 +5,7 @@ ghost use Rattle.stmt65.specs.Words.{Adds, AddsOne, below, distance, entry_bytes
 
 use crate::assembling::coding::Fragment;
 use crate::assembling::entries::put_number;
-use crate::assembling::symbols::KnownNames;
+use crate::assembling::symbols::LineNames;
 use crate::assembling::values::{entry_in, is_known, word_in};
 use crate::directive::Directive;
 use crate::source_line::Half;
@@ -13,7 +13,7 @@ use std::alloc::{AllocError, Allocator};
 
 /// Whether each name in the fragment has a definition.
 pub fn is_fragment_known<A: Allocator + Clone>(
-    names: &KnownNames<'_, '_, A>,
+    names: &LineNames<'_, '_, '_, A>,
     fragment: Fragment,
 ) -> bool
     ensures { result ≡ is_fragment_known names.now (fragment_of fragment.entry) }
@@ -112,7 +112,7 @@ fn put_entry<A: Allocator>(
 #[tactic(auto, unfolding(crate::specs::Coding::fragment_fits, crate::specs::Coding::fragment_bytes))]
 pub fn put_fragment<A: Allocator + Clone, B: Allocator>(
     out: &mut Vec<u8, B>,
-    names: &KnownNames<'_, '_, A>,
+    names: &LineNames<'_, '_, '_, A>,
     next: u64,
     fragment: Fragment,
 ) -> Result<bool, AllocError>

@@ -3,7 +3,7 @@
 ghost use Rattle.std.specs.Prelude.{◌≡◌, ◌||◌, IfOk, None, OnOk, Some, drop, false, is_some, nat_lt, take, true};
 ghost use Rattle.std.specs.Option.{option_map};
 ghost use Rattle.std.specs.Bool.{OnFalse, OnTrue};
-ghost use Rattle.stmt65.specs.Words.{Codes, Emits, IsIdle, Keeps, Settles, fault_by, fragments_in, late_line, place_of};
+ghost use Rattle.stmt65.specs.Words.{Codes, Emits, IsIdle, Keeps, Settles, fault_by, fragments_in, late_line, place_of, with_here};
 
 use crate::assembling::about::{About, explain};
 use crate::assembling::emit::{FITS, Fit, put_coded};
@@ -11,7 +11,7 @@ use crate::assembling::fault::{AsmFault, AsmFaultKind};
 use crate::assembling::line_faults::fault_by;
 use crate::assembling::placed::{Placed, place};
 use crate::assembling::state::{State, select};
-use crate::assembling::symbols::{KnownNames, Symbols};
+use crate::assembling::symbols::{KnownNames, LineNames, Symbols};
 use crate::source_line::SourceLine;
 use isa65::Cpu;
 use std::alloc::{AllocError, Allocator};
@@ -59,11 +59,12 @@ fn put_placed<A: Allocator + Clone, B: Allocator>(
     names: &KnownNames<'_, '_, A>,
     placed: &Placed,
 ) -> Result<Fit, AllocError>
-    ensures { Emits result names.now placed.now.next (fragments_in placed.now.coded)
-        out.old out.new }
+    ensures { Emits result (with_here placed.now.here names.now) placed.now.next
+        (fragments_in placed.now.coded) out.old out.new }
 {
+    let names = LineNames::new(names, placed.here);
     match placed.coded {
-        Some(coded) => put_coded(out, names, placed.next, coded),
+        Some(coded) => put_coded(out, &names, placed.next, coded),
         None => Ok(FITS),
     }
 }
@@ -175,7 +176,8 @@ pub fn code_late<'a, L: Allocator + Clone, A: Allocator + Clone, C: Allocator>(
     let all = names.all();
     match code_placed(&all, &above, &placed, out)? {
         Some(kind) => {
-            let about = explain(kind, &all, state.layout, placed.next, source);
+            let names = LineNames::new(&all, placed.here);
+            let about = explain(kind, &names, state.layout, placed.next, source);
             Ok(Some((kind, about)))
         }
         None => Ok(None),

@@ -1,22 +1,24 @@
 //! A line in its state.
 
 ghost use Rattle.std.specs.Prelude.{◌≡◌, List};
-ghost use Rattle.stmt65.specs.Words.{Definition as ADefinition, IsCoding, coding_len, defined_by, definitions_in, fragments_in, has_unknown_cpu, held, held_definitions, is_past_start, line_operation, place_in, place_of, source_of, state_of};
+ghost use Rattle.std.specs.Option.{option_map};
+ghost use Rattle.stmt65.specs.Words.{Definition as ADefinition, IsCoding, coding_len, defined_by, definitions_in, fragments_in, has_unknown_cpu, held, here_in, here_offset, held_definitions, is_past_start, line_operation, place_in, place_of, source_of, state_of};
 
 use crate::assembling::coding::{Coded, coding};
 use crate::assembling::emit::coded_len;
 use crate::assembling::state::State;
 use crate::assembling::symbols::{Definition, KnownNames};
-use crate::source_line::{Operation, SourceLine};
+use crate::source_line::{Form, Operation, SourceLine};
 use isa65::Cpu;
 use std::alloc::Allocator;
 
-/// A line in its state: what its bytes stand for, or `None` if the CPU has no such form, the address after it, what it
-/// defines, and two of its faults.
+/// A line in its state: what its bytes stand for, or `None` if the CPU has no such form, the address after it, that
+/// which `*` is, what the line defines, and two of its faults.
 #[derive(Clone, Copy)]
 pub struct Placed<'s, 'a> {
     pub coded: Option<Coded<'s, 'a>>,
     pub next: u64,
+    pub here: Option<u64>,
     pub definition: Option<Definition<'a>>,
     /// Whether it sets a CPU by a text that is no CPU's.
     pub has_unknown_cpu: bool,
@@ -46,6 +48,30 @@ fn length_of(coded: Option<Coded>) -> u64
         Some(coded) => coded_len(coded),
         None => 0,
     }
+}
+
+/// How many bytes of a line ca65 has written when it reads its `*`; `None` if that would differ from one to the next.
+fn here_offset<'a, B: Allocator>(source: &SourceLine<'a, B>) -> Option<u64>
+    ensures { result ≡ here_offset (line_operation source.now) }
+{
+    let SourceLine::Statement { operation, .. } = source else {
+        return None;
+    };
+    match operation {
+        Operation::Instr(_, Form::Two(_, _)) => Some(2),
+        Operation::Instr(_, _) => Some(0),
+        Operation::Data(data) if data.len() == 1 => Some(0),
+        Operation::Values(_, values) if values.len() == 1 => Some(0),
+        _ => None,
+    }
+}
+
+/// The address that `*` is in a line at this address, if it has a value there.
+fn here_in<'a, B: Allocator>(address: u64, source: &SourceLine<'a, B>) -> Option<u64>
+    ensures { result ≡ option_map held (here_in address (line_operation source.now)) }
+{
+    let offset = here_offset(source)?;
+    Some(address.saturating_add(offset))
 }
 
 /// What a line at this address defines.
@@ -127,6 +153,7 @@ pub fn place<'s, 'a, L: Allocator + Clone, A: Allocator + Clone, B: Allocator>(
     Placed {
         coded,
         next: state.address.saturating_add(length_of(coded)),
+        here: here_in(state.address, source),
         definition: definition_in(state.address, source),
         has_unknown_cpu: has_unknown_cpu(source),
         is_past_start: is_past_start(state, source),

@@ -3,9 +3,10 @@
 ghost use Rattle.std.specs.Prelude.{◌≡◌, ◌<◌, ◌++◌, ℕ, [], ◌∷◌, IfOk, OnOk, get_or, length, map, take};
 ghost use Rattle.std.specs.List.{slice_get};
 ghost use Rattle.std.specs.Option.{option_map};
-ghost use Rattle.stmt65.specs.Words.{address_of, definition_of, find_name, first_at};
+ghost use Rattle.stmt65.specs.Words.{address_of, definition_of, find_name, first_at, with_here};
 ghost use Rattle.stmt65.specs.Code.SymbolViews.{hash_of, is_named, slot_of};
 
+use crate::reading::names::HERE;
 use std::alloc::{AllocError, Allocator, Global};
 use std::collections::BTreeMap;
 use std::marker::Model;
@@ -224,6 +225,46 @@ impl<'t, 'a, A: Allocator + Clone> KnownNames<'t, 'a, A> {
             self.table.at(place)
         } else {
             None
+        }
+    }
+}
+
+/// Names, and `*` if it has an address.
+#[derive(Drop)]
+pub struct LineNames<'k, 't, 'a, A: Allocator> {
+    names: &'k KnownNames<'t, 'a, A>,
+    here: Option<u64>,
+}
+
+impl<'k, 't, 'a, A: Allocator> Model for LineNames<'k, 't, 'a, A> {
+    ghost use Rattle.std.specs.Prelude.{List};
+    ghost use Rattle.stmt65.specs.Symbols.{Definition, with_here};
+
+    ghost Value = { List Definition };
+
+    ghost view = { λ n. with_here n.here n.names.now };
+}
+
+impl<'k, 't, 'a, A: Allocator + Clone> LineNames<'k, 't, 'a, A> {
+    /// These names, and the address that `*` is.
+    pub fn new(names: &'k KnownNames<'t, 'a, A>, here: Option<u64>) -> Self
+        ensures { result ≡ with_here here names.now }
+    {
+        LineNames { names, here }
+    }
+
+    /// The first definition of the name.
+    #[tactic(auto, unfolding(crate::specs::Symbols::find_name))]
+    pub fn find(&self, name: &[u8]) -> Option<Definition<'a>>
+        ensures { option_map definition_of result ≡ find_name name.now self.now }
+    {
+        match self.here {
+            Some(value) if name == HERE => Some(Definition {
+                name: HERE,
+                value,
+                constant: false,
+            }),
+            _ => self.names.find(name),
         }
     }
 }

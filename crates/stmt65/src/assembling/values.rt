@@ -4,7 +4,7 @@ ghost use Rattle.std.specs.Prelude.{◌≡◌, ◌≤◌, ◌+◌, Some};
 ghost use Rattle.stmt65.specs.Words.{address_of, apart, below, capped, definition_of, entry_in, entry_limit, has_zero_page_size, is_known, is_small, lowered, numeral_of, value_in, value_of, word_in};
 
 use crate::assembling::entries::limit;
-use crate::assembling::symbols::{Definition, KnownNames};
+use crate::assembling::symbols::{Definition, KnownNames, LineNames};
 use crate::directive::Directive;
 use crate::reading::numeral::Numeral;
 use crate::source_line::{Minus, Value};
@@ -13,7 +13,7 @@ use std::alloc::Allocator;
 /// The value, or `None` if it is below 0 or the name is undefined. A number of the expression that
 /// is greater than 2^64 - 1 counts as that.
 #[tactic(auto, unfolding(crate::specs::Symbols::value_in))]
-fn value_in<A: Allocator + Clone>(names: &KnownNames<'_, '_, A>, value: &Value) -> Option<u128>
+fn value_in<A: Allocator + Clone>(names: &LineNames<'_, '_, '_, A>, value: &Value) -> Option<u128>
     ensures { capped result ≡ capped (value_in names.now (value_of value.now)) }
 {
     match *value {
@@ -61,7 +61,7 @@ fn lowered(minus: Minus, n: u128) -> Option<u128>
 
 /// Whether each name in the expression has a definition.
 #[tactic(auto, unfolding(crate::specs::Symbols::is_known))]
-pub fn is_known<A: Allocator + Clone>(names: &KnownNames<'_, '_, A>, value: &Value) -> bool
+pub fn is_known<A: Allocator + Clone>(names: &LineNames<'_, '_, '_, A>, value: &Value) -> bool
     ensures { result ≡ is_known names.now (value_of value.now) }
 {
     match *value {
@@ -88,7 +88,7 @@ fn below(limit: u64, value: Option<u128>) -> Option<u32>
 
 /// The value if it is from 0 to $FFFF.
 #[tactic(auto, using(crate::proofs::NameLemmas::below_capped), unfolding(crate::specs::Symbols::word_in))]
-pub fn word_in<A: Allocator + Clone>(names: &KnownNames<'_, '_, A>, value: &Value) -> Option<u16>
+pub fn word_in<A: Allocator + Clone>(names: &LineNames<'_, '_, '_, A>, value: &Value) -> Option<u16>
     ensures { result ≡ word_in names.now (value_of value.now) }
 {
     let word = below(0x1_0000, value_in(names, value))?;
@@ -98,7 +98,7 @@ pub fn word_in<A: Allocator + Clone>(names: &KnownNames<'_, '_, A>, value: &Valu
 /// The value if an entry of the directive has room for it.
 #[tactic(auto, using(crate::proofs::NameLemmas::entry_capped), unfolding(crate::specs::Coding::entry_in))]
 pub fn entry_in<A: Allocator + Clone>(
-    names: &KnownNames<'_, '_, A>,
+    names: &LineNames<'_, '_, '_, A>,
     directive: Directive,
     value: &Value,
 ) -> Option<u32>

@@ -1,11 +1,11 @@
 //! Expressions: a number, the sum of two, a name with an optional number added and an optional `-1`, a name less a
-//! number, or the difference of two names; and what is an address or is halved.
+//! number, or the difference of two names; and what is an address or is halved. In a repair `*` is a name.
 
-ghost use Rattle.stmt65.specs.Words.{Reads, bracketed_in, halved_in, less_at, less_one, named_at, next_address, next_value, number_at, numeral_of, value_of};
+ghost use Rattle.stmt65.specs.Words.{Reads, bracketed_in, halved_in, less_at, less_one, mark_value, named_at, next_address, next_value, number_at, numeral_of, value_of};
 
 use crate::language::Language;
 use crate::reading::lexer::Part;
-use crate::reading::names::is_name;
+use crate::reading::names::{HERE, is_name};
 use crate::reading::numeral::Numeral;
 use crate::reading::parts::Parts;
 use crate::source_line::{Minus, Value};
@@ -72,6 +72,17 @@ fn number_at<'a>(
     Some(Value::Sum(number, plus))
 }
 
+/// After a byte by itself: in a repair `*` is a name.
+pub fn mark_value<'a>(language: Language, mark: u8, parts: &mut Parts<'a>) -> Option<Value<'a>>
+    ensures { Reads value_of result (mark_value language mark) parts.old parts.new }
+{
+    if language == Language::Repair && mark == b'*' {
+        named_at(Language::Repair, HERE, parts)
+    } else {
+        None
+    }
+}
+
 /// The next expression.
 #[tactic(auto, unfolding(crate::specs::Reading::next_value))]
 pub fn next_value<'a>(language: Language, parts: &mut Parts<'a>) -> Option<Value<'a>>
@@ -80,6 +91,7 @@ pub fn next_value<'a>(language: Language, parts: &mut Parts<'a>) -> Option<Value
     match parts.next()? {
         Part::Number(text) => number_at(language, Numeral { text }, parts),
         Part::Word(word) if is_name(word) => named_at(language, word, parts),
+        Part::Mark(mark) => mark_value(language, mark, parts),
         _ => None,
     }
 }
@@ -103,7 +115,7 @@ fn bracketed_in<'a>(parts: &mut Parts<'a>) -> Option<Value<'a>>
     parts.eat(b')').then_some(value)
 }
 
-/// What `<` and `>` take: a number, a name, or an expression in parentheses.
+/// What `<` and `>` take: a number, a name, `*`, or an expression in parentheses.
 #[tactic(auto, unfolding(crate::specs::Reading::halved_in))]
 pub fn halved_in<'a>(parts: &mut Parts<'a>) -> Option<Value<'a>>
     ensures { Reads value_of result halved_in parts.old parts.new }
@@ -112,6 +124,7 @@ pub fn halved_in<'a>(parts: &mut Parts<'a>) -> Option<Value<'a>>
         Part::Number(text) => Some(Value::Number(Numeral { text })),
         Part::Word(word) if is_name(word) => Some(Value::Name(word, Numeral::zero(), Minus::Zero)),
         Part::Mark(b'(') => bracketed_in(parts),
+        Part::Mark(b'*') => Some(Value::Name(HERE, Numeral::zero(), Minus::Zero)),
         _ => None,
     }
 }

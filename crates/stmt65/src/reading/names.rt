@@ -5,6 +5,9 @@ ghost use Rattle.stmt65.specs.Words.{is_name, same};
 
 use text65::{has_name_form, is_reserved_word};
 
+/// The name of the address of a line in a repair.
+pub const HERE: &[u8] = b"*";
+
 /// Whether the word is this text, in any letter case.
 pub fn is_word(word: &[u8], text: &[u8]) -> bool
     ensures { result ≡ same word.now text.now }

@@ -7,7 +7,7 @@ ghost use Rattle.stmt65.specs.Reading.{instruction_of, operation_of};
 
 use crate::directive::Directive;
 use crate::language::Language;
-use crate::reading::expressions::{halved_in, named_at, next_value};
+use crate::reading::expressions::{halved_in, mark_value, named_at, next_value};
 use crate::reading::lexer::Part;
 use crate::reading::names::{is_name, is_word};
 use crate::reading::numeral::Numeral;
@@ -103,7 +103,7 @@ fn half_datum<'a>(half: Half, parts: &mut Parts<'a>) -> Option<Datum<'a>>
     Some(Datum::Half(half, value))
 }
 
-/// After a byte by itself as an operand of `.byte`: in a repair a half.
+/// After a byte by itself as an operand of `.byte`: in a repair a half, or an expression with `*`.
 #[tactic(auto, unfolding(crate::specs::Reading::mark_datum))]
 fn mark_datum<'a>(language: Language, mark: u8, parts: &mut Parts<'a>) -> Option<Datum<'a>>
     ensures { Reads datum_of result (mark_datum language mark) parts.old parts.new }
@@ -114,7 +114,10 @@ fn mark_datum<'a>(language: Language, mark: u8, parts: &mut Parts<'a>) -> Option
     match mark {
         b'<' => half_datum(Half::Low, parts),
         b'>' => half_datum(Half::High, parts),
-        _ => None,
+        mark => {
+            let value = mark_value(Language::Repair, mark, parts)?;
+            Some(Datum::Value(value))
+        }
     }
 }
 

@@ -197,6 +197,7 @@ impl<'a> Places<'a> {
                 }
                 Part::Number(_) => {}
                 Part::Word(word) if is_name(word) => {}
+                Part::Mark(b'*') if language == Language::Repair => {}
                 part => {
                     half = half_after(half, part);
                     continue;

@@ -10,4 +10,4 @@ returns g c =
     let source = source_of c.args.source.now in
     let coded = c.coding_in-coded.ensures in
     let next = c.saturating_add.ensures ∙ next_coded s source c.coding_in-coded.result c.length_of.result coded c.length_of.ensures in
-    rw (fragments_coded s source c.coding_in-coded.result coded, form_coded s source c.coding_in-coded.result coded, next, c.has_unknown_cpu.ensures, c.definition_in.ensures, c.is_past_start.ensures c.args.above.now) refl
+    rw (fragments_coded s source c.coding_in-coded.result coded, form_coded s source c.coding_in-coded.result coded, next, c.here_in.ensures, c.has_unknown_cpu.ensures, c.definition_in.ensures, c.is_past_start.ensures c.args.above.now) refl
