@@ -1,7 +1,9 @@
 -- The parts of a line, step by step, and where they stand.
-use Rattle.std.specs.Prelude.{◌&&◌, ◌++◌, ◌+◌, ◌-◌, ◌<◌, ◌==◌, ◌∷◌, ◌≡◌, ◌≢◌}
+use Rattle.std.specs.Prelude.{◌&&◌, ◌++◌, ◌+◌, ◌-◌, ◌<◌, ◌==◌, ◌∷◌, ◌≡◌, ◌≢◌, ◌≤◌}
 use Rattle.stmt65.proofs.Lemmas.{List, [], add-one, and_parts, ap, arith, drop, drop-drop, eqb, eqb-true, false, get_or, length, length-drop, lt-ltb, ne_eqb, refl, suc, sym, take, take_rest, true, zero, ℕ, ◌∙◌}
-use Rattle.stmt65.specs.Words.{Language, Listing, Number, Part, Repair, Word, alone_at, begins_with, hex_len, is_ascii_digit, is_blank, is_text_byte, is_word_byte, is_word_start, nat_lt, part_at, part_text, parts, parts_after, prefix_len}
+use Rattle.stmt65.specs.Words.{Datum, GoesOver, IsWholeOperand, Language, Listing, Number, Part, Repair, StringDatum, Text, Word, alone_at, begins_operand, begins_with, from_operand, goes_on, hex_len, is_ascii_digit, is_blank, is_text_byte, is_word_byte, is_word_start, nat_lt, part_at, part_text, parts, parts_after, parts_left, prefix_len}
+use Rattle.stmt65.specs.Places.{EndsBefore, PlacesView}
+use Rattle.stmt65.specs.declared.reading.places.Span.{Span}
 use Rattle.stmt65.specs.Signs.{colon, dollar, equals, quote}
 use Rattle.stmt65.proofs.Cases.{by_test}
 
@@ -154,3 +156,50 @@ pub place_next : (l : Language) (line left : List ℕ) (from len : ℕ) (p : Par
 place_next l line left from len p r h = rw (rest_after line from len, ← r) h
 
 pub ruleset places = (place_text, place_next)
+
+-- ---- the place of an operand
+
+pub goes_nowhere : (p : PlacesView) → p.at ≤ length p.line → GoesOver p p
+goes_nowhere p h = record { language = refl; line = refl; on = omega arith; within = h }
+
+pub goes_further : (p q r : PlacesView) → GoesOver p q → GoesOver q r → GoesOver p r
+goes_further p q r h g = record { language = g.language ∙ h.language; line = g.line ∙ h.line; on = omega (arith, h.on, g.on); within = rw (← h.line) g.within }
+
+-- of a line some parts were passed over, and among those that are left the next operand is the same
+pub record IsSought (old now : PlacesView) : Type 0 where
+  pub over : GoesOver old now
+  pub same : from_operand old.language (parts_left now) ≡ from_operand old.language (parts_left old)
+
+pub sought_begun : (p : PlacesView) → p.at ≤ length p.line → IsSought p p
+sought_begun p h = record { over = goes_nowhere p h; same = refl }
+
+-- one more part, with which no operand begins
+pub sought_next : (old now next : PlacesView) (part : Part) → IsSought old now → GoesOver now next → parts_left now ≡ part ∷ parts_left next → begins_operand old.language part ≡ false → IsSought old next
+unfolding from_operand
+sought_next old now next part h over e none = record {
+  over = goes_further old now next h.over over;
+  same = (let step : from_operand old.language (parts_left now) ≡ from_operand old.language (parts_left next) = rw (e, none) refl in sym step) ∙ h.same;
+}
+
+ends_any : (d : Datum) (ps : List Part) → goes_on ps ≡ false → EndsBefore d ps
+ends_any (StringDatum t) ps h = tt
+ends_any _ ps h = h
+
+-- a part with which one begins, at its place
+sought_from : (old now next : PlacesView) (part : Part) (from : ℕ) → IsSought old now → parts now.language (drop from now.line) ≡ parts_left now → parts_left now ≡ part ∷ parts_left next → begins_operand old.language part ≡ true
+    → parts old.language (drop from old.line) ≡ from_operand old.language (parts_left old)
+unfolding from_operand
+sought_from old now next part from h place e begins =
+    let here : from_operand old.language (parts_left now) ≡ parts_left now = rw (e, begins) refl in
+    rw (← h.over.language, ← h.over.line) place ∙ sym here ∙ h.same
+
+-- a string, and an expression with its terms
+pub sought_text : (old now next : PlacesView) (text : List ℕ) (s : Span) (d : Datum) → IsSought old now → parts now.language (drop s.from now.line) ≡ parts_left now → parts_left now ≡ Text text ∷ parts_left next → s.to ≡ next.at → d ≡ StringDatum text
+    → IsWholeOperand old next s d
+sought_text old now next text s d h place e to is = record { from = sought_from old now next (Text text) s.from h place e refl; to = to; ends = rw is tt }
+
+pub sought_whole : (old now next end : PlacesView) (part : Part) (s t : Span) (d : Datum) → IsSought old now → parts now.language (drop s.from now.line) ≡ parts_left now → parts_left now ≡ part ∷ parts_left next → begins_operand old.language part ≡ true
+    → goes_on (parts_left end) ≡ false → t.from ≡ s.from → t.to ≡ end.at → IsWholeOperand old end t d
+sought_whole old now next end part s t d h place e begins ends from to = record { from = rw from (sought_from old now next part s.from h place e begins); to = to; ends = ends_any d (parts_left end) ends }
+
+pub ruleset operands = (sought_begun, sought_next, sought_text, sought_whole, goes_further)

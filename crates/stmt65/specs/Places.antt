@@ -2,9 +2,10 @@
 use Rattle.stmt65.specs.declared.reading.places.PlacedPart.{PlacedPart}
 use Rattle.stmt65.specs.declared.reading.places.Span.{Span}
 use Rattle.stmt65.specs.Code.PartViews.{part_of}
-use Rattle.std.specs.Prelude.{◌++◌, ◌-◌, ◌∷◌, ◌≡◌, ◌≤◌}
-use Rattle.stmt65.specs.Types.{Language, List, Option, Some, [], drop, get_or, length, take, ℕ}
-use Rattle.stmt65.specs.Signs.{quote, colon, semicolon, equals}
+use Rattle.std.specs.Prelude.{if◌then◌else◌, ◌++◌, ◌-◌, ◌==◌, ◌∷◌, ◌≡◌, ◌≤◌, ◌||◌}
+use Rattle.stmt65.specs.Types.{Bool, Language, List, Listing, Option, Repair, Some, [], drop, false, get_or, length, take, true, ℕ}
+use Rattle.stmt65.specs.Names.{is_name}
+use Rattle.stmt65.specs.Signs.{quote, star, plus, minus, colon, semicolon, equals}
 use Rattle.stmt65.specs.Parts.{Part, Word, Number, Text, Define, Mark}
 use Rattle.stmt65.specs.SourceLine.{Value, Datum, NumberDatum, StringDatum, ValueDatum, HalfDatum}
 use Rattle.stmt65.specs.Lexing.{parts}
@@ -52,6 +53,38 @@ StandsIn line p = bytes_in p.span line ≡ part_text (part_of p.part)
 -- a `;` stands there, and the place goes on to the end of the line
 abbrev pub IsRemarkOf : List ℕ → Span → Type 0
 IsRemarkOf line s = (s.to ≡ length line) × (get_or line s.from 0 ≡ semicolon)
+
+-- a part with which an operand can begin: a string, a number, a name, or in a repair `*`
+abbrev pub begins_operand : Language → Part → Bool
+begins_operand language (Word w) = is_name w
+begins_operand language (Number t) = true
+begins_operand language (Text t) = true
+begins_operand language Define = false
+begins_operand Listing (Mark b) = false
+begins_operand Repair (Mark b) = b == star
+
+-- the parts from the first of these on
+unfoldable pub from_operand : Language → List Part → List Part
+from_operand language [] = []
+from_operand language (p ∷ ps) = if begins_operand language p then p ∷ ps else from_operand language ps
+
+-- `+` or `-` and a number or a word, with which an expression goes on
+abbrev pub goes_on : List Part → Bool
+goes_on (Mark b ∷ Word w ∷ ps) = b == plus || b == minus
+goes_on (Mark b ∷ Number t ∷ ps) = b == plus || b == minus
+goes_on _ = false
+
+-- no expression goes on there; a string ends with its quote
+abbrev pub EndsBefore : Datum → List Part → Type 0
+EndsBefore (StringDatum t) ps = Unit {0}
+EndsBefore _ ps = goes_on ps ≡ false
+
+-- The place begins with the first part with which an operand can begin, and ends where the parts that are left begin,
+-- before which it ends.
+pub record IsWholeOperand (old new : PlacesView) (s : Span) (d : Datum) : Type 0 where
+  pub from : parts old.language (drop s.from old.line) ≡ from_operand old.language (parts_left old)
+  pub to : s.to ≡ new.at
+  pub ends : EndsBefore d (parts_left new)
 
 -- an expression, if nothing is left after it
 abbrev pub value_alone : Language → List Part → Option Value

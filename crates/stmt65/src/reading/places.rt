@@ -1,7 +1,8 @@
 //! Where the parts of a line stand.
 
 ghost use Rattle.std.specs.Prelude.{◌<◌, ◌∷◌, ◌≡◌, ◌≤◌};
-ghost use Rattle.stmt65.specs.Words.{Gives, GoesOver, IfSome, IsAmong, IsRemarkOf, MatchOption, ReadsAs, StandsIn, [], bytes_in, datum_of, drop, false, get_or, is_blank, length, part_of, parts, parts_left, value_alone, value_of};
+ghost use Rattle.std.specs.Bool.{OnFalse, OnTrue};
+ghost use Rattle.stmt65.specs.Words.{Gives, GoesOver, IfSome, IsAmong, IsRemarkOf, IsWholeOperand, MatchOption, ReadsAs, StandsIn, [], begins_operand, bytes_in, datum_of, drop, false, get_or, goes_on, is_blank, length, part_of, parts, parts_left, value_alone, value_of};
 
 use crate::language::Language;
 use crate::reading::expressions::next_value;
@@ -120,6 +121,9 @@ impl<'a> Places<'a> {
             (λ p. parts_left self.old ≡ part_of p.part ∷ parts_left self.new) }
         ensures text { IfSome result (StandsIn self.old.line) }
         ensures among { IfSome result (λ p. IsAmong p.span self.old self.new) }
+        ensures from { IfSome result (λ p.
+            parts self.old.language (drop p.span.from self.old.line) ≡ parts_left self.old) }
+        ensures to { IfSome result (λ p. p.span.to ≡ self.new.at) }
     {
         let from = self.begin();
         let (_, left) = self.line.split_at(from);
@@ -159,57 +163,71 @@ impl<'a> Places<'a> {
         Head { name, operation }
     }
 
-    /// Passes over what is added and subtracted after the first part of an expression, and
-    /// returns where the expression ends.
-    fn pass_terms(&mut self, to: usize) -> usize {
-        let mut to = to;
-        for _ in 0..self.line.len() {
-            let mut ahead = self.copied();
-            let Some(Part::Mark(b'+' | b'-')) = ahead.next().map(|place| place.part) else {
-                break;
-            };
-            let Some(term) = ahead.next() else {
-                break;
-            };
-            if !matches!(term.part, Part::Number(_) | Part::Word(_)) {
-                break;
-            }
-            to = term.span.to;
+    /// Passes over `+` or `-` and a number or a word if these are the next parts, and returns whether they are.
+    fn pass_term(&mut self) -> bool
+        ensures over { GoesOver self.old self.new }
+        ensures is { result ≡ goes_on (parts_left self.old) }
+        ensures fewer { OnTrue result
+            (length (parts_left self.new) < length (parts_left self.old)) }
+        ensures left { OnFalse result (self.new ≡ self.old) }
+    {
+        let mut ahead = self.copied();
+        let (sign, term) = (ahead.next(), ahead.next());
+        let (Some(sign), Some(term)) = (sign, term) else {
+            return false;
+        };
+        let is_term = matches!(sign.part, Part::Mark(b'+' | b'-'))
+            && matches!(term.part, Part::Number(_) | Part::Word(_));
+        if is_term {
             *self = ahead;
+        }
+        is_term
+    }
+
+    /// Passes over what is added and subtracted after the first part of an expression, and returns where the last part
+    /// ends that was passed over.
+    #[tactic(auto, using(crate::proofs::PartLemmas::goes_nowhere, crate::proofs::PartLemmas::goes_further))]
+    fn pass_terms(&mut self) -> usize
+        ensures over { GoesOver self.old self.new }
+        ensures to { result ≡ self.new.at }
+        ensures ends { goes_on (parts_left self.new) ≡ false }
+    {
+        let mut to = self.at;
+        'terms: while self.pass_term() {
+            to = self.at;
         }
         to
     }
 
     /// The next operand, and where it stands. Marks and words that are no names are passed over.
+    #[tactic(auto, using(crate::proofs::PartLemmas::operands))]
     pub fn operand(&mut self) -> Option<Operand<'a>>
         /// The bytes at the place of an operand are the string, or read as the expression and nothing else.
-        ensures { IfSome result (λ o.
+        ensures reads { IfSome result (λ o.
             ReadsAs self.old.language (bytes_in o.span self.old.line) (datum_of o.datum)) }
+        /// The place is the whole operand: it begins with the next part with which one can begin, and ends where the
+        /// parts begin that are left, with which its expression does not go on.
+        ensures whole { IfSome result (λ o.
+            IsWholeOperand self.old self.new o.span (datum_of o.datum)) }
+        ensures over { GoesOver self.old self.new }
     {
         let (language, line) = (self.language, self.line);
         let mut half = None;
-        'parts: for _ in 0..=line.len() {
+        'parts: loop {
             let PlacedPart { part, span } = self.next()?;
-            match part {
-                Part::Text(text) => {
-                    let datum = Datum::String(text);
-                    return Some(Operand { datum, span });
-                }
-                Part::Number(_) => {}
-                Part::Word(word) if is_name(word) => {}
-                Part::Mark(b'*') if language == Language::Repair => {}
-                part => {
-                    half = half_after(half, part);
-                    continue;
-                }
+            if let Part::Text(text) = part {
+                let datum = Datum::String(text);
+                return Some(Operand { datum, span });
             }
-            let span = Span {
-                to: self.pass_terms(span.to),
-                ..span
-            };
-            return operand_at(language, line, half, span);
+            if begins_operand(language, part) {
+                let span = Span {
+                    to: self.pass_terms(),
+                    ..span
+                };
+                return operand_at(language, line, half, span);
+            }
+            half = half_after(half, part);
         }
-        None
     }
 
     /// Where the remark after all parts stands, with its `;`.
@@ -226,6 +244,18 @@ impl<'a> Places<'a> {
         let from = self.begin();
         let to = line.len();
         (line.get(from) == Some(&b';')).then_some(Span { from, to })
+    }
+}
+
+/// Whether an operand can begin with the part.
+fn begins_operand(language: Language, part: Part<'_>) -> bool
+    ensures { result ≡ begins_operand language (part_of part.entry) }
+{
+    match part {
+        Part::Word(word) => is_name(word),
+        Part::Number(_) | Part::Text(_) => true,
+        Part::Define => false,
+        Part::Mark(mark) => language == Language::Repair && mark == b'*',
     }
 }
 
@@ -246,7 +276,9 @@ fn operand_at<'a>(
     half: Option<Half>,
     span: Span,
 ) -> Option<Operand<'a>>
-    ensures { IfSome result (λ o. ReadsAs language (bytes_in o.span line.now) (datum_of o.datum)) }
+    ensures reads { IfSome result (λ o.
+        ReadsAs language (bytes_in o.span line.now) (datum_of o.datum)) }
+    ensures span { IfSome result (λ o. o.span ≡ span) }
 {
     let value = read_value(language, line.get(span.from..span.to)?)?;
     let datum = match half {
