@@ -2,9 +2,6 @@
 
 use map65::Marks;
 
-/// How far behind the image variables may lie.
-const BEHIND: usize = 0x1000;
-
 /// The bytes of a listing, where it belongs and somewhere else.
 #[derive(Drop)]
 pub struct Scene {
@@ -59,10 +56,10 @@ impl Scene {
         }
     }
 
-    /// Whether the address may be one of the program: it moves, or lies near behind the image, where variables may be.
+    /// Whether the address may be one of the program: it moves, or lies behind the image, where variables may be.
     pub fn may_move(&self, address: u16) -> bool {
-        let is_near = usize::from(address) < self.end().saturating_add(BEHIND).min(self.limit);
-        self.moves(address) || self.is_behind(address) && is_near
+        let may_be_variable = self.is_behind(address) && usize::from(address) < self.limit;
+        self.moves(address) || may_be_variable
     }
 
     /// The byte at an address where the image belongs.

@@ -10,10 +10,7 @@ use run65::{Bus, Purpose, Value, Word};
 use std::alloc::{AllocError, Global};
 use std::mem::take;
 
-/// The page of the stack ends before this address. Nothing is written below it by an address that nobody knows.
-const STACK_END: u16 = 0x0200;
-
-/// The most that is kept of what is seen of one instruction.
+/// The most that is kept in a round of what is seen of one instruction.
 const MOST: usize = 24;
 
 /// How many calls of code outside of the image are looked at.
@@ -380,8 +377,9 @@ impl Bus<Pair> for World {
             self.leads = (low.is_known && high.is_known && !self.is_guess).then_some(purpose);
         }
         if !low.is_known && !high.is_known {
-            let is_low = here < STACK_END && purpose == Purpose::Write && high.here != 1;
-            return (!is_low && !self.scene.has(here)).then_some(here);
+            // An unknown pointer is often zero, and then nothing in the zero page would stay known.
+            let is_zero_page = high.here == 0 && purpose == Purpose::Write;
+            return (!is_zero_page && !self.scene.has(here)).then_some(here);
         }
         if self.scene.moves(here) || base != here && self.scene.moves(base) {
             if later != moved {
