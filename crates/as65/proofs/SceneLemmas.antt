@@ -1,5 +1,5 @@
 -- What a line gave before, and which bytes have only moved.
-use Rattle.std.proofs.Common.{◌≡◌, ◌∙◌, ◌<◌, ◌≤◌, ◌+◌, ◌-◌, ◌++◌, ◌⊎◌, ℕ, All, List, true, [], ◌∷◌, Ok, Some, ap, append_assoc, arith, codes, decimal, drop, flat_map, get_or, inl, inr, length, refl, subst, sym}
+use Rattle.std.proofs.Common.{◌≡◌, ◌∙◌, ◌<◌, ◌≤◌, ◌+◌, ◌-◌, ◌++◌, ◌⊎◌, ℕ, All, Bool, List, false, true, [], ◌∷◌, Ok, Some, ap, append_assoc, arith, codes, decimal, drop, flat_map, get_or, inl, inr, length, refl, subst, sym}
 use Rattle.std.proofs.lemmas.Grind.{get_or_tail}
 use Rattle.std.proofs.lemmas.List.{append-nil, drop-drop, flat_map_more, get_or-drop}
 use Rattle.std.proofs.lemmas.List.Elements.{All-nil, All-push}
@@ -11,7 +11,7 @@ use Rattle.as65.specs.Before.{assignment, last, next}
 use Rattle.as65.specs.Changes.{before, now}
 use Rattle.as65.specs.Moves.{in_place}
 use Rattle.as65.specs.Types.{Placed}
-use Rattle.as65.specs.Words.{AreMoved, AreSources, Compared, GaveBefore, GaveBy, Had, HadValue, HasMoved, IsBefore, IsBeside, IsBy, IsEarlierBy, IsHead, IsPlaced, Label, label_before, line_begin}
+use Rattle.as65.specs.Words.{AreMoved, AreSources, Compared, GaveBefore, GaveBy, Had, HadValue, HasMoved, IsBefore, IsBeside, IsBy, IsEarlierBy, IsPlaced, Label, SetsNames, label_before, line_begin}
 
 -- the label at or before an address, and the one after it
 pub beside_last : (labels : List Label) (a n : ℕ) (l : Label) → l ≡ label_before labels n → l.at ≤ a → IsBefore a (slice_get labels n) → IsBeside labels a l
@@ -49,30 +49,37 @@ placed_more c old new p is e all = subst (All (IsPlaced c)) (sym e) (All-push (I
 -- ---- what a line gave
 
 -- no name so far
-pub head_none : (c : Compared) (cpu out : List ℕ) → out ≡ cpu → IsHead c cpu out
-head_none c cpu out is = record { names = []; values = All-nil _; lines = is ∙ sym (append-nil cpu) }
+pub sets_none : (c : Compared) (constant : Bool) (front text : List ℕ) → text ≡ front → SetsNames c constant front text
+sets_none c constant front text is = record { names = []; values = All-nil _; lines = is ∙ sym (append-nil front) }
 
 -- one more
-pub head_more : (c : Compared) (cpu old named valued new name : List ℕ) (v : ℕ) → HadValue c name v → named ≡ old ++ name
-    → valued ≡ named ++ (codes ":=" ++ decimal v) → new ≡ valued ++ codes "\n" → IsHead c cpu old → IsHead c cpu new
-head_more c cpu old named valued new name v had first second third h =
+pub sets_more : (c : Compared) (constant : Bool) (front old named valued new name : List ℕ) (v : ℕ) → HadValue c constant name v → named ≡ old ++ name
+    → valued ≡ named ++ (codes ":=" ++ decimal v) → new ≡ valued ++ codes "\n" → SetsNames c constant front old → SetsNames c constant front new
+sets_more c constant front old named valued new name v had first second third h =
     let one : Had = record { name = name; value = v } in
     let all = h.lines in
     record {
       names = h.names ++ one ∷ [];
-      values = All-push (λ k. HadValue c k.name k.value) h.names one h.values had;
-      lines = rw (third, second, first, all) (simp append_assoc refl) ∙ flat_map_more assignment cpu h.names one;
+      values = All-push (λ k. HadValue c constant k.name k.value) h.names one h.values had;
+      lines = rw (third, second, first, all) (simp append_assoc refl) ∙ flat_map_more assignment front h.names one;
     }
 
--- what a line means with its head
-pub gave_before : (c : Compared) (cpu head text line : List ℕ) (at : ℕ) (bytes : List ℕ) → (cpu ≡ []) ⊎ (cpu ≡ codes ".setcpu \"65C02\"\n")
-    → IsHead c cpu head → text ≡ head ++ line → meaning_in Repair c.layout at text ≡ Ok bytes → GaveBefore c line at bytes
-gave_before c cpu head text line at bytes knows is whole means = record {
+-- after a front that is another one's text
+pub sets_after : (c : Compared) (constant : Bool) (front other text : List ℕ) → other ≡ front → SetsNames c constant other text → SetsNames c constant front text
+sets_after c constant front other text is sets = subst (λ f. SetsNames c constant f text) is sets
+
+-- what a line means between its constants and its other names
+pub gave_before : (c : Compared) (cpu head with_line ended text line : List ℕ) (at : ℕ) (bytes : List ℕ) → (cpu ≡ []) ⊎ (cpu ≡ codes ".setcpu \"65C02\"\n")
+    → SetsNames c true cpu head → with_line ≡ head ++ line → ended ≡ with_line ++ codes "\n" → SetsNames c false ended text
+    → meaning_in Repair c.layout at text ≡ Ok bytes → GaveBefore c line at bytes
+gave_before c cpu head with_line ended text line at bytes knows constants one end others means = record {
   cpu = cpu;
   head = head;
+  text = text;
   knows = knows;
-  names = is;
-  means = subst (λ t. meaning_in Repair c.layout at t ≡ Ok bytes) whole means;
+  constants = constants;
+  others = subst (λ f. SetsNames c false f text) (end ∙ ap (λ l. l ++ codes "\n") one) others;
+  means = means;
 }
 
 -- at the address where it lay by a label

@@ -49,10 +49,11 @@ abbrev pub IsValueBefore : List Label → Bool → Definition → ℕ → Type 0
 IsValueBefore labels true d v = v ≡ d.value
 IsValueBefore labels false d v = IsPlaceBefore labels (address_in_name d.name) d.value v
 
--- the value that a name of the listing had
-pub record HadValue (c : Compared) (name : List ℕ) (v : ℕ) : Type 0 where
+-- the value that a name of the listing had, which is a constant or none
+pub record HadValue (c : Compared) (constant : Bool) (name : List ℕ) (v : ℕ) : Type 0 where
   pub definition : Definition
   pub defined : find_name name c.names ≡ Some definition
+  pub kind : definition.constant ≡ constant
   pub had : IsValueBefore c.labels definition.constant definition v
 
 -- a name and a value
@@ -64,19 +65,22 @@ pub record Had : Type 0 where
 abbrev pub assignment : Had → List ℕ
 assignment had = had.name ++ (codes ":=" ++ decimal had.value) ++ codes "\n"
 
--- lines that set a CPU, and then names to the values that they had
-pub record IsHead (c : Compared) (cpu head : List ℕ) : Type 0 where
+-- after this front, the text sets names to the values that they had: constants, or names that are none
+pub record SetsNames (c : Compared) (constant : Bool) (front text : List ℕ) : Type 0 where
   pub names : List Had
-  pub values : All (λ had. HadValue c had.name had.value) names
-  pub lines : head ≡ cpu ++ flat_map assignment names
+  pub values : All (λ had. HadValue c constant had.name had.value) names
+  pub lines : text ≡ front ++ flat_map assignment names
 
 -- ---- the line
 
--- At an earlier address the line means these bytes, with its names at the values that they had; for the 6502, or for
--- the 65C02, which has all forms of the others.
+-- At an earlier address the line means these bytes, after its constants and before its other names, at the values that
+-- they had: so only constants can have zero-page size. It does for the 6502, or for the 65C02, which has all forms of
+-- the others.
 pub record GaveBefore (c : Compared) (line : List ℕ) (at : ℕ) (gave : List ℕ) : Type 0 where
   pub cpu : List ℕ
   pub head : List ℕ
+  pub text : List ℕ
   pub knows : (cpu ≡ []) ⊎ (cpu ≡ codes ".setcpu \"65C02\"\n")
-  pub names : IsHead c cpu head
-  pub means : meaning_in Repair c.layout at (head ++ line) ≡ Ok gave
+  pub constants : SetsNames c true cpu head
+  pub others : SetsNames c false ((head ++ line) ++ codes "\n") text
+  pub means : meaning_in Repair c.layout at text ≡ Ok gave

@@ -105,8 +105,8 @@ impl<'c, 's, 'a, 't, 'l, 'n> Search<'c, 's, 'a, 't, 'l, 'n> {
             && are_marked(marks, at, end)
     }
 
-    /// Adds a byte that differs, or makes the last change longer that ends there. Past the end of the image nothing is
-    /// in its place.
+    /// Adds a byte that differs, or makes the last change longer, if that has as many bytes of both and ends there.
+    /// Past the end of the image nothing is in its place.
     fn add(&mut self, was: usize, is: usize) -> Result<(), AllocError> {
         let len = self.scene.image().len();
         let was = Stretch {
@@ -118,8 +118,10 @@ impl<'c, 's, 'a, 't, 'l, 'n> Search<'c, 's, 'a, 't, 'l, 'n> {
             end: is.saturating_add(1),
         };
         if let Some(last) = self.changes.last_mut() {
-            let is_alike = (last.was.at == last.was.end) == (was.at == was.end);
-            if is_alike && last.was.end == was.at && last.is.end == is.at {
+            let had = last.was.end.saturating_sub(last.was.at);
+            let has = last.is.end.saturating_sub(last.is.at);
+            let wanted = if was.at < was.end { has } else { 0 };
+            if had == wanted && last.was.end == was.at && last.is.end == is.at {
                 last.was.end = was.end;
                 last.is.end = is.end;
                 return Ok(());

@@ -127,9 +127,9 @@ pub fn differences(
     /// and so do the last (`each`). Its line is the one that gives its first byte of the listing; if it has none, the
     /// byte after it; or else the last byte (`lines`).
     ///
-    /// What a line gave is what it means alone at its earlier address, as for the 6502 or the 65C02. Each name is a
-    /// constant there: one that is a constant keeps its value, a label `LXXXX` has $XXXX, and any other name lies as
-    /// far from its address as the label before or after it (`GaveBefore`).
+    /// What a line gave is what it means alone at its earlier address, as for the 6502 or the 65C02. Its constants are
+    /// set before it, to their values. Its other names are set after it, so that they have no zero-page size: a label
+    /// `LXXXX` to $XXXX, and any other name as far from its address as the label before or after it (`GaveBefore`).
     ensures { IfOk result (λ text.
         IsDifferences assembled.now.moves (compared image.now assembled.now) text.items) }
 {

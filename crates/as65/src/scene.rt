@@ -9,7 +9,7 @@ ghost use Rattle.map65.specs.Words.{is_marked};
 ghost use Rattle.stmt65.specs.declared.language.Language.TheVariants.{Repair};
 ghost use Rattle.stmt65.specs.Words.{definition_of, meaning_in};
 ghost use Rattle.as65.specs.Moves.{in_place};
-ghost use Rattle.as65.specs.Words.{AreMoved, AreSources, GaveBefore, GaveBy, HadValue, HasMoved, IsBefore, IsBeside, IsBy, IsEarlierBy, IsHead, IsPlaced, IsValueBefore, compared, label_before, line_begin};
+ghost use Rattle.as65.specs.Words.{AreMoved, AreSources, GaveBefore, GaveBy, HadValue, HasMoved, IsBefore, IsBeside, IsBy, IsEarlierBy, IsPlaced, IsValueBefore, SetsNames, compared, label_before, line_begin};
 
 use crate::assembled::Assembled;
 use crate::moves::{IN_PLACE, Label, address_in_name, is_alike};
@@ -248,21 +248,30 @@ impl<'s, 'a, 't, 'l, 'n> Scene<'s, 'a, 't, 'l, 'n> {
         self.alloc
     }
 
-    /// The value that a name had; by the label after it, if that is wanted.
-    fn value(&self, name: &[u8], by_later: bool) -> Option<u64>
-        ensures { IfSome result (HadValue self.now name.now) }
+    /// The value that a name had, if it is a constant, or none; by the label after it, if that is wanted.
+    fn value(&self, name: &[u8], constant: bool, by_later: bool) -> Option<u64>
+        ensures { IfSome result (HadValue self.now constant name.now) }
     {
         let definition = self.names.all().find(name)?;
+        if definition.constant != constant {
+            return None;
+        }
         earlier_value(self.labels, definition, by_later)
     }
 
     /// Appends a line that sets a name to the value that it had, if it had one.
-    #[tactic(auto, using(crate::proofs::SceneLemmas::head_more))]
-    fn put_name(&self, out: &mut Vec<u8>, name: &[u8], by_later: bool) -> Result<(), AllocError>
-        ensures { (cpu : List ℕ) → IsHead self.now cpu out.old.items
-            → OnOk result (IsHead self.now cpu out.new.items) }
+    #[tactic(auto, using(crate::proofs::SceneLemmas::sets_more))]
+    fn put_name(
+        &self,
+        out: &mut Vec<u8>,
+        name: &[u8],
+        constant: bool,
+        by_later: bool,
+    ) -> Result<(), AllocError>
+        ensures { (front : List ℕ) → SetsNames self.now constant front out.old.items
+            → OnOk result (SetsNames self.now constant front out.new.items) }
     {
-        let Some(value) = self.value(name, by_later) else {
+        let Some(value) = self.value(name, constant, by_later) else {
             return Ok(());
         };
         out.extend_from_slice(name)?;
@@ -270,38 +279,39 @@ impl<'s, 'a, 't, 'l, 'n> Scene<'s, 'a, 't, 'l, 'n> {
         out.extend_from_slice(b"\n")
     }
 
-    /// Appends such a line for each name, but for the label of the line.
+    /// Appends such a line for each constant of a line, or for each name that is none, but for the label of the line.
+    #[tactic(auto, using(crate::proofs::SceneLemmas::sets_none))]
     fn put_names(
         &self,
         out: &mut Vec<u8>,
         line: LineNames<'_, '_>,
+        constant: bool,
         by_later: bool,
     ) -> Result<(), AllocError>
-        ensures { (cpu : List ℕ) → IsHead self.now cpu out.old.items
-            → OnOk result (IsHead self.now cpu out.new.items) }
+        ensures { OnOk result (SetsNames self.now constant out.old.items out.new.items) }
     {
         'names: for place in 0..line.names.len() {
             let name = line.names[place];
             let is_known = line.names[..place].iter().any(|other| *other == name);
             if !is_known && line.label != Some(name) {
-                self.put_name(out, name, by_later)?;
+                self.put_name(out, name, constant, by_later)?;
             }
         }
         Ok(())
     }
 
-    /// The lines that set a CPU, and the names of a line to the values that they had.
-    #[tactic(auto, using(crate::proofs::SceneLemmas::head_none))]
+    /// The lines that set a CPU, and the constants of a line.
+    #[tactic(auto, using(crate::proofs::SceneLemmas::sets_after))]
     fn head(
         &self,
         cpu: &[u8],
         line: LineNames<'_, '_>,
         by_later: bool,
     ) -> Result<Vec<u8>, AllocError>
-        ensures { IfOk result (λ head. IsHead self.now cpu.now head.items) }
+        ensures { IfOk result (λ head. SetsNames self.now true cpu.now head.items) }
     {
         let mut out = Vec::from_slice(self.alloc, cpu)?;
-        self.put_names(&mut out, line, by_later)?;
+        self.put_names(&mut out, line, true, by_later)?;
         Ok(out)
     }
 
@@ -337,6 +347,9 @@ impl<'s, 'a, 't, 'l, 'n> Scene<'s, 'a, 't, 'l, 'n> {
     {
         let mut text = self.head(cpu, line, by_later)?;
         text.extend_from_slice(placed.line)?;
+        text.extend_from_slice(b"\n")?;
+        // Of the names only constants may have zero-page size.
+        self.put_names(&mut text, line, false, by_later)?;
         match self.meant(&text, at)? {
             Some(bytes) if bytes.len() as u64 == placed.end.saturating_sub(placed.at) => Ok(Some(
                 bytes,
