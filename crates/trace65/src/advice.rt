@@ -6,13 +6,15 @@ use reach65::rules::Steps;
 use reach65::rules::bytes::bases::{Base, bases_of};
 use reach65::rules::bytes::cells::{Cell, cells_of};
 use reach65::rules::bytes::copies::{Copied, copies_of};
+use reach65::rules::bytes::firsts::mark_firsts;
 use reach65::rules::bytes::ground::Ground;
 use reach65::rules::bytes::items::items_of;
 use reach65::rules::bytes::labels::labels_of;
+use reach65::rules::bytes::links::mark_links;
 use reach65::rules::bytes::loads::{mark_calls, mark_loaded};
 use reach65::rules::bytes::orphans::mark_orphans;
 use reach65::rules::bytes::pointers::mark_pointers;
-use reach65::rules::bytes::rows::{mark_rows, words_of};
+use reach65::rules::bytes::rows::{Words, mark_rows, words_of};
 use reach65::rules::bytes::survey::Survey;
 use reach65::rules::bytes::tables::{Split, mark_tables};
 use reach65::rules::bytes::threads::mark_threads;
@@ -101,12 +103,14 @@ pub fn followed(steps: &Steps<'_>, given: &[u16], plain: bool) -> Result<Followe
     follow(steps, &entries_of(steps, given, plain)?, plain)
 }
 
-/// The addresses that nothing speaks for, with the words and halves of tables among them, and the tables of halves.
+/// The addresses that nothing speaks for, with the words and halves of tables among them, and those that lead on or
+/// stand in threads; the tables of halves; and where further words begin that may be addresses.
 fn ground_of<'a>(
     survey: &Survey<'a>,
     reach: Reach<'a>,
     said: &Marks,
-) -> Result<(Ground<'a>, Vec<Split>), AllocError> {
+    pairs: &[Pair],
+) -> Result<(Ground<'a>, Vec<Split>, Vec<u16>), AllocError> {
     let alloc = survey.steps.alloc();
     let numbers = said.copy(alloc)?;
     let texts = survey.texts.copy(alloc)?;
@@ -116,10 +120,12 @@ fn ground_of<'a>(
     for &at in &reach.followed.words {
         ground.put_word(usize::from(at));
     }
+    let Words { leading, near } = words_of(&ground, survey)?;
+    mark_links(alloc, &mut ground, &near)?;
     if !reach.followed.words.is_empty() {
-        mark_threads(&mut ground, survey);
+        mark_threads(&mut ground, survey, pairs)?;
     }
-    Ok((ground, splits))
+    Ok((ground, splits, leading))
 }
 
 impl<'a> Data<'a> {
@@ -131,12 +137,12 @@ impl<'a> Data<'a> {
         pairs: &[Pair],
     ) -> Result<Data<'a>, AllocError> {
         let declared = declared_of(survey.steps, &reach.followed.tables)?;
-        let (mut ground, splits) = ground_of(survey, reach, said)?;
-        let words = words_of(&ground, survey)?;
+        let (mut ground, splits, words) = ground_of(survey, reach, said, pairs)?;
         mark_rows(&mut ground, survey, &words);
         mark_loaded(&mut ground, survey)?;
         mark_calls(&mut ground, survey);
-        mark_pointers(survey.steps.alloc(), &mut ground)?;
+        mark_pointers(&mut ground, survey, pairs)?;
+        mark_firsts(&mut ground, survey, pairs)?;
         let orphans = mark_orphans(&mut ground, survey, pairs, &words)?;
         let cells = cells_of(&ground, survey)?;
         Ok(Data {

@@ -1,10 +1,12 @@
-//! Rows of words that are addresses of texts.
+//! Rows of words that are addresses of texts, and the words beside them in the same records.
 
 ghost use Rattle.std.specs.Prelude.{◌<◌};
 
 use crate::rules::bytes::ground::Ground;
+use crate::rules::bytes::survey::Survey;
 use crate::rules::bytes::texts::ALPHABETS;
-use crate::rules::image::{address, bytes_at, ends, word};
+use crate::rules::entries::halves::Pair;
+use crate::rules::image::{address, byte, bytes_at, ends, word};
 use map65::{Image, Marks};
 use std::alloc::{AllocError, Global};
 
@@ -14,8 +16,14 @@ const ROW: usize = 3;
 /// How far apart the words of a row may stand at most: other bytes of a record may stand between them.
 const APART: usize = 8;
 
+/// How far apart they may stand at most if some lead into texts.
+const CLOSE: usize = 4;
+
 /// How many characters of a text are looked at.
 const LOOKED: usize = 16;
+
+/// How many are looked at before and behind a place inside of a text.
+const AROUND: usize = 64;
 
 /// Whether a text begins at the address with this byte: it is one up to the 16th character, and no character stands
 /// before it.
@@ -50,15 +58,25 @@ struct Beginnings {
     any: Marks,
     /// Whether there are any.
     has_any: bool,
+    /// The addresses of pairs.
+    named: Marks,
 }
 
 /// Marks where texts begin.
-fn text_beginnings(alloc: Global, ground: &Ground<'_>) -> Result<Beginnings, AllocError> {
+fn text_beginnings(
+    alloc: Global,
+    ground: &Ground<'_>,
+    pairs: &[Pair],
+) -> Result<Beginnings, AllocError> {
     let mut found = Beginnings {
         texts: Marks::none(alloc)?,
         any: Marks::none(alloc)?,
         has_any: false,
+        named: Marks::none(alloc)?,
     };
+    for pair in pairs {
+        found.named.set(pair.address);
+    }
     // No alphabet has a byte 0.
     let (mut before, mut second) = (0u8, 0u8);
     let (start, end) = ends(ground.image);
@@ -146,46 +164,218 @@ fn count_different(
     count
 }
 
+/// Whether a character of ASCII stands at the address that nothing speaks for.
+fn is_char_at(ground: &Ground<'_>, at: usize) -> bool {
+    ground.is_plain(at) && matches!(byte(ground.image, at), Some(0x20..=0x7E))
+}
+
+/// The word at the address, if it leads into a text behind its first character: characters of ASCII stand from where a
+/// text begins up to a zero byte.
+fn leading_inside(ground: &Ground<'_>, texts: &Marks, at: usize) -> Option<u16> {
+    let word = word_at(ground, at)?;
+    let (first, end) = (usize::from(word), usize::from(word).saturating_add(AROUND));
+    let from = first.saturating_sub(AROUND);
+    let mut before = (from..first).rev().take_while(|at| is_char_at(ground, *at));
+    let begins = before.any(|at| texts.get_at(at));
+    let behind = (first..end)
+        .take_while(|at| is_char_at(ground, *at))
+        .count();
+    let is_text = begins && 0 < behind;
+    (is_text && byte(ground.image, first.saturating_add(behind)) == Some(0)).then_some(word)
+}
+
+/// As `count_different`, but that a third of the words may lead into texts.
+fn count_mixed(
+    ground: &Ground<'_>,
+    texts: &Marks,
+    seen: &mut Marks,
+    span: (usize, usize),
+    apart: usize,
+) -> usize
+    requires { 0 < apart }
+{
+    let (from, end) = span;
+    let (mut count, mut inside) = (0usize, 0usize);
+    for at in (from..end).step_by(apart) {
+        let mut word = leading(ground, texts, at);
+        if word.is_none() {
+            word = leading_inside(ground, texts, at);
+            inside = inside.saturating_add(usize::from(word.is_some()));
+        }
+        match word {
+            Some(word) if !seen.get(word) => seen.set(word),
+            _ => break,
+        }
+        count = count.saturating_add(1);
+    }
+    for at in (from..end).step_by(apart).take(count) {
+        if let Some(word) = word(ground.image, at) {
+            seen.clear(word);
+        }
+    }
+    if inside.saturating_mul(3) <= count {
+        count
+    } else {
+        0
+    }
+}
+
+/// Words at the same distance from each other: where the first one stands, how far apart they are, and how many.
+#[derive(Clone, Copy)]
+struct Row {
+    from: usize,
+    apart: usize,
+    count: usize,
+}
+
+impl Row {
+    /// How far the address lies behind the begin of its record, if it lies in one of the row or in one before it.
+    fn offset_of(&self, address: u16) -> Option<usize>
+        requires { 0 < self.now.apart }
+    {
+        let first = self.from.saturating_sub(self.apart);
+        let end = self
+            .from
+            .saturating_add(self.apart.saturating_mul(self.count));
+        let at = usize::from(address);
+        if first < at && at < end {
+            Some((at - first) % self.apart)
+        } else {
+            None
+        }
+    }
+
+    /// Whether the words at this place of the records, but for zeros, are all addresses of records, at one place of
+    /// them, or all of routines, and two of them differ.
+    fn has_column(&self, ground: &Ground<'_>, survey: &Survey<'_>, first: usize) -> bool
+        requires { 0 < self.now.apart }
+    {
+        let (mut one, mut offset) = (0u16, None);
+        let (mut differ, mut records, mut routines) = (false, true, true);
+        for index in 0..self.count {
+            let at = first.saturating_add(index.saturating_mul(self.apart));
+            let Some(word) = word_at(ground, at) else {
+                return false;
+            };
+            if word == 0 {
+                continue;
+            }
+            let here = self.offset_of(word);
+            if one == 0 {
+                (one, offset) = (word, here);
+            }
+            differ = differ || word != one;
+            records = records && here.is_some() && here == offset;
+            routines = routines && survey.is_routine(usize::from(word));
+        }
+        differ && (records || routines)
+    }
+
+    /// Marks the words at this place of the records, if they are a column of addresses. The last record may be another
+    /// one.
+    fn put_column(&self, ground: &mut Ground<'_>, survey: &Survey<'_>, first: usize)
+        requires { 0 < self.now.apart }
+    {
+        for count in [self.count, self.count.saturating_sub(1)] {
+            let row = Row {
+                from: self.from,
+                apart: self.apart,
+                count,
+            };
+            if count < ROW || !row.has_column(ground, survey, first) {
+                continue;
+            }
+            for index in 0..count {
+                let at = first.saturating_add(index.saturating_mul(self.apart));
+                if ground.word(at).is_some_and(|word| word != 0) {
+                    ground.put_words(0, at, at.saturating_add(2));
+                }
+            }
+            break;
+        }
+    }
+
+    /// Marks the columns of addresses before and behind these words in the same records.
+    fn put_columns(&self, ground: &mut Ground<'_>, survey: &Survey<'_>)
+        requires { 0 < self.now.apart }
+    {
+        for distance in 2..self.apart.saturating_sub(1) {
+            self.put_column(ground, survey, self.from.saturating_add(distance));
+            self.put_column(ground, survey, self.from.saturating_sub(distance));
+        }
+    }
+}
+
+/// How many words a row has that begins at the address, at this distance from each other. The first one leads to a
+/// text.
+fn row_count(
+    ground: &Ground<'_>,
+    found: &Beginnings,
+    seen: &mut Marks,
+    span: (usize, usize),
+    apart: usize,
+) -> usize
+    requires { 0 < apart }
+{
+    let (from, _) = span;
+    let next = from.saturating_add(apart);
+    let mut count = 0;
+    if leading(ground, &found.texts, next).is_some() {
+        count = count_apart(ground, &found.texts, span, apart);
+    }
+    let begins = leading(ground, &found.any, next).is_some();
+    if count < ROW && begins {
+        count = count_different(ground, &found.any, seen, span, apart);
+    }
+    if found.named.get_at(from)
+        && apart <= CLOSE
+        && (begins || leading_inside(ground, &found.any, next).is_some())
+    {
+        count = count.max(count_mixed(ground, &found.any, seen, span, apart));
+    }
+    count
+}
+
 /// Marks the words that are where texts begin, in rows of three at least that stand at the same distance from each
 /// other, each of another text than the one before; or, if a text has fewer than five characters, all of other texts.
-pub fn mark_pointers(alloc: Global, ground: &mut Ground<'_>) -> Result<(), AllocError> {
+/// If a pair has the address of the first of them, and they stand at most four bytes apart, up to a third of them may
+/// lead into texts that end with a zero byte, as the last characters of other texts. In the records of such a row the
+/// words of another column are addresses too if, but for zeros, all are those of records of the row, or all those of
+/// routines.
+pub fn mark_pointers(
+    ground: &mut Ground<'_>,
+    survey: &Survey<'_>,
+    pairs: &[Pair],
+) -> Result<(), AllocError> {
+    let alloc = survey.steps.alloc();
     let (start, end) = ends(ground.image);
     if !(start..end).any(|at| ground.is_plain(at)) {
         return Ok(());
     }
-    let Beginnings {
-        texts,
-        any,
-        has_any,
-    } = text_beginnings(alloc, ground)?;
-    if !has_any {
+    let beginnings = text_beginnings(alloc, ground, pairs)?;
+    if !beginnings.has_any {
         return Ok(());
     }
     let (mut seen, mut rows) = (Marks::none(alloc)?, Marks::none(alloc)?);
-    for from in start..end {
-        let Some(word) = word_at(ground, from) else {
+    let image = ground.image;
+    for (from, bytes) in (start..end).zip(image.bytes().windows(2)) {
+        let &[low, high] = bytes else {
             continue;
         };
-        let (is_text, is_any) = (texts.get(word), any.get(word));
-        if !is_text && !is_any || rows.get_at(from) {
+        // Most words lead to no text.
+        let begins = beginnings.any.get(u16::from_le_bytes([low, high]));
+        if !begins || rows.get_at(from) || word_at(ground, from).is_none() {
             continue;
         }
         for apart in 2..=APART {
-            let mut count = 0;
-            if is_text && leading(ground, &texts, from.saturating_add(apart)).is_some() {
-                count = count_apart(ground, &texts, (from, end), apart);
-            }
-            if count < ROW
-                && is_any
-                && leading(ground, &any, from.saturating_add(apart)).is_some()
-            {
-                count = count_different(ground, &any, &mut seen, (from, end), apart);
-            }
+            let count = row_count(ground, &beginnings, &mut seen, (from, end), apart);
             if ROW <= count {
                 for at in (from..end).step_by(apart).take(count) {
                     ground.put_words(0, at, at.saturating_add(2));
                     rows.set_span(at, at.saturating_add(1));
                 }
+                let row = Row { from, apart, count };
+                row.put_columns(ground, survey);
                 break;
             }
         }

@@ -1,10 +1,11 @@
 //! Rows of words that are addresses of routines.
 
 use crate::rules::bytes::ground::Ground;
+use crate::rules::bytes::links::FAR;
 use crate::rules::bytes::survey::Survey;
 use crate::rules::entries::words::ROW;
 use crate::rules::image::ends;
-use map65::Marks;
+use map65::{Image, Marks};
 use std::alloc::AllocError;
 
 /// The word at the address, if it is the address of a routine, less so much.
@@ -64,25 +65,55 @@ fn put_row(
     ground.put_words(less, first, behind.saturating_add(more.saturating_mul(2)));
 }
 
-/// Returns where words begin that may be an address of a routine, or less one, or that of a name.
-pub fn words_of(ground: &Ground<'_>, survey: &Survey<'_>) -> Result<Vec<u16>, AllocError> {
-    let (alloc, info) = (survey.steps.alloc(), survey.steps.map().info());
-    let mut named = Marks::none(alloc)?;
+/// Where words of data begin that nothing speaks for, in order.
+#[derive(Drop)]
+pub struct Words {
+    /// Those that may be an address of a routine, or less one, or that of a name.
+    pub leading: Vec<u16>,
+    /// Those that lead to at most 256 bytes from there.
+    pub near: Vec<u16>,
+}
+
+/// Marks of the addresses of routines and of those right before them, and of names.
+fn meant_of(survey: &Survey<'_>, image: &Image) -> Result<Marks, AllocError> {
+    let info = survey.steps.map().info();
+    let mut marks = Marks::none(survey.steps.alloc())?;
     for k in 0..info.given_count() {
-        named.set(info.given(k).address);
+        marks.set(info.given(k).address);
     }
-    let mut found = Vec::new(alloc);
-    let (start, end) = ends(ground.image);
+    let (start, end) = ends(image);
     for at in start..end {
-        if let Some(word) = ground.word(at)
-            && (named.get(word)
-                || survey.is_routine(usize::from(word))
-                || survey.is_routine(usize::from(word).saturating_add(1)))
-        {
-            found.push(at as u16)?;
+        if survey.is_routine(at) {
+            marks.set_span(at.saturating_sub(1), at.saturating_add(1));
         }
     }
-    Ok(found)
+    Ok(marks)
+}
+
+/// Returns where words begin that may be addresses.
+pub fn words_of(ground: &Ground<'_>, survey: &Survey<'_>) -> Result<Words, AllocError> {
+    let alloc = survey.steps.alloc();
+    let meant = meant_of(survey, ground.image)?;
+    let (mut leading, mut near) = (Vec::new(alloc), Vec::new(alloc));
+    let (start, end) = ends(ground.image);
+    for (at, bytes) in (start..end).zip(ground.image.bytes().windows(2)) {
+        let &[low, high] = bytes else {
+            continue;
+        };
+        let (here, word) = (at as u16, u16::from_le_bytes([low, high]));
+        let (is_meant, is_near) = (meant.get(word), word.abs_diff(here) <= FAR);
+        // Most words are neither.
+        if !is_meant && !is_near || ground.word(at).is_none() {
+            continue;
+        }
+        if is_meant {
+            leading.push(here)?;
+        }
+        if is_near {
+            near.push(here)?;
+        }
+    }
+    Ok(Words { leading, near })
 }
 
 /// Marks the words of rows that are addresses of routines, and those of rows that are such addresses less

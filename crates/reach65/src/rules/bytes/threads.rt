@@ -2,34 +2,137 @@
 
 use crate::rules::bytes::ground::Ground;
 use crate::rules::bytes::survey::Survey;
+use crate::rules::entries::halves::Pair;
 use crate::rules::entries::words::ROW;
 use crate::rules::image::{ends, word};
+use map65::Marks;
+use std::alloc::AllocError;
+
+/// How many words lead on at least in a thread whose address code has.
+const NAMED: usize = 2;
+
+/// The word at the address, if its bytes are plain or those of a word that is known.
+fn word_at(ground: &Ground<'_>, at: usize) -> Option<u16> {
+    let is_data = ground.is_plain(at) && ground.is_plain(at.saturating_add(1));
+    let is_known = ground.words.get_at(at) && ground.words.get_at(at.saturating_add(1));
+    if is_data || is_known {
+        word(ground.image, at)
+    } else {
+        None
+    }
+}
+
+/// Whether the word of data at the address leads to reached code.
+fn is_field(ground: &Ground<'_>, survey: &Survey<'_>, at: usize) -> bool {
+    word_at(ground, at).is_some_and(|code| survey.reached.get(code) && survey.code.get(code))
+}
 
 /// The word of data to which the word at the address leads, if that leads to reached code.
 fn field_of(ground: &Ground<'_>, survey: &Survey<'_>, at: usize) -> Option<usize> {
     let field = usize::from(ground.word(at)?);
-    let code = usize::from(word(ground.image, field)?);
-    let is_data = ground.is_plain(field) || ground.words.get_at(field);
-    let is_led_to = survey.reached.get_at(code) && survey.code.get_at(code);
-    (is_data && is_led_to).then_some(field)
+    is_field(ground, survey, field).then_some(field)
 }
 
-/// Marks the words of rows of three at least that lead to words which lead to reached code, and those words.
-pub fn mark_threads(ground: &mut Ground<'_>, survey: &Survey<'_>) {
-    let (start, end) = ends(ground.image);
-    for from in start..end {
-        let words = (from..end).step_by(2);
-        let count = words
-            .take_while(|at| field_of(ground, survey, *at).is_some())
-            .count();
-        if count < ROW {
-            continue;
+/// How many words stand one behind the other from an address on, and how many of them lead to fields.
+#[derive(Clone, Copy)]
+struct Thread {
+    from: usize,
+    len: usize,
+    count: usize,
+}
+
+impl Thread {
+    /// The thread that begins at the address: words that lead to fields, and, if `has_numbers`, single other words
+    /// between them.
+    fn at(
+        ground: &Ground<'_>,
+        survey: &Survey<'_>,
+        (from, end): (usize, usize),
+        has_numbers: bool,
+    ) -> Thread {
+        let (mut len, mut count) = (0usize, 0usize);
+        let mut was_number = true;
+        for at in (from..end).step_by(2) {
+            if field_of(ground, survey, at).is_some() {
+                count = count.saturating_add(1);
+                was_number = false;
+            } else if was_number || !has_numbers || ground.word(at).is_none() {
+                break;
+            } else {
+                was_number = true;
+            }
+            len = len.saturating_add(1);
         }
-        for at in (from..end).step_by(2).take(count) {
+        // The last one may be a number only if what follows it leads on.
+        let len = len.saturating_sub(usize::from(was_number && 0 < len));
+        Thread { from, len, count }
+    }
+
+    /// Where it ends.
+    fn end(&self) -> usize {
+        self.from.saturating_add(self.len.saturating_mul(2))
+    }
+
+    /// Whether the word, which leads to no field, leads to a word of the thread or its end, or to a word that is known.
+    fn has_target(&self, ground: &Ground<'_>, word: u16) -> bool {
+        let to = usize::from(word);
+        let is_inside = self.from <= to && to <= self.end();
+        is_inside && (to - self.from) % 2 == 0
+            || ground.words.get_at(to) && ground.words.get_at(to.saturating_add(1))
+    }
+
+    /// Marks its words that lead to fields, these fields, and the words that lead into it.
+    fn put(&self, ground: &mut Ground<'_>, survey: &Survey<'_>) {
+        for at in (self.from..self.end()).step_by(2) {
             if let Some(field) = field_of(ground, survey, at) {
                 ground.put_words(0, field, field.saturating_add(2));
+                ground.put_words(0, at, at.saturating_add(2));
             }
-            ground.put_words(0, at, at.saturating_add(2));
+        }
+        for at in (self.from..self.end()).step_by(2) {
+            if let Some(word) = ground.word(at)
+                && self.has_target(ground, word)
+            {
+                ground.put_words(0, at, at.saturating_add(2));
+            }
         }
     }
+}
+
+/// Marks the words of threads, and the words to which they lead. A thread begins right behind a word of data that leads
+/// to reached code, and has three words at least that lead to such words; or it begins at the address of a pair, and
+/// has two at least. Between them single numbers may stand, and addresses of its own words. Rows of three at least,
+/// without numbers, are threads wherever they stand.
+pub fn mark_threads(
+    ground: &mut Ground<'_>,
+    survey: &Survey<'_>,
+    pairs: &[Pair],
+) -> Result<(), AllocError> {
+    let mut named = Marks::none(survey.steps.alloc())?;
+    for pair in pairs {
+        named.set(pair.address);
+    }
+    let (start, end) = ends(ground.image);
+    for begins in [true, false] {
+        for from in start..end {
+            if field_of(ground, survey, from).is_none() {
+                continue;
+            }
+            let is_named = named.get_at(from);
+            let is_behind = is_field(ground, survey, from.saturating_sub(2));
+            if begins && !is_named && !is_behind {
+                continue;
+            }
+            let thread = Thread::at(ground, survey, (from, end), begins);
+            let least = if begins && is_named { NAMED } else { ROW };
+            if least <= thread.count {
+                thread.put(ground, survey);
+                if begins && is_behind {
+                    let field = from.saturating_sub(2);
+                    ground.put_words(0, field, from);
+                }
+            }
+        }
+    }
+    Ok(())
 }

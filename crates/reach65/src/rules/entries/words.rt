@@ -161,19 +161,21 @@ impl<'i> DataWords<'i> {
     /// Lets the code join that begins right behind words which are its address, if there are three of these at least:
     /// the code fields of threaded code, as of Forth.
     pub fn join_fields(&self, search: &mut Search<'_>) -> Result<(), AllocError> {
-        let mut found = Vec::new(search.steps.alloc());
+        let mut count = 0usize;
         for &at in &self.fields {
             if let Some(to) = self.target(search, 0, usize::from(at))
                 && begins_code(search, 0, to)?
             {
-                found.push((at, to))?;
+                count = count.saturating_add(1);
             }
         }
-        if found.len() < ROW {
+        if count < ROW {
             return Ok(());
         }
-        for &(at, to) in &found {
-            if search.marks.get(to) || search.join(to, Least::Count(IN_TABLE))? {
+        for &at in &self.fields {
+            if let Some(to) = self.target(search, 0, usize::from(at))
+                && (search.marks.get(to) || search.join(to, Least::Count(1))?)
+            {
                 search.words.push(at)?;
             }
         }
