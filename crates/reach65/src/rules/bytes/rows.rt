@@ -4,7 +4,7 @@ use crate::rules::bytes::ground::Ground;
 use crate::rules::bytes::links::FAR;
 use crate::rules::bytes::survey::Survey;
 use crate::rules::entries::words::ROW;
-use crate::rules::image::ends;
+use crate::rules::image::{address, ends};
 use map65::{Image, Marks};
 use std::alloc::AllocError;
 
@@ -97,10 +97,10 @@ pub fn words_of(ground: &Ground<'_>, survey: &Survey<'_>) -> Result<Words, Alloc
     let (mut leading, mut near) = (Vec::new(alloc), Vec::new(alloc));
     let (start, end) = ends(ground.image);
     for (at, bytes) in (start..end).zip(ground.image.bytes().windows(2)) {
-        let &[low, high] = bytes else {
+        let (&[low, high], Some(here)) = (bytes, address(at)) else {
             continue;
         };
-        let (here, word) = (at as u16, u16::from_le_bytes([low, high]));
+        let word = u16::from_le_bytes([low, high]);
         let (is_meant, is_near) = (meant.get(word), word.abs_diff(here) <= FAR);
         // Most words are neither.
         if !is_meant && !is_near || ground.word(at).is_none() {
