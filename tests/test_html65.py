@@ -14,20 +14,26 @@ SAID = {"called by": "call", "jumped to by": "jump", "branched to by": "branch",
 
 
 class Page(html.parser.HTMLParser):
-    """A page as a reader of HTML sees it: `text` of the listing; of each line the `left` remark, its `address` as an
-    id, and the `links`: the numbers of lines and the rows to which its operands lead; and `uses`: (way, line) of the
-    remark above it. `rows` has the same of the row of an address, or of the name of a line. `inside` are the elements
-    that are open: pre is that of the listing, and i a remark."""
+    """A page as a reader of HTML sees it: `text` of the listing; `lines`: the number of the line of each id in it; of
+    each line the `left` remark, and the `links`: the numbers of lines and the rows to which its operands lead; and
+    `uses`: (way, line) of the remark above it. `rows` has the same of the row of an address, or of the name of a line.
+    `inside` are the elements that are open: pre is that of the listing, and i a remark."""
 
     def __init__(self, page):
         super().__init__()
         self.text, self.hrefs, self.attributes, self.images = "", [], set(), []
         self.tags, self.ids = collections.Counter(), collections.Counter()
-        self.left, self.address = collections.defaultdict(str), {}
+        self.left, self.lines = collections.defaultdict(str), {}
         self.links, self.uses, self.rows = (collections.defaultdict(list) for _ in range(3))
-        self.inside, self.line, self.way, self.row = set(), 0, "", None
+        self.inside, self.line, self.way, self.row = set(), 1, "", None
         self.feed(page.decode("latin-1"))
         self.close()
+        self.links, self.uses, self.rows = ({self.lines.get(key, key): list(map(self.led, all_)) for key, all_ in
+                                             found.items()} for found in (self.links, self.uses, self.rows))
+
+    def led(self, one):
+        """A target, or a use, with the number of the line in place of its id."""
+        return self.lines.get(one, one) if isinstance(one, str) else (one[0], self.lines[one[1]])
 
     def handle_starttag(self, tag, attributes):
         values = dict(attributes)
@@ -47,22 +53,18 @@ class Page(html.parser.HTMLParser):
         if tag == "tr":
             self.row = self.row if values.get("class") == "u" else name
             self.inside |= {"u"} if values.get("class") == "u" else set()
-        if name and "pre" in self.inside and tag in ("span", "i"):
-            if tag == "span":
-                self.line = int(name[1:])
-            else:
-                self.address[self.line] = name
-        number = int(target[2:]) if target[:2] == "#l" else target[1:]
+        if name and "pre" in self.inside and tag != "pre":
+            self.lines[name] = self.line
         if tag == "a" and "pre" in self.inside:
             if "i" not in self.inside:
-                self.links[self.line].append(number)
-            elif target[:2] == "#l":
-                self.uses[self.line].append((self.way, number))
-        elif tag == "a" and "tr" in self.inside and target[:2] == "#l":
+                self.links[self.line].append(target[1:])
+            elif target[1] in "al":
+                self.uses[self.line].append((self.way, target[1:]))
+        elif tag == "a" and "tr" in self.inside and target[1] in "al":
             if "u" in self.inside:
-                self.rows[self.row].append((self.way, number))
+                self.rows[self.row].append((self.way, target[1:]))
             else:
-                self.row = number
+                self.row = target[1:]
 
     def handle_endtag(self, tag):
         self.inside.discard(tag)
@@ -76,6 +78,7 @@ class Page(html.parser.HTMLParser):
             self.inside.discard("u")
         if "pre" in self.inside and "i" not in self.inside:
             self.text += data
+            self.line += data.count("\n")
         elif "pre" in self.inside and "r" not in self.inside:
             self.left[self.line] += data
 
@@ -95,7 +98,9 @@ def whole(page_of):
         assert page.text == text.replace("\0", "\ufffd")
         assert all(page.ids[href[1:]] == 1 and href[0] == "#" for href in page.hrefs)
         assert set(page.ids.values()) == {1}
-        assert page.address == {line: f"a{left[:4]}" for line, left in page.left.items() if left.strip()}
+        assert {name: line for name, line in page.lines.items() if name[0] == "a"} == {
+            f"a{left[:4]}": line for line, left in page.left.items() if left.strip()}
+        assert all(name[0] == "a" or name == f"l{line}" for name, line in page.lines.items())
         return page
     return read_back
 
@@ -173,8 +178,8 @@ def test_text(da65, as65, whole):
     for words, listing in listings:
         page = whole(listing, words)
         lines = listing.split(b"\n")
-        assert page.ids.keys() >= {f"l{number}" for number, line in enumerate(lines, 1) if line}, words
         defined, uses, links = expected(listing.decode("latin-1"))
+        assert page.ids.keys() >= {f"l{number}" for number in defined.values()}, words
         assert {line: sorted(page.rows[line]) for line, found in uses.items() if len(found) > 10} == {
             line: sorted(found) for line, found in uses.items() if len(found) > 10}, words
         assert {line: sorted(found) for line, found in page.uses.items()} == {
@@ -220,6 +225,7 @@ def rows_of(page, title):
     text = page.decode("latin-1")
     part = text[text.index(f"<summary>{title} ("):]
     part = part[:part.index("</table>")]
+    part = re.sub(r'<td colspan="(.)">(?=<td)', lambda cell: int(cell[1]) * "|", part)
     return [re.sub("<[^>]*>", "", re.sub("<td[^>]*>", "|", row.partition(">")[2])).strip("|\n")
             for row in part.split("<tr")[1:]]
 
@@ -236,7 +242,7 @@ def test_lists(page_of):
         "$1021|end||||||d2", "$1023|vec||||p1"]
     assert rows_of(page, "After the image") == ["$FFD2|out|||||j1"]
     assert rows_of(page, "Routines") == [
-        "$1000|$1014|21|start", "calls print", "$1015|$101C|8|print", "calls out called by start"]
+        "$1000|$1014|21|start", "calls print", "$1015|$101C|8|print", "calls out; called by start"]
     assert f"Groups to copy (1)</summary><code>{group}\n</code>" in page.decode()
     links, titles = r'<a href="#(s\d)">(.*?)</a>', r'<details open id="(s\d)"><summary>(.*?) \('
     assert re.findall(links, page.decode()) == [("s0", "Routines"), ("s1", "before"), ("s2", "in"), ("s3", "after")]
@@ -245,7 +251,7 @@ def test_lists(page_of):
     assert rows_of(page_of("L: nop\n"), "After the image") == ["none"]
     assert rows_of(page_of("L: nop\nM: jmp L\n"), "In the image") == ["$1000|L|||||j1", "$1001|M|none"]
     inside = page_of("start: jsr in\n rts\nin := *+1\n bit $01A9\n rts\n")
-    assert rows_of(inside, "Routines") == ["$1000|$1004|5|start", "calls in", "$1005|$1007|3|in", " called by start"]
+    assert rows_of(inside, "Routines") == ["$1000|$1004|5|start", "calls in", "$1005|$1007|3|in", "called by start"]
 
 
 def test_rows(page_of, listing, title, rows):
@@ -279,7 +285,7 @@ def test_numbers(whole, page_of):
     assert rows[:2] == ["$0020||r1|w2|c1|p1||d1",
                         "read by dump 1000; written by dump 1004, show 100C; changed by dump 1009; "
                         'pointer of show 100E; in the table at 1016 LABEL { ADDR $0020; NAME ""; };']
-    assert [row.split("|")[3] for row in rows_of(page_of(NUMBERS), "Routines")[::2]] == ["dump", "show"]
+    assert [row.split("|")[3] for row in rows_of(page_of(NUMBERS), "Routines")] == ["dump", "show"]
 
 
 def test_styles(page_of):
@@ -307,7 +313,7 @@ def test_filler(whole, page_of):
     assert page.count('<b class="f">') == 1 and "72 bytes of filler" in page
     assert whole("nop\n" + 9 * line).text.count(line) == 9
     page = page_of("nop\n.res 1023,255\nnop\n", "-S 0x1000").decode()
-    assert 'viewBox="0 -.5 64 3"' in page and page.count("M0 1h64") == 1
+    assert 'viewBox="0 -.5 64 3"' in page and page.count("M000 001h064") == 1
 
 
 def test_glyphs(whole):
@@ -331,8 +337,8 @@ def test_left(da65, whole):
 
 
 def runs_of(page):
-    """The runs of the map that are links: line, addresses, kind, class, and what its lines cover; and of each kind what
-    the lines of those cover that are none. Rows are counted from the top, as far as they are shown."""
+    """The runs of the map that are links: addresses, kind, class, and what its lines cover; and of each kind what the
+    lines of those cover that are none. Rows are counted from the top, as far as they are shown."""
     text, base = page.decode("latin-1"), None
     wide = int(re.search(r'viewBox="0 -.5 (\d+) [^>]* role="group"', text)[1])
     base = int(re.search(r"</h1> \$(\w{4}) to", text)[1], 16) // wide * wide
@@ -342,12 +348,13 @@ def runs_of(page):
                 for x, y, width in re.findall(r"M(\d+) (\d+)h(\d+)", shape) for column in range(int(width))]
 
     title = r'<title>(\w+) \$(\w{4})(?: to \$(\w{4}), (\d+) bytes)?(?:: \w+)?</title>'
-    path = rf'<a href="#l(\d+)" class="(\w+)">{title}<path d="([^"]*)"/></a>'
+    path = rf'<a href="#a(\w+)" class="(\w+)">{title}<path d="([^"]*)"/></a>'
     runs = []
     for line, kind, named, first, last, count, shape in re.findall(path, text):
+        assert line == first
         first, last = int(first, 16), int(last or first, 16)
         assert int(count or 1) == last - first + 1
-        runs.append((int(line), first, last, named, kind, covered(shape)))
+        runs.append((first, last, named, kind, covered(shape)))
     return runs, {kind: covered(shape) for kind, shape in re.findall(r'<path class="(\w+)" d="([^"]*)"/>', text)}
 
 
@@ -359,11 +366,10 @@ def test_map(da65, page_of, listing, words, kinds, rows):
     is_small = kinds[-1][2] - kinds[0][1] < 4096
     assert re.search(r'viewBox="0 -.5 (\d+ \d+)"', page.decode("latin-1"))[1] == f"{64 if is_small else 256} {rows}"
     linked = [run for run in kinds if is_small or run[2] - run[1] >= 15]
-    assert [(named, first, last) for _, first, last, named, _, _ in runs] == linked
+    assert [(named, first, last) for first, last, named, _, _ in runs] == linked
     assert {kind for kind, *_ in kinds if kind not in [run[0] for run in linked]} <= others.keys()
-    for line, first, last, named, kind, cells in runs:
+    for first, last, named, kind, cells in runs:
         assert named == kind and (sorted(cells) == list(range(first, last + 1)) or named == "filler")
-        assert Page(page).left[line].startswith(f"{first:04X} ")
     total = collections.Counter(named for named, first, last in kinds for _ in range(first, last + 1))
     head = re.sub("<[^>]*>", " ", re.search("<header>.*?</header>", page.decode("latin-1"), re.S)[0])
     assert {name: int(count) for name, count in re.findall(r"(code|text|bytes|words|addresses|filler) (\d+)",
@@ -379,8 +385,8 @@ def test_titles(page_of):
 def test_pages(page_of):
     """Each page of 256 bytes leads to the first line that has bytes of it."""
     page = page_of("; x\n nop\n .res 600\n nop\n", "-S 0x10FE").decode()
-    assert re.findall(r'<a href="#l(\d+)">(\w\w)</a>', page[:page.index("<svg")]) == [
-        ("2", "10"), ("3", "11"), ("3", "12"), ("3", "13")]
+    assert re.findall(r'<a href="#a(\w+)">(\w\w)</a>', page[:page.index("<svg")]) == [
+        ("10FE", "10"), ("10FF", "11"), ("10FF", "12"), ("10FF", "13")]
 
 
 def test_pictures(whole):
@@ -451,7 +457,7 @@ def test_browser(da65, page_of, folder):
 def test_copied(page_of, folder):
     """What a browser marks in the listing is the listing: without what the page adds, also above lines and in folded
     filler, and with the CR at the end of a line. For a NUL it has U+FFFD."""
-    listing = "v := $12 ; x\r\nL: lda v ; a\0b\n\n\nM: jsr L\n" + 9 * " .byte 0,0,0,0,0,0,0,0\n" + "jmp M\n"
+    listing = "\nv := $12 ; x\r\nL: lda v ; a\0b\n\n\nM: jsr L\n" + 9 * " .byte 0,0,0,0,0,0,0,0\n" + "jmp M\n"
     script = b"""<script>addEventListener("load", () => {
         getSelection().selectAllChildren(document.getElementById("listing"))
         document.title = JSON.stringify(getSelection().toString()) })</script></body>"""
@@ -464,10 +470,10 @@ def test_copied(page_of, folder):
 
 
 def test_large(page_of):
-    """As much as is read: 16 MiB of comments, and lines. Empty lines that follow each other are one element."""
+    """As much as is read: 16 MiB of comments, and lines. An empty line is no element."""
     lines = ("; " + "x" * 97 + "\n") * 167_771 + "nop"
     page = page_of(lines.ljust(16 * 1024 * 1024), "-S 0")
-    assert page.count(b'<span id="l') == 167_772 and page.count(b'<span id="l167772">') == 1
+    assert page.count(b"<i>\t</i><span") == 167_771 and page.count(b'id="a') == 1
     page = page_of("\n" * 1_048_576 + "nop", "-S 0")
-    assert page.count(b'<span id="l') == 2 and page.count(b'<span id="l1048577">') == 1
+    assert page.count(b"\n") > 1_048_576 and page.count(b'id="a') == 1
     assert len(page) < 1_100_000

@@ -240,11 +240,11 @@ def test_name65(name65, shows, text, limit, name, words, step):
 
 
 def test_html65(html65, shows, text):
-    """The page is at most seven times as long as the listing of random bytes."""
+    """The page is at most 5.3 times as long as the listing of random bytes."""
     listing = text("random")
     ours = instructions(html65.path, f"-S 0 -o a.html {write('a.s', listing)}")
     shows(66.6, ours, ca65_and_ld65())
-    assert len(read("a.html")) <= 7 * len(listing)
+    assert len(read("a.html")) <= 5.3 * len(listing)
 
 
 def test_move65(move65, record_property, request, limit, routines):

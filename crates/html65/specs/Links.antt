@@ -42,11 +42,11 @@ is_found ids id = count_in id ids == 1
 abbrev pub AreLinksWhole : List ℕ → Type 0
 AreLinksWhole page = IsTrue (list_all (is_found (ids_in (pieces page))) (targets_in (pieces page)))
 
--- the kind of an id, by its first byte: `l` of a line, `a` of an address and `r` of a row have different ones
+-- the kind of an id, by its first byte: `l` of a name, `a` of a line and `r` of a row have different ones
 abbrev pub kind_of : List ℕ → ℕ
 kind_of id = get_or id 0 0 % 4
 
--- numbers of lines are decimal, and addresses hexadecimal
+-- numbers after an `l` are decimal, and addresses hexadecimal
 abbrev pub radix_of : List ℕ → ℕ
 radix_of id = if kind_of id == 0 then 10 else 16
 

@@ -6,6 +6,11 @@ use crate::tables::{TABLE_END, put_title};
 use crate::way::Way;
 use std::alloc::Global;
 
+/// What stands below the row of a routine before those that it calls; or before those that call it, if it calls none.
+const CALLS: &str = "\n<tr class=\"v\"><td colspan=\"4\">calls";
+
+const CALLED: &str = "\n<tr class=\"v\"><td colspan=\"4\">called by";
+
 /// A place among the names, whether the other one calls it or it the other one, and the place of the other one.
 type Call = (usize, bool, usize);
 
@@ -29,23 +34,24 @@ fn calls_of(alloc: Global, survey: &Survey<'_, '_>) -> Result<Vec<Call>> {
     Ok(calls)
 }
 
-/// Appends the other ones of the calls of a place, or of those who call it, as links.
+/// Appends the other ones of the calls of a place, or of those who call it, as links, after a text. Returns whether
+/// there are some.
 fn put_others(
     out: &mut Vec<u8>,
     survey: &Survey<'_, '_>,
     calls: &[Call],
     key: (usize, bool),
-) -> Result<()> {
+    text: &str,
+) -> Result<bool> {
     let from = calls.partition_point(|call| (call.0, call.1) < key);
     let to = calls.partition_point(|call| (call.0, call.1) <= key);
-    let text = if key.1 { " called by" } else { "calls" };
     put!(out; if from < to { text } else { "" });
     for (_, _, other) in calls.get(from..to).unwrap_or(&[]) {
         if let Some(named) = survey.names.get(*other) {
             put!(out; " ", Link(named.line, named.definition.name));
         }
     }
-    Ok(())
+    Ok(from < to)
 }
 
 /// Where a routine ends: where the next one begins, or its code.
@@ -65,9 +71,9 @@ pub fn put_routines(alloc: Global, out: &mut Vec<u8>, survey: &Survey<'_, '_>) -
         let end = end_of(survey, named, survey.routines.get(place.saturating_add(1)));
         put!(out; ("<tr><td>$", Address(begin as usize)), ("<td>$", Address(end.saturating_sub(1) as usize)));
         put!(out; ("<td>", end.saturating_sub(begin) as usize), "<td>", Link(named.line, named.definition.name));
-        put!(out; "\n<tr class=\"v\"><td colspan=\"4\">");
-        put_others(out, survey, &calls, (named.place, false))?;
-        put_others(out, survey, &calls, (named.place, true))?;
+        let has_calls = put_others(out, survey, &calls, (named.place, false), CALLS)?;
+        let text = if has_calls { "; called by" } else { CALLED };
+        put_others(out, survey, &calls, (named.place, true), text)?;
         put!(out; "\n");
     }
     put!(out; TABLE_END);

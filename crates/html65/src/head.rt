@@ -23,17 +23,17 @@ const STYLES: &str = "</title>\n<style>\n\
     nav{flex:0 0 340px;box-sizing:border-box;position:sticky;top:0;max-height:100vh;overflow:auto;padding:10px;font-size:12px;\
     border-right:1px solid var(--line)}\n\
     nav svg{display:block;max-width:100%;shape-rendering:crispEdges;margin-bottom:8px}svg a:hover,svg a:focus{opacity:.6}\n\
-    table{border-collapse:collapse;width:100%}td{width:1px;padding:0 6px 0 0;vertical-align:top;font-variant-numeric:tabular-nums}td:last-child{width:auto}summary{font-weight:600;padding:4px 0;cursor:pointer}\n\
+    table{border-collapse:collapse;width:100%}col[span]{width:1px}col+col{width:99%}td{padding:0 6px 0 0;vertical-align:top;font-variant-numeric:tabular-nums}summary{font-weight:600;padding:4px 0;cursor:pointer}\n\
     a{color:var(--link);text-decoration:none}a:hover,a:focus{text-decoration:underline}em{color:var(--from)}\n\
     pre{flex:1;min-width:0;overflow-x:auto;font:13px/1.35 ui-monospace,monospace;margin:0;padding:10px 16px}\n\
     pre i{font-style:normal;tab-size:20;color:var(--pale);-webkit-user-select:none;user-select:none}pre i a{color:var(--from)}\n\
     .r{display:block;white-space:pre-wrap;margin-left:20ch;max-width:100ch}.v td{padding:0 0 2px 6em;color:var(--pale)}p{margin:0 0 8px}\n\
-    .f{display:inline-block;vertical-align:top;font-weight:inherit}\
+    pre b{font-weight:600}pre b[class]{font-weight:inherit}.f{display:inline-block;vertical-align:top}\
     @supports selector(:has(a)){.f{max-height:4em;overflow:hidden}i:has(:checked)+.f,.f:has(:target){max-height:none}}\n\
-    .p{display:block;font-weight:inherit;content-visibility:auto;contain-intrinsic-size:auto 9000px}\
+    .p{display:block;content-visibility:auto;contain-intrinsic-size:auto 9000px}\
     details[open]{content-visibility:auto;contain-intrinsic-size:auto 2000px}\n\
     code{white-space:pre-line;color:var(--pale);-webkit-user-select:all;user-select:all}\n\
-    pre span b{font-weight:600}.t{color:var(--text)}.c{color:var(--pale)}:target{background:var(--mark)}details:target{background:none}\n\
+    pre [id]{scroll-margin-top:6em}.t{color:var(--text)}.c{color:var(--pale)}:target{background:var(--mark)}details:target{background:none}\n\
     .k{max-width:0;overflow:hidden;text-overflow:ellipsis;white-space:nowrap;color:var(--pale)}\
     .u{display:none}:target+.u{display:table-row;background:var(--mark)}.u code{display:block}\n\
     label{cursor:pointer}label input{margin:0 3px 0 0;vertical-align:middle}\n\
@@ -44,7 +44,7 @@ const STYLES: &str = "</title>\n<style>\n\
     .addresses{stroke:var(--addresses);border-color:var(--addresses)}.filler{stroke:var(--filler);border-color:var(--filler)}\n\
     @media (max-width:700px){main{display:block}nav{position:static;max-height:50vh;border-right:0;border-bottom:1px solid var(--line)}}\n\
     @media print{main{display:block}nav{position:static;max-height:none;border:0}pre{overflow:visible;white-space:pre-wrap}\
-    .u{display:table-row}.k{max-width:none;white-space:normal}.u code{display:none}.f{max-height:none}label b{display:block}}\n\
+    .u{display:table-row}.k{max-width:none;white-space:normal}.u code{display:none}.f{max-height:none}label b{display:block}label input{display:none}}\n\
     </style>\n</head>\n<body>\n<header><h1>";
 
 /// Appends what stands before the map, for a listing of this name: its addresses, and

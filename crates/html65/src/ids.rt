@@ -13,6 +13,7 @@ const MOST: usize = 4_194_304;
 /// Where ids are, by their kinds and numbers. Nothing of it is trusted: whoever asks looks whether the id is there.
 #[derive(Drop)]
 pub struct Index {
+    names: Vec<Place>,
     lines: Vec<Place>,
     rows: Vec<Place>,
     lists: Vec<Place>,
@@ -34,6 +35,7 @@ const NOWHERE: Place = Place {
 impl Index {
     pub fn new(alloc: Global) -> Index {
         Index {
+            names: Vec::new(alloc),
             lines: Vec::new(alloc),
             rows: Vec::new(alloc),
             lists: Vec::new(alloc),
@@ -43,10 +45,10 @@ impl Index {
     /// Takes down the next id of a kind, which has a number.
     fn note(&mut self, kind: usize, number: u32, among_all: usize) -> Result<(), AllocError> {
         let ids = match kind {
-            0 => &mut self.lines,
+            0 => &mut self.names,
+            1 => &mut self.lines,
             2 => &mut self.rows,
-            3 => &mut self.lists,
-            _ => return Ok(()),
+            _ => &mut self.lists,
         };
         let number = number as usize;
         if MOST < number {
@@ -70,7 +72,8 @@ impl Index {
     /// Where an id should be.
     pub fn place_of(&self, id: &[u8]) -> Place {
         let ids = match kind_of(id) {
-            0 => &self.lines,
+            0 => &self.names,
+            1 => &self.lines,
             2 => &self.rows,
             _ => &self.lists,
         };

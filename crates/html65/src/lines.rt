@@ -9,7 +9,8 @@ use stmt65::first_line;
 pub struct Line<'t> {
     /// From 1.
     pub number: usize,
-    /// Without its line feed.
+    /// With its line feed, and without it.
+    pub whole: &'t [u8],
     pub text: &'t [u8],
     /// What stands after it.
     rest: &'t [u8],
@@ -23,6 +24,7 @@ impl<'t> Line<'t> {
     pub fn before(listing: &'t [u8], start: u16) -> Line<'t> {
         Line {
             number: 0,
+            whole: &[],
             text: &[],
             rest: listing,
             at: 0,
@@ -33,13 +35,20 @@ impl<'t> Line<'t> {
     /// The next line, by the address after it.
     pub fn next(self, end: u64) -> Line<'t> {
         let (text, rest) = first_line(self.rest).unwrap_or((&[], &[]));
+        let len = self.rest.len().saturating_sub(rest.len());
         Line {
             number: self.number.saturating_add(1),
+            whole: self.rest.get(..len).unwrap_or(&[]),
             text,
             rest,
             at: self.end,
             end: end.min(65_536) as usize,
         }
+    }
+
+    /// Whether it has bytes. Then there is an element with its address.
+    pub fn has_bytes(self) -> bool {
+        self.at < self.end
     }
 
     /// It refers to something.

@@ -2,7 +2,7 @@
 
 use crate::kind::Kind;
 use crate::lines::Line;
-use crate::markup::{Address, FOLD, FOLD_END, Link, Put, Result, put};
+use crate::markup::{FOLD, FOLD_END, Link, LinkTo, Put, Result, digits_of, put};
 use crate::pictures::{LEAST, put_pictures};
 use crate::survey::{Mark, Run, Shown, Survey, part_of};
 use crate::uses::put_references;
@@ -30,13 +30,8 @@ fn put_left(out: &mut Vec<u8>, at: usize, bytes: &[u8]) -> Result<()> {
     if bytes.is_empty() {
         return out.extend_from_slice(b"<i>\t</i>");
     }
-    let digits = [
-        hex_digit((at / 4096 % 16) as u8),
-        hex_digit((at / 256 % 16) as u8),
-        hex_digit((at / 16 % 16) as u8),
-        hex_digit((at % 16) as u8),
-    ];
-    let mut left = *b"<i id=\"a0000\">0000 00 00 00 00";
+    let mut left = *b"<i id=\"a0000\">0000 00 00 00 00..\t</i>";
+    let digits = digits_of(at);
     for place in 0..4 {
         left[8 + place] = digits[place];
         left[14 + place] = digits[place];
@@ -47,39 +42,65 @@ fn put_left(out: &mut Vec<u8>, at: usize, bytes: &[u8]) -> Result<()> {
             left[20 + 3 * place] = hex_digit(*byte % 16);
         }
     }
-    let shown = bytes.len().min(BYTES);
-    out.extend_from_slice(&left[..18 + 3 * shown])?;
-    put!(out; if BYTES < bytes.len() { "..\t</i>" } else { "\t</i>" });
+    if BYTES < bytes.len() {
+        return out.extend_from_slice(&left);
+    }
+    let end = 18 + 3 * bytes.len();
+    for (to, from) in left[end..].iter_mut().zip(b"\t</i>") {
+        *to = *from;
+    }
+    out.extend_from_slice(&left[..end + 5])
+}
+
+/// Appends a part of the text of a line with its markup.
+fn put_mark(
+    out: &mut Vec<u8>,
+    survey: &Survey<'_, '_>,
+    line: usize,
+    shown: Shown,
+    text: &[u8],
+) -> Result<()> {
+    match shown {
+        Shown::Definition => put!(out; ("<b id=\"l", line), "\">", text, "</b>"),
+        Shown::Text => put!(out; "<span class=\"t\">", text, "</span>"),
+        Shown::Remark => put!(out; "<span class=\"c\">", text, "</span>"),
+        Shown::Name(place) => {
+            let named = survey.names.get(place);
+            put!(out; Link(named.map_or(0, |named| named.line), text));
+        }
+        Shown::Address(address) => put!(out; LinkTo(b'r', address, text)),
+    }
     Ok(())
 }
 
-/// Appends the text of a line as it stands, with the first of these marks. Returns those that stand on later lines.
-fn put_text<'m>(
+/// Appends a line as it stands up to a byte, with the first of these marks. Returns those that stand on later lines.
+fn put_line<'m>(
     out: &mut Vec<u8>,
     survey: &Survey<'_, '_>,
-    line: Line<'_>,
+    (line, end): (Line<'_>, usize),
     marks: &'m [Mark],
 ) -> Result<&'m [Mark]> {
-    let mut from = 0;
+    if line.text.is_empty() {
+        put!(out; part_of(line.whole, 0, end));
+        return Ok(marks);
+    }
     let own = marks.iter().take_while(|mark| mark.0 == line.number);
     let count = own.count();
-    for Mark(_, shown, span) in marks.get(..count).unwrap_or(&[]) {
-        let text = part_of(line.text, span.from, span.to);
+    let own = marks.get(..count).unwrap_or(&[]);
+    put_left(out, line.at, survey.between(line.at, line.end))?;
+    let mut from = 0;
+    for Mark(number, shown, span) in own {
         put!(out; part_of(line.text, from, span.from));
-        match *shown {
-            Shown::Definition => put!(out; "<b>", text, "</b>"),
-            Shown::Text => put!(out; "<span class=\"t\">", text, "</span>"),
-            Shown::Remark => put!(out; "<span class=\"c\">", text, "</span>"),
-            Shown::Name(place) => {
-                let named = survey.names.get(place);
-                put!(out; Link(named.map_or(0, |named| named.line), text));
-            }
-            Shown::Address(address) =>
-                put!(out; ("<a href=\"#r", Address(address)), "\">", text, "</a>"),
-        }
+        put_mark(
+            out,
+            survey,
+            *number,
+            *shown,
+            part_of(line.text, span.from, span.to),
+        )?;
         from = span.to;
     }
-    put!(out; part_of(line.text, from, line.text.len()));
+    put!(out; part_of(line.whole, from, end));
     Ok(marks.get(count..).unwrap_or(&[]))
 }
 
@@ -105,15 +126,8 @@ struct Holders {
 }
 
 impl Holders {
-    /// Ends the line before one, and begins what holds this one. A run may begin with it.
-    fn next(&mut self, out: &mut Vec<u8>, line: usize, run: Option<&Run>) -> Result<()> {
-        let is_unfolded = self.folded.is_some_and(|last| last < line);
-        if is_unfolded {
-            self.folded = None;
-        }
-        if 1 < line {
-            put!(out; if is_unfolded { "</span></b>\n" } else { "</span>\n" });
-        }
+    /// Begins what holds a line. A run may begin with it.
+    fn begin(&mut self, out: &mut Vec<u8>, line: usize, run: Option<&Run>) -> Result<()> {
         if self.is_parted && line % PART == 1 && self.folded.is_none() {
             put!(out; if self.has_begun { "</b>" } else { "" }, "<b class=\"p\">");
             self.has_begun = true;
@@ -128,52 +142,40 @@ impl Holders {
         }
         Ok(())
     }
-
-    /// Ends the last line, and what holds it.
-    fn end(self, out: &mut Vec<u8>) -> Result<()> {
-        put!(out; "</span>", if self.folded.is_some() { "</b>" } else { "" });
-        put!(out; if self.has_begun { "</b>" } else { "" });
-        Ok(())
-    }
 }
 
-/// Appends the listing: above each name who refers to it, and above the first line of bytes these as pictures. Empty
-/// lines that follow each other are one element.
+/// Appends the listing: above each name who refers to it, and above the first line of bytes these as pictures.
 pub fn put_listing(alloc: Global, out: &mut Vec<u8>, survey: &Survey<'_, '_>) -> Result<()> {
     let mut line = Line::before(survey.text, survey.start);
     let mut marks = survey.marks.as_slice();
     let mut names = survey.names.iter().peekable();
     let mut runs = survey.runs.iter().peekable();
-    let mut is_empty = false;
     let mut holders = Holders {
         is_parted: PARTED <= survey.text.len(),
         has_begun: false,
         folded: None,
     };
-    put!(out; "<pre id=\"listing\">");
+    // A browser leaves out a line feed with which the text of an element begins.
+    let is_feed_first = survey.text.first() == Some(&b'\n');
+    put!(out; "<pre id=\"listing\">", if is_feed_first { "<i></i>" } else { "" });
     for end in survey.ends {
         line = line.next(end);
-        let was_empty = is_empty;
-        is_empty = line.text.is_empty();
-        if was_empty && is_empty {
-            put!(out; "\n");
-            continue;
-        }
         let run = runs.next_if(|run| run.line == line.number);
-        holders.next(out, line.number, run)?;
-        put!(out; ("<span id=\"l", line.number), "\">");
+        holders.begin(out, line.number, run)?;
         if let Some(named) = names.next_if(|named| named.line == line.number) {
             put_references(out, survey, named)?;
         }
         if let Some(run) = run {
             put_run(alloc, out, survey, run)?;
         }
-        if !is_empty {
-            put_left(out, line.at, survey.between(line.at, line.end))?;
-            marks = put_text(out, survey, line, marks)?;
+        if holders.folded == Some(line.number) {
+            marks = put_line(out, survey, (line, line.text.len()), marks)?;
+            put!(out; "</b>", part_of(line.whole, line.text.len(), line.whole.len()));
+            holders.folded = None;
+        } else {
+            marks = put_line(out, survey, (line, line.whole.len()), marks)?;
         }
     }
-    holders.end(out)?;
-    put!(out; if survey.text.last() == Some(&b'\n') { "\n</pre>\n" } else { "</pre>\n" });
+    put!(out; if holders.has_begun { "</b>" } else { "" }, "</pre>\n");
     Ok(())
 }

@@ -21,6 +21,7 @@ mod listing;
 mod map;
 mod markup;
 mod operands;
+mod order;
 mod page;
 mod pictures;
 mod pieces;

@@ -1,7 +1,7 @@
 //! The map of a page: the addresses of the image as rows of a picture.
 
 use crate::kind::{KINDS, Kind};
-use crate::markup::{Address, Link, Page, Put, Result, put};
+use crate::markup::{Address, LinkTo, Page, Put, Result, put};
 use crate::survey::{Run, Survey};
 use std::alloc::Global;
 
@@ -16,6 +16,21 @@ struct Rows {
     above: usize,
     /// Which row of the picture each row is: rows of filler that follow each other are one.
     shown: Vec<usize>,
+}
+
+/// The last three digits of a number.
+fn digits_of(number: usize) -> [u8; 3] {
+    [
+        b'0' + (number / 100 % 10) as u8,
+        b'0' + (number / 10 % 10) as u8,
+        b'0' + (number % 10) as u8,
+    ]
+}
+
+/// Appends a line of a row: from where on, in which row, and how long. None of them has more than three digits.
+fn put_stretch(out: &mut Vec<u8>, from: usize, row: usize, len: usize) -> Result<()> {
+    let ([a, b, c], [d, e, f], [g, h, i]) = (digits_of(from), digits_of(row), digits_of(len));
+    out.extend_from_slice(&[b'M', a, b, c, b' ', d, e, f, b'h', g, h, i])
 }
 
 impl Rows {
@@ -67,7 +82,7 @@ impl Rows {
             let to = end.saturating_sub(begin).min(wide);
             let y = self.shown.get(row).copied().unwrap_or(0);
             if y != before {
-                put!(out; ("M", from), (" ", y), ("h", to.saturating_sub(from)));
+                put_stretch(out, from, y, to.saturating_sub(from))?;
             }
             before = y;
         }
@@ -79,7 +94,7 @@ impl Rows {
 /// the label at its first address, which is among these names by their values.
 fn put_run(out: &mut Vec<u8>, survey: &Survey<'_, '_>, rows: &Rows, run: &Run) -> Result<()> {
     let (at, end, kind) = (run.at, run.end, KINDS[run.kind as usize]);
-    put!(out; ("<a href=\"#l", run.line), "\" class=\"", kind, "\"><title>", kind, (" $", Address(at)));
+    put!(out; ("<a href=\"#a", Address(at)), "\" class=\"", kind, "\"><title>", kind, (" $", Address(at)));
     let count = end.saturating_sub(at);
     if 1 < count {
         put!(out; (" to $", Address(end.saturating_sub(1))), (", ", count), " bytes");
@@ -136,8 +151,8 @@ pub fn put_map(alloc: Global, out: &mut Vec<u8>, survey: &Survey<'_, '_>) -> Res
 /// Appends the pages of 256 bytes, each a link to the first line that has bytes of it.
 pub fn put_pages(out: &mut Vec<u8>, survey: &Survey<'_, '_>) -> Result<()> {
     put!(out; "<p>Go to $");
-    for (page, line) in survey.pages.iter().enumerate() {
-        put!(out; " ", Link(*line, Page(survey.first_page().saturating_add(page))));
+    for (page, at) in survey.pages.iter().enumerate() {
+        put!(out; " ", LinkTo(b'a', *at, Page(survey.first_page().saturating_add(page))));
     }
     put!(out; "; of $FC95 is <code>#aFC95</code> after the name of this page</p>\n");
     Ok(())

@@ -2,6 +2,7 @@
 
 use files65::{put_address, put_decimal};
 use std::alloc::AllocError;
+use std::simd::prelude::{SimdPartialEq, u8x16};
 use text65::hex_digit;
 
 /// Appends parts to a page, one after the other.
@@ -33,11 +34,33 @@ impl Put for &str {
     }
 }
 
-/// A text of the listing, with entities for `&`, `<` and `>`, and for CR and NUL, which a browser would take for a line
-/// feed and for nothing.
+/// The bytes that a text has entities for: `&`, `<` and `>`, and CR and NUL, which a browser would take for a line feed
+/// and for nothing.
+const SPECIAL: [u8; 5] = [b'&', b'<', b'>', b'\r', 0];
+
+fn is_special(byte: &u8) -> bool {
+    matches!(*byte, b'&' | b'<' | b'>' | b'\r' | 0)
+}
+
+/// Whether one of these bytes has an entity. Sixteen are looked at together.
+fn has_special(bytes: &[u8]) -> bool {
+    if bytes.len() < 16 {
+        return bytes.iter().any(is_special);
+    }
+    let block = u8x16::from_slice(bytes);
+    let mut found: u64 = 0;
+    for byte in SPECIAL {
+        found |= block.simd_eq(u8x16::splat(byte)).to_bitmask();
+    }
+    found != 0
+}
+
+/// A text of the listing, with entities.
 impl Put for &[u8] {
     fn put(self, out: &mut Vec<u8>) -> Result<()> {
-        let is_special = |byte: &u8| matches!(*byte, b'&' | b'<' | b'>' | b'\r' | 0);
+        if !self.chunks(16).any(has_special) {
+            return out.extend_from_slice(self);
+        }
         for piece in self.split_inclusive(is_special) {
             let (text, entity) = match piece {
                 [text @ .., b'&'] => (text, "&amp;"),
@@ -73,6 +96,16 @@ impl Put for (&str, Address) {
     }
 }
 
+/// The four hex digits of an address.
+pub fn digits_of(address: usize) -> [u8; 4] {
+    [
+        hex_digit((address / 4096 % 16) as u8),
+        hex_digit((address / 256 % 16) as u8),
+        hex_digit((address / 16 % 16) as u8),
+        hex_digit((address % 16) as u8),
+    ]
+}
+
 /// The number of 256 addresses in two hex digits.
 #[derive(Clone, Copy)]
 pub struct Page(pub usize);
@@ -87,13 +120,30 @@ impl Put for Page {
     }
 }
 
-/// What is a link to the line of a number.
+/// What is a link to the name that the line of a number defines.
 #[derive(Clone, Copy)]
 pub struct Link<P>(pub usize, pub P);
 
 impl<P: Put + Drop> Put for Link<P> {
     fn put(self, out: &mut Vec<u8>) -> Result<()> {
         put!(out; ("<a href=\"#l", self.0), "\">", self.1, "</a>");
+        Ok(())
+    }
+}
+
+/// What is a link to the element whose id is a letter and an address: `a` of a line, `r` of a row.
+#[derive(Clone, Copy)]
+pub struct LinkTo<P>(pub u8, pub usize, pub P);
+
+impl<P: Put + Drop> Put for LinkTo<P> {
+    fn put(self, out: &mut Vec<u8>) -> Result<()> {
+        let mut tag = *b"<a href=\"#a0000\">";
+        tag[10] = self.0;
+        for (to, digit) in tag[11..15].iter_mut().zip(digits_of(self.1)) {
+            *to = digit;
+        }
+        out.extend_from_slice(&tag)?;
+        put!(out; self.2, "</a>");
         Ok(())
     }
 }

@@ -2,7 +2,7 @@
 
 ghost use Rattle.std.specs.Prelude.{◌<◌};
 
-use crate::markup::{Address, Link, Put, Quoted, Result, put};
+use crate::markup::{Address, Link, LinkTo, Put, Quoted, Result, put};
 use crate::survey::{Named, Reference, Survey};
 use crate::uses::{SHOWN, put_uses};
 use crate::way::Way;
@@ -21,10 +21,12 @@ pub const LINKS: &str = "<p><a href=\"#s0\">Routines</a>; addresses <a href=\"#s
 
 pub const TABLE_END: &str = "</table></details>\n";
 
-/// Appends what stands before the rows of the list of a place, which has so many.
+/// Appends what stands before the rows of the list of a place, which has so many. The last column takes what room is
+/// left.
 pub fn put_title(out: &mut Vec<u8>, place: usize, count: usize) -> Result<()> {
     let title = TITLES.get(place).copied().unwrap_or("");
-    put!(out; ("<details open id=\"s", place), "\"><summary>", title, (" (", count), ")</summary><table>\n");
+    put!(out; ("<details open id=\"s", place), "\"><summary>", title, (" (", count), ")</summary><table>");
+    put!(out; if place == 0 { "<col span=\"3\"><col>\n" } else { "<col span=\"8\"><col>\n" });
     put!(out; if count == 0 { "<tr><td><em>none</em>\n" } else { "" });
     Ok(())
 }
@@ -46,21 +48,35 @@ fn column_of(way: Way) -> usize
     }
 }
 
-/// Appends how many references there are, in their columns.
-fn put_counts(out: &mut Vec<u8>, uses: &[Reference]) -> Result<()> {
+/// Appends so many cells without text, as one.
+fn put_blank(out: &mut Vec<u8>, count: usize) -> Result<()> {
+    match count {
+        0 => {}
+        1 => put!(out; "<td>"),
+        _ => put!(out; ("<td colspan=\"", count), "\">"),
+    }
+    Ok(())
+}
+
+/// Appends how many references there are, in their columns, after so many without text. Returns how many of these are
+/// the last ones, which are not appended.
+fn put_counts(out: &mut Vec<u8>, uses: &[Reference], before: usize) -> Result<usize> {
     let mut counts: [usize; 6] = [0; 6];
     for one in uses {
         let column = column_of(one.way);
         counts[column] = counts[column].saturating_add(1);
     }
+    let mut blank = before;
     for (name, count) in COLUMNS.iter().zip(counts) {
-        if 0 < count {
-            put!(out; "<td>", (*name, count));
-        } else {
-            put!(out; "<td>");
+        if count == 0 {
+            blank = blank.saturating_add(1);
+            continue;
         }
+        put_blank(out, blank)?;
+        put!(out; "<td>", (*name, count));
+        blank = 0;
     }
-    Ok(())
+    Ok(blank)
 }
 
 /// Appends a group that names an address.
@@ -72,9 +88,8 @@ fn put_group(out: &mut Vec<u8>, address: usize) -> Result<()> {
 /// Appends the row of an address that operands have as a number, and below it who refers to it.
 fn put_address(out: &mut Vec<u8>, survey: &Survey<'_, '_>, uses: &[Reference]) -> Result<()> {
     let address = uses.first().map_or(0, |one| one.to);
-    put!(out; ("<tr id=\"r", Address(address)), ("\"><td><a href=\"#r", Address(address)));
-    put!(out; ("\">$", Address(address)), "</a><td>");
-    put_counts(out, uses)?;
+    put!(out; ("<tr id=\"r", Address(address)), "\"><td>", LinkTo(b'r', address, ("$", Address(address))));
+    put_counts(out, uses, 1)?;
     put!(out; "\n<tr class=\"u\"><td colspan=\"9\">");
     put_uses(out, survey, uses)?;
     put!(out; " <code>");
@@ -93,21 +108,22 @@ fn put_value(out: &mut Vec<u8>, value: usize, has_id: bool) -> Result<()> {
     Ok(())
 }
 
-/// Appends a comment, which is cut if the column is too narrow.
-fn put_comment(out: &mut Vec<u8>, comment: &[u8]) -> Result<()> {
+/// Appends a comment, which is cut if the column is too narrow, after so many cells without text.
+fn put_comment(out: &mut Vec<u8>, comment: &[u8], blank: usize) -> Result<()> {
     if !comment.is_empty() {
+        put_blank(out, blank)?;
         put!(out; "<td class=\"k\" title=\"", Quoted(comment), "\">", comment);
     }
     Ok(())
 }
 
-/// Appends how many refer to a name, in their columns.
-fn put_name_counts(out: &mut Vec<u8>, uses: &[Reference]) -> Result<()> {
+/// Appends how many refer to a name, in their columns. Returns how many of the last ones have no text.
+fn put_name_counts(out: &mut Vec<u8>, uses: &[Reference]) -> Result<usize> {
     if uses.is_empty() {
         put!(out; "<td colspan=\"6\"><em>none</em>");
-        return Ok(());
+        return Ok(0);
     }
-    put_counts(out, uses)
+    put_counts(out, uses, 0)
 }
 
 /// Appends who refers to a name, if these are too many for the line above its own.
@@ -130,8 +146,8 @@ fn put_name(
     let uses = survey.to_name(named.place);
     put_value(out, named.definition.value as usize, has_id)?;
     put!(out; "<td>", Link(named.line, named.definition.name));
-    put_name_counts(out, uses)?;
-    put_comment(out, named.comment)?;
+    let blank = put_name_counts(out, uses)?;
+    put_comment(out, named.comment, blank)?;
     put!(out; "\n");
     put_all_uses(out, survey, uses)
 }

@@ -1,15 +1,26 @@
 //! Who refers to a name or an address: in which way, and in which routine.
 
-use crate::markup::{Address, Put, Result, put};
+use crate::markup::{Address, Put, Result, digits_of, put};
 use crate::survey::{Named, Reference, Survey};
 use crate::way::{WAYS, Way};
 
 /// How many references stand above the line of a name.
 pub const SHOWN: usize = 10;
 
-/// Appends a line that refers to something, as a link, and the routine to which it belongs.
+/// Appends the address of a line that refers to something, as a link to it.
+fn put_place(out: &mut Vec<u8>, one: &Reference) -> Result<()> {
+    let mut link = *b"<a href=\"#a0000\">0000</a>";
+    let digits = digits_of(one.at);
+    for place in 0..4 {
+        link[11 + place] = digits[place];
+        link[17 + place] = digits[place];
+    }
+    out.extend_from_slice(&link)
+}
+
+/// Appends a line that refers to something, and the routine to which it belongs.
 fn put_line(out: &mut Vec<u8>, survey: &Survey<'_, '_>, one: &Reference) -> Result<()> {
-    put!(out; ("<a href=\"#l", one.line), ("\">", Address(one.at)), "</a>");
+    put_place(out, one)?;
     if let Some(routine) = survey.routine_of(one) {
         put!(out; " ", routine.definition.name);
     }
@@ -90,7 +101,8 @@ pub fn put_uses(out: &mut Vec<u8>, survey: &Survey<'_, '_>, uses: &[Reference]) 
             }
         }
         before = Some((one.way, one.routine));
-        put!(out; (" <a href=\"#l", one.line), ("\">", Address(one.at)), "</a>");
+        put!(out; " ");
+        put_place(out, one)?;
     }
     Ok(())
 }
