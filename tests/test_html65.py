@@ -288,6 +288,13 @@ def test_numbers(whole, page_of):
     assert [row.split("|")[3] for row in rows_of(page_of(NUMBERS), "Routines")] == ["dump", "show"]
 
 
+def test_star(whole):
+    """A `*` is the address of its line. Neither that is a link, nor what is added to it."""
+    page = whole("L: bne *+2\n jmp *\nM := *+1\n lda *+$20,x\n .word *-2\n .word L\n jsr M\n")
+    assert page.links == {6: [1], 7: [3]} and page.uses == {1: [("table", 6)], 3: [("call", 7)]}
+    assert page.ids["r0020"] == page.ids["r0002"] == 0
+
+
 def test_styles(page_of):
     """The page loads nothing, has a dark theme and one for paper, and what it adds to the listing is not selected."""
     styles = page_of("nop").decode()
