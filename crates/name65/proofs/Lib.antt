@@ -4,4 +4,5 @@ mod CommandLemmas
 mod ListingLemmas
 mod NameLemmas
 mod NameRows
+mod PlaceLemmas
 pub mod ReorderLemmas

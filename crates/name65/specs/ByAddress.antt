@@ -1,5 +1,5 @@
 -- Values by addresses.
-use Rattle.std.specs.Prelude.{◌≡◌, ◌≤◌, ◌<◌, ◌-◌, ◌==◌, ℕ, List, Option, Some, None, get_or, if◌then◌else◌, length}
+use Rattle.std.specs.Prelude.{◌-◌, ◌==◌, ℕ, List, Option, Some, None, get_or, if◌then◌else◌}
 use Rattle.std.specs.List.{slice_get}
 
 -- the value with a number, from 1
@@ -9,8 +9,3 @@ numbered values n = if n == 0 then None else slice_get values (n - 1)
 -- the value of an address
 abbrev pub value_at : {T : Type 0} → List ℕ → List T → ℕ → Option T
 value_at places values a = numbered values (get_or places a 0)
-
--- each place is that of a value, and there is one for each address or none
-pub record ArePlaces (places : List ℕ) (count : ℕ) : Type 0 where
-  pub known : (a : ℕ) → get_or places a 0 ≤ count
-  pub whole : 0 < length places → length places ≡ 65536

@@ -1,30 +1,29 @@
 //! Values by addresses.
 
-ghost use Rattle.std.specs.Prelude.{◌≡◌, ◌<◌, ◌==◌, ℕ, Some, None, OnOk, get_or, if◌then◌else◌, length};
-ghost use Rattle.name65.specs.ByAddress.{ArePlaces, value_at};
+ghost use Rattle.std.specs.Prelude.{◌≡◌, ◌<◌, ◌≤◌, ◌==◌, ℕ, Some, None, OnOk, get_or, if◌then◌else◌, length};
+ghost use Rattle.name65.specs.ByAddress.{value_at};
 
-use map65::ADDRESSES;
 use std::alloc::{AllocError, Global};
 
-/// At most one value for each address. It has a place for each address once there
-/// is a value, so a look takes no search.
+/// At most one value for each address. It has a place for each address up to the page of the last one that has a
+/// value, so a look takes no search.
 #[derive(Drop)]
 pub struct ByAddress<T: Copy> {
     /// For each address which of the values it has, from 1; 0 stands for none.
     places: Vec<usize>,
     values: Vec<T>,
-    ghost placed: { ArePlaces places.items (length values.items) },
+    ghost placed: { (a : ℕ) → get_or places.items a 0 ≤ length values.items },
 }
 
-/// Makes a place for each address.
-fn make_room(places: &mut Vec<usize>) -> Result<(), AllocError>
-    requires { 0 < length places.old.items → length places.old.items ≡ 65536 }
-    ensures all { OnOk result (length places.new.items ≡ 65536) }
-    ensures whole { 0 < length places.new.items → length places.new.items ≡ 65536 }
+/// Makes a place for each address of the page of one, and of the pages below it. A page has 256 addresses.
+#[tactic(auto, using(crate::proofs::PlaceLemmas::more_places))]
+fn make_room(places: &mut Vec<usize>, address: u16) -> Result<(), AllocError>
+    ensures room { OnOk result (address < length places.new.items) }
     ensures same { (a : ℕ) → get_or places.new.items a 0 ≡ get_or places.old.items a 0 }
 {
-    if places.is_empty() {
-        places.resize(ADDRESSES, 0)?;
+    let count = (usize::from(address / 256) + 1) * 256;
+    if places.len() < count {
+        places.resize(count, 0)?;
     }
     Ok(())
 }
@@ -55,7 +54,7 @@ impl<T: Copy> ByAddress<T> {
             ≡ (if a == address then Some value
             else value_at self.old.places.items self.old.values.items a)) }
     {
-        make_room(&mut self.places)?;
+        make_room(&mut self.places, address)?;
         self.values.push(value)?;
         self.places[usize::from(address)] = self.values.len();
         Ok(())

@@ -128,7 +128,7 @@ fn address_at<'t>(
     }
 }
 
-/// What is wished of a number of a list, whose first byte is at an address.
+/// What is wished of a number of a list, whose first byte is at an address. A word needs both halves of one address.
 fn of_number(run: &Run<'_, '_>, address: u64) -> Result<Option<Wished>, Refusal> {
     let (plan, size) = (run.plan, run.style.size());
     let Some(wished) = plan.wishes.at(address) else {
@@ -136,7 +136,7 @@ fn of_number(run: &Run<'_, '_>, address: u64) -> Result<Option<Wished>, Refusal>
         return Ok(None);
     };
     match wished.wish {
-        Wish::Half(half) if address_at(plan, run.style, half, wished.group, address).is_some() => {
+        Wish::Half(_) if size == 1 || word_at(plan, wished.group, address).is_some() => {
             Ok(Some(wished))
         }
         Wish::Difference if size == 2 => Ok(Some(wished)),
