@@ -60,5 +60,5 @@ pub fn put_address(
     need(has_name_form(name))?;
     out.extend_from_slice(found.before)?;
     put_reference(out, Reference { name, offset })?;
-    Ok(put_rest(out, found.after, span.to, last.saturating_sub(span.to))?)
+    Ok(put_rest(out, line, found.after, last.saturating_sub(span.to))?)
 }

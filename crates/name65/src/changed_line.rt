@@ -7,7 +7,9 @@ use crate::address_operand::put_address;
 use crate::complaint::{Refusal, after, need};
 use crate::operands::{Style, keep_free};
 use crate::plan::PlacedLine;
-use crate::rewriting::{Run, are_blank, blank_len, cut_at, has_no_comment, put_gap, put_list};
+use crate::rewriting::{
+    Run, are_blank, blank_len, column_of, cut_at, has_no_comment, put_gap, put_list,
+};
 use crate::wishes::{Wish, Wished, Wishes};
 use stmt65::{Half, Part, Places, Span};
 
@@ -85,7 +87,8 @@ fn open_list<'w, 't>(
         style,
         at,
         end,
-        column: opening.to,
+        line,
+        place: opening.to,
         text: found.after,
     };
     if found.within == b"#".as_slice() {
@@ -106,14 +109,10 @@ fn open_list<'w, 't>(
     let (blanks, text) = found.after.split_at(blank_len(found.after));
     need(found.within.eq_ignore_ascii_case(b".byte"))?;
     need(are_blank(blanks))?;
-    let column = opening.to.saturating_add(blanks.len());
+    let place = opening.to.saturating_add(blanks.len());
     out.extend_from_slice(style.directive())?;
-    put_gap(out, column)?;
-    Ok(Run {
-        column,
-        text,
-        ..run
-    })
+    put_gap(out, blanks, column_of(line, place))?;
+    Ok(Run { place, text, ..run })
 }
 
 /// Appends what stands in the place of a line that gives a byte that a group names, without a line feed.

@@ -48,7 +48,7 @@ fn moved(plan: &Plan<'_, '_>, line: &[u8], distance: u64) -> Result<Vec<u8>, Ref
     let mut out = Vec::new(plan.alloc);
     out.extend_from_slice(found.before)?;
     out.extend_from_slice(written)?;
-    put_rest(&mut out, found.after, span.to, 0)?;
+    put_rest(&mut out, line, found.after, 0)?;
     Ok(out)
 }
 

@@ -16,6 +16,9 @@ use std::alloc::AllocError;
 use stmt65::Places;
 use text65::is_blank;
 
+/// How many columns a tab has at most.
+const TAB: usize = 8;
+
 /// Bytes that are cut at two places.
 #[derive(Clone, Copy)]
 pub struct Cut<'l> {
@@ -59,13 +62,48 @@ pub fn has_no_comment(bytes: &[u8]) -> bool
     bytes.iter().all(|byte| *byte != b';')
 }
 
-/// Appends blanks up to a column, from 0, but at least one.
-pub fn put_gap(out: &mut Vec<u8>, column: usize) -> Result<(), AllocError>
+/// The column after bytes that begin at one, from 0. A tab goes on to the next multiple of 8.
+fn column_after(column: usize, bytes: &[u8]) -> usize {
+    let mut at = column;
+    for byte in bytes {
+        let step = if *byte == b'\t' { TAB - at % TAB } else { 1 };
+        at = at.saturating_add(step);
+    }
+    at
+}
+
+/// The column of a place in a line, from 0.
+pub fn column_of(line: &[u8], place: usize) -> usize {
+    column_after(0, line.get(..place).unwrap_or(line))
+}
+
+/// A tab or a space.
+fn blank_of(is_tab: bool) -> u8
+    ensures { is_blank result ≡ true }
+{
+    if is_tab { b'\t' } else { b' ' }
+}
+
+/// Appends blanks up to a column, but at least one: those that stood before it if they end there. Otherwise there are
+/// tabs only if one was among them.
+pub fn put_gap(out: &mut Vec<u8>, blanks: &[u8], column: usize) -> Result<(), AllocError>
+    requires { list_all is_blank blanks.now ≡ true }
     ensures { OnOk result (AppendsOne AreBlanks out.old.items out.new.items) }
 {
-    out.push(b' ')?;
-    'blanks: for _ in out.len()..column {
-        out.push(b' ')?;
+    let mut at = column_after(0, out);
+    if at < column && column_after(at, blanks) == column {
+        return out.extend_from_slice(blanks);
+    }
+    let mut tabs = 0;
+    if blanks.contains(&b'\t') {
+        tabs = (column / TAB).saturating_sub(at / TAB);
+    }
+    if 0 < tabs {
+        at = column / TAB * TAB;
+    }
+    let spaces = column.saturating_sub(at);
+    'blanks: for place in 0..tabs.saturating_add(spaces).max(1) {
+        out.push(blank_of(place < tabs))?;
     }
     Ok(())
 }
@@ -89,36 +127,32 @@ fn comment_after(rest: &[u8], kept: usize) -> Option<Cut<'_>>
     }
 }
 
-/// Appends what stands in a line after its operands, from a column on: so many bytes, and then blanks and a comment,
-/// which stays at its column if there is room.
-pub fn put_rest(
-    out: &mut Vec<u8>,
-    rest: &[u8],
-    column: usize,
-    kept: usize,
-) -> Result<(), AllocError>
+/// Appends the rest of a line, which stands after its operands: so many bytes, and then blanks and a comment, which
+/// stays in its column if there is room.
+pub fn put_rest(out: &mut Vec<u8>, line: &[u8], rest: &[u8], kept: usize) -> Result<(), AllocError>
     ensures { OnOk result (AppendsOne (IsRest rest.now) out.old.items out.new.items) }
 {
     let Some(found) = comment_after(rest, kept) else {
         out.extend_from_slice(rest)?;
         return Ok(());
     };
-    let blanks = kept.saturating_add(found.within.len());
+    let place = line.len().saturating_sub(found.after.len());
     out.extend_from_slice(found.before)?;
-    put_gap(out, column.saturating_add(blanks))?;
+    put_gap(out, found.within, column_of(line, place))?;
     out.extend_from_slice(found.after)?;
     Ok(())
 }
 
 /// A list of operands in a line, which gives the bytes from `at` to before `end`: its style, and what
-/// stands in the line from its column on.
+/// stands in the line from a place on.
 #[derive(Clone, Copy)]
 pub struct Run<'w, 't> {
     pub plan: &'w Plan<'w, 't>,
     pub style: Style,
     pub at: u64,
     pub end: u64,
-    pub column: usize,
+    pub line: &'t [u8],
+    pub place: usize,
     pub text: &'t [u8],
 }
 
@@ -127,16 +161,16 @@ pub fn put_list(out: &mut Vec<u8>, run: &Run<'_, '_>, mut places: Places<'_>) ->
     ensures { OnOk result (Lists run.now out.old.items out.new.items) }
 {
     let mut at = run.at;
-    let mut column = run.column;
+    let mut place = run.place;
     let mut rest = run.text;
     'items: for _ in 0..=run.text.len() {
         let Some((span, wish)) = next_operand(run, &mut places, at)? else {
             need(at == run.end)?;
-            let kept = places.end().saturating_sub(column);
-            return Ok(put_rest(out, rest, column, kept)?);
+            let kept = places.end().saturating_sub(place);
+            return Ok(put_rest(out, run.line, rest, kept)?);
         };
-        let from = span.from.saturating_sub(column);
-        let found = cut_at(rest, from, span.to.saturating_sub(column))?;
+        let from = span.from.saturating_sub(place);
+        let found = cut_at(rest, from, span.to.saturating_sub(place))?;
         need(are_between(found.before))?;
         out.extend_from_slice(found.before)?;
         let item = Run {
@@ -146,7 +180,7 @@ pub fn put_list(out: &mut Vec<u8>, run: &Run<'_, '_>, mut places: Places<'_>) ->
         };
         put_operand(out, &item, wish)?;
         at = after(at, count_of(run.style, found.within))?;
-        column = span.to;
+        place = span.to;
         rest = found.after;
     }
     Err(Refusal::Changed)
