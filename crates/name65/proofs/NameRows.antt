@@ -1,10 +1,15 @@
 -- Which names stand for addresses: worked rows.
-use Rattle.std.proofs.Common.{◌≡◌, ℕ, true, false, List, [], ◌∷◌, None, Some, codes, refl}
+use Rattle.std.proofs.Common.{◌≡◌, ◌<◌, ℕ, true, false, List, [], ◌∷◌, None, Some, arith, codes, inl, inr, refl, subst}
+use Rattle.std.proofs.lemmas.Bool.{cases_lt}
+use Rattle.std.proofs.lemmas.Option.{slice_get_past}
+use Rattle.std.specs.List.{slice_get}
 use Rattle.info65.specs.Words.{NameView, covering, covering_below}
 use Rattle.info65.specs.declared.tags.tag.Tag.{Tag}
+use Rattle.info65.specs.declared.tags.tag.TagKind.{TagKind}
 use Rattle.info65.specs.declared.tags.tag.TagKind.TheVariants as kind
 use Rattle.stmt65.specs.Words.{Definition}
-use Rattle.name65.specs.NameFor.{ByName, KnownView, are_returns, name_for, named_at, pair_name}
+use Rattle.stmt65.specs.declared.source_line.Half.TheVariants.{High, Low}
+use Rattle.name65.specs.NameFor.{ByName, IsBase, IsDifference, IsHalf, KnownView, are_returns, first_of, name_for, named_at, pair_count, pair_name}
 use Rattle.name65.specs.declared.reference.Offset.TheVariants.{Zero, Plus, Minus}
 
 abbrev label : List ℕ → ℕ → Definition
@@ -13,15 +18,15 @@ label name value = record { name = name; value = value; constant = false }
 abbrev constant : List ℕ → ℕ → Definition
 constant name value = record { name = name; value = value; constant = true }
 
--- Sixteen bytes from $1000 on: split tables of $2003 and $100B, and of $1006 and $2003, and zeros. Constant lines before
--- and after the labels; `buf` has four addresses.
+-- Sixteen bytes from $1000 on: split tables of $2003 and $100B, of $1006 and $2003, and of $1006 twice and $100B, and
+-- zeros. Constant lines before the labels; `buf` has four addresses.
 abbrev known : KnownView
 known = record {
   at = named_at (constant (codes "five") 0x1005 ∷ constant (codes "also") 0x1005 ∷ constant (codes "buf") 0x2000 ∷ constant (codes "past") 0x2010 ∷ constant (codes "late") 0x1009
-      ∷ label (codes "sub") 0x1006 ∷ label (codes "more") 0x1006 ∷ constant (codes "six") 0x1006 ∷ label (codes "next") 0x2004 ∷ label (codes "last") 0x100C ∷ []);
+      ∷ constant (codes "six") 0x1006 ∷ label (codes "sub") 0x1006 ∷ label (codes "more") 0x1006 ∷ label (codes "next") 0x2004 ∷ label (codes "last") 0x100C ∷ []);
   given = record { address = 0x1006; size = 1; text = codes "sub"; comment = None } ∷ record { address = 0x2000; size = 4; text = codes "buf"; comment = None } ∷ [];
   start = 0x1000;
-  bytes = 0x03 ∷ 0x0B ∷ 0x20 ∷ 0x10 ∷ 0x06 ∷ 0x03 ∷ 0x10 ∷ 0x20 ∷ 0 ∷ 0 ∷ 0 ∷ 0 ∷ 0 ∷ 0 ∷ 0 ∷ 0 ∷ [];
+  bytes = 0x03 ∷ 0x0B ∷ 0x20 ∷ 0x10 ∷ 0x06 ∷ 0x03 ∷ 0x10 ∷ 0x20 ∷ 0x06 ∷ 0x06 ∷ 0x0B ∷ 0x10 ∷ 0x10 ∷ 0x10 ∷ 0 ∷ 0 ∷ [];
 }
 
 abbrev named : List ℕ → ByName
@@ -66,6 +71,10 @@ return_first : name_for known true 0x2003 ≡ Some (record { name = codes "next"
 unfolding covering covering_below
 return_first = refl
 
+return_before_own : name_for known true 0x1005 ≡ Some (record { name = codes "sub"; offset = Minus 1 })
+unfolding covering covering_below
+return_before_own = refl
+
 return_own : name_for known true 0x1006 ≡ Some (named (codes "sub"))
 unfolding covering covering_below
 return_own = refl
@@ -88,6 +97,16 @@ return_of_two : pair_name known true (halves 0x1000 0x1002 2) 0 ≡ Some (record
 unfolding covering covering_below
 return_of_two = refl
 
+-- the first address too makes a table one of returns
+first_returns : are_returns known (halves 0x1001 0x1003 2) ≡ true
+unfolding are_returns covering covering_below
+first_returns = refl
+
+-- what stands after the table does not
+after_table : are_returns known (halves 0x1008 0x100B 2) ≡ false
+unfolding are_returns covering covering_below
+after_table = refl
+
 -- alone it makes no table
 one_pair : are_returns known (halves 0x1001 0x1003 1) ≡ false
 unfolding are_returns covering covering_below
@@ -106,3 +125,43 @@ last_of_two = refl
 of_the_group : pair_name known false (record (halves 0x1000 0x1002 2) { address = Some 0x1005 }) 1 ≡ Some (named (codes "five"))
 unfolding covering covering_below
 of_the_group = refl
+
+-- ---- what groups put where: $100B in the second place of two return addresses, $2003 in the first
+
+abbrev table : Tag
+table = halves 0x1000 0x1002 2
+
+low_half : IsHalf known (halves 0x1004 0x1006 2 ∷ table ∷ []) 0x1001 Low (record { name = codes "last"; offset = Minus 1 })
+unfolding are_returns covering covering_below
+low_half = record { tag = table; index = 1; is_tag = refl; is_kind = refl; place = 1; within = omega arith; first = 0x1000; is_first = refl; is_at = refl; name = refl }
+
+high_half : IsHalf known (table ∷ []) 0x1002 High (record { name = codes "next"; offset = Minus 1 })
+unfolding are_returns covering covering_below
+high_half = record { tag = table; index = 0; is_tag = refl; is_kind = refl; place = 0; within = omega arith; first = 0x1002; is_first = refl; is_at = refl; name = refl }
+
+-- a group BASE or DIFFERENCE about $100E, FROM $1006, TO $2000
+abbrev from_to : TagKind → Tag
+from_to k = record { kind = k; line = 1; address = Some 0x100E; size = None; low = None; high = None; first = Some 0x1006; last = Some 0x2000 }
+
+base : IsBase known (table ∷ from_to kind.Base ∷ []) 0x100E (codes "sub")
+base = record { tag = from_to kind.Base; index = 1; is_tag = refl; is_kind = refl; is_at = refl; is_name = refl }
+
+distance : IsDifference known (table ∷ from_to kind.Difference ∷ []) 0x100E (codes "buf") (codes "sub")
+distance = record { tag = from_to kind.Difference; index = 1; is_tag = refl; is_kind = refl; is_at = refl; is_to = refl; is_from = refl }
+
+-- no half stands behind the table
+zeroth : (i : ℕ) (t : Tag) → i ≡ 0 → slice_get (table ∷ []) i ≡ Some t → t ≡ table
+zeroth i t z e = let f : Some table ≡ Some t = subst (λ n. slice_get (table ∷ []) n ≡ Some t) z e in cc
+
+only_table : (i : ℕ) (t : Tag) → slice_get (table ∷ []) i ≡ Some t → t ≡ table
+only_table i t e = elim (cases_lt i 1) [
+  | inl h ↦ zeroth i t (omega (arith, h)) e
+  | inr h ↦ let past : slice_get (table ∷ []) i ≡ None = slice_get_past (table ∷ []) i h in cc
+]
+
+behind_table : (r : ByName) → IsHalf known (table ∷ []) 0x1002 Low r → ⊥
+behind_table r h =
+    let is : h.tag ≡ table = only_table h.index h.tag h.is_tag in
+    let first : 0x1000 ≡ h.first = let e : Some 0x1000 ≡ Some h.first = subst (λ t. first_of Low t ≡ Some h.first) is h.is_first in cc in
+    let within : h.place < 2 = subst (λ t. h.place < pair_count t) is h.within in
+    omega (arith, h.is_at, first, within)
