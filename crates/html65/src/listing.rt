@@ -2,7 +2,7 @@
 
 use crate::kind::Kind;
 use crate::lines::Line;
-use crate::markup::{FOLD, FOLD_END, Link, LinkTo, Put, Result, digits_of, put};
+use crate::markup::{FOLD, FOLD_END, Link, LinkTo, Piece, Put, Result, digits_of, is_plain, put};
 use crate::pictures::{LEAST, put_pictures};
 use crate::survey::{Mark, Run, Shown, Survey, part_of};
 use crate::uses::put_references;
@@ -58,7 +58,7 @@ fn put_mark(
     survey: &Survey<'_, '_>,
     line: usize,
     shown: Shown,
-    text: &[u8],
+    text: Piece<'_>,
 ) -> Result<()> {
     match shown {
         Shown::Definition => put!(out; ("<b id=\"l", line), "\">", text, "</b>"),
@@ -84,23 +84,24 @@ fn put_line<'m>(
         put!(out; part_of(line.whole, 0, end));
         return Ok(marks);
     }
+    let is_plain = is_plain(line.whole);
     let own = marks.iter().take_while(|mark| mark.0 == line.number);
     let count = own.count();
     let own = marks.get(..count).unwrap_or(&[]);
     put_left(out, line.at, survey.between(line.at, line.end))?;
     let mut from = 0;
     for Mark(number, shown, span) in own {
-        put!(out; part_of(line.text, from, span.from));
+        put!(out; Piece(part_of(line.text, from, span.from), is_plain));
         put_mark(
             out,
             survey,
             *number,
             *shown,
-            part_of(line.text, span.from, span.to),
+            Piece(part_of(line.text, span.from, span.to), is_plain),
         )?;
         from = span.to;
     }
-    put!(out; part_of(line.whole, from, end));
+    put!(out; Piece(part_of(line.whole, from, end), is_plain));
     Ok(marks.get(count..).unwrap_or(&[]))
 }
 

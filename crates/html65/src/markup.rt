@@ -55,10 +55,15 @@ fn has_special(bytes: &[u8]) -> bool {
     found != 0
 }
 
+/// Whether no byte of a text has an entity.
+pub fn is_plain(text: &[u8]) -> bool {
+    !text.chunks(16).any(has_special)
+}
+
 /// A text of the listing, with entities.
 impl Put for &[u8] {
     fn put(self, out: &mut Vec<u8>) -> Result<()> {
-        if !self.chunks(16).any(has_special) {
+        if is_plain(self) {
             return out.extend_from_slice(self);
         }
         for piece in self.split_inclusive(is_special) {
@@ -74,6 +79,20 @@ impl Put for &[u8] {
             put!(out; entity);
         }
         Ok(())
+    }
+}
+
+/// A part of a line, and whether no byte of the line has an entity.
+#[derive(Clone, Copy)]
+pub struct Piece<'t>(pub &'t [u8], pub bool);
+
+impl Put for Piece<'_> {
+    #[inline(always)]
+    fn put(self, out: &mut Vec<u8>) -> Result<()> {
+        if self.1 {
+            return out.extend_from_slice(self.0);
+        }
+        self.0.put(out)
     }
 }
 
