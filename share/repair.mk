@@ -1,7 +1,8 @@
 # A repair as a project: from an image to a listing that moves, a page to look at, and a new image.
 #
 #   make -f repair.mk IMAGE=monitor.bin START=0xFC00    makes in this folder what is missing or old of these:
-#       monitor.info          the information file, yours to edit. It is made once; without START the image ends at $FFFF
+#       monitor.info          the information file, yours to edit. It is made once; without START the image ends at $FFFF,
+#                             and a .prg has its address in its first two bytes, which are no part of the image
 #       monitor.traced.info   that file with what trace65 proposes; copy into monitor.info what you want to change
 #       monitor.s             the listing by names. Once you have edited it, it is the source, and is not written again
 #       monitor.html          its page
@@ -24,6 +25,7 @@ $(if $(filter %.info %.s %.html %.out %.made,$(IMAGE)),$(error $(IMAGE) has the 
 name := $(basename $(notdir $(IMAGE)))
 bin := $(if $(and $(PROGRAMS),$(wildcard $(PROGRAMS)/.)),$(PROGRAMS)/,$(PROGRAMS))
 fill := $(if $(FILL),--fill '$(FILL)')
+is_prg := $(filter %.prg %.PRG,$(IMAGE))
 
 # Whether a file is as it was made; and what puts FILE.new in the place of such a file, or of none.
 is_made = grep -qsxF "$$(sha256sum <$(1))" $(name).made
@@ -37,8 +39,9 @@ all: $(name).html $(name).out
 
 $(name).info:
 	@trap 'rm -f $@.new' EXIT
-	start=$(or $(START),$$((65536 - $$(stat -L -c %s $(IMAGE)))))
-	printf 'GLOBAL { INPUTNAME "%s"; STARTADDR $$%04X; };\n' $(IMAGE) "$$start" >$@.new
+	start=$$((65536 - $$(stat -L -c %s $(IMAGE)))) offset=
+	$(if $(is_prg),set -- $$(od -A n -t u1 -N 2 $(IMAGE)); start=$$(($$1 + 256 * $$2)) offset=' INPUTOFFS 2;')
+	printf 'GLOBAL { INPUTNAME "%s";%s STARTADDR $$%04X; };\n' $(IMAGE) "$$offset" $(or $(START),"$$start") >$@.new
 	mv $@.new $@
 
 $(name).traced.info: $(name).info $(IMAGE)

@@ -53,6 +53,19 @@ def test_an_image_that_ends_at_ffff(repair):
     holds("sum.info", GLOBAL.replace("$2000", "$FFE8"))
 
 
+def test_a_program_with_its_load_address(repair):
+    """The first two bytes of a .prg are its address. What its line of BASIC calls is code."""
+    image = bytes.fromhex("0B 08 0A 00 9E 32 30 36 31 00 00 00 A9 41 20 D2 FF 60")
+    write("game.prg", b"\x01\x08" + image)
+    assert repair("IMAGE=game.prg") == ""
+    holds("game.info", 'GLOBAL { INPUTNAME "game.prg"; INPUTOFFS 2; STARTADDR $0801; };\n')
+    holds("game.out", image)
+    assert b"lda     #$41" in read("game.s")
+    os.remove("game.info")
+    repair("IMAGE=game.prg START=0x0901 game.info")
+    holds("game.info", 'GLOBAL { INPUTNAME "game.prg"; INPUTOFFS 2; STARTADDR $0901; };\n')
+
+
 def test_programs_by_what_their_names_begin_with(repair):
     repair(programs=os.getcwd() + "/programs/")
     holds("sum.out", SUM)

@@ -243,7 +243,7 @@ def test_html65(html65, shows, text):
     """The page is at most 5.3 times as long as the listing of random bytes."""
     listing = text("random")
     ours = instructions(html65.path, f"-S 0 -o a.html {write('a.s', listing)}")
-    shows(58.6, ours, ca65_and_ld65())
+    shows(57.5, ours, ca65_and_ld65())
     assert len(read("a.html")) <= 5.3 * len(listing)
 
 

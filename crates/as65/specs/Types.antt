@@ -1,7 +1,7 @@
 -- The types of the code that these definitions speak of, from one place.
 pub use Rattle.as65.specs.declared.changes.Change.{Change}
 pub use Rattle.as65.specs.declared.failure.Refused.{Refused}
-pub use Rattle.as65.specs.declared.failure.Refused.TheVariants.{EmptyImage, LargeImage, Moved, OtherSize, ShortImage}
+pub use Rattle.as65.specs.declared.failure.Refused.TheVariants.{EmptyImage, LargeImage, Moved, OtherSize, Segment, ShortImage}
 pub use Rattle.as65.specs.declared.moves.Label.{Label}
 pub use Rattle.as65.specs.declared.origins.Reached.{Reached}
 pub use Rattle.as65.specs.declared.scene.Placed.{Placed}

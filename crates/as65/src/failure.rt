@@ -27,6 +27,10 @@ pub enum Refused {
     /// its line, and what is said of it.
     #[error("{0}:{1}: ")]
     Moved(String, usize, Vec<u8>),
+    /// A segment of the listing of this name is not one that has a place: the number of the line, and what is said of
+    /// it.
+    #[error("{0}:{1}: segment ")]
+    Segment(String, usize, Vec<u8>),
     /// The listing of this name gives this many bytes, and the image has as many as the last number says.
     #[error("{0}: the image has {2} bytes, the listing {1}")]
     OtherSize(String, usize, usize),
@@ -41,7 +45,7 @@ pub fn said_after(failure: &Failure) -> &[u8]
     ensures { result.now ≡ said_after failure.now }
 {
     match failure {
-        Failure::Own(Refused::Moved(_, _, said)) => said.as_slice(),
+        Failure::Own(Refused::Moved(_, _, said) | Refused::Segment(_, _, said)) => said.as_slice(),
         _ => files65::said_after(failure),
     }
 }

@@ -1,9 +1,9 @@
 //! Assembles a listing: `as65 [options] [listing]`.
 //!
 //! In order: the options, then help or version, whether the output is an input, the information file and whether the
-//! output is its input, the image to compare with, the listing, its bytes, whether its labels are in place, and the
-//! output, which is created only now. With `--compare` nothing is written but the differences from the image, on
-//! standard output. `status` has the statuses.
+//! output is its input, the image to compare with, the listing, its bytes, whether its segments have a place and its
+//! labels are in place, and the output, which is created only now. With `--compare` nothing is written but the
+//! differences from the image, on standard output. `status` has the statuses.
 #![tactic(auto)]
 
 mod assembled;
@@ -21,6 +21,7 @@ mod named_start;
 mod origins;
 mod request;
 mod scene;
+mod segments;
 mod shown;
 mod sizes;
 mod status;
@@ -41,6 +42,7 @@ use message::{say, say_starts};
 use moves::need_in_place;
 use named_start::named_start;
 use request::{Comparing, Placement, Work, Writing, is_compared_by, is_comparing, request_of};
+use segments::need_segments;
 use sizes::need_size;
 use status::{Ended, status_of};
 use std::process::ExitCode;
@@ -81,8 +83,8 @@ fn len_in(rt: &HostRuntime, listing: &str, info: &Info) -> Result<Option<usize>,
     }
 }
 
-/// The listing of this name with its bytes, if its labels are where they have to be, and its bytes as many as the
-/// information file says.
+/// The listing of this name with its bytes, if its segments have a place, its labels are where they have to be, and its
+/// bytes are as many as the information file says.
 fn assembled_in<'s, 't, 'l, 'n>(
     rt: &HostRuntime,
     name: &str,
@@ -92,6 +94,7 @@ fn assembled_in<'s, 't, 'l, 'n>(
 ) -> Result<Assembled<'s, 't, 'l, 'n>, Failure> {
     let assembled = Assembled::new(rt.alloc(), source, name)?;
     need_bytes(rt.alloc(), &assembled, name)?;
+    need_segments(rt.alloc(), source, name, info.segments())?;
     if place.in_place {
         need_in_place(rt.alloc(), &assembled, name)?;
         need_size(rt.alloc(), &assembled, name, len_in(rt, name, info)?)?;
@@ -112,6 +115,7 @@ fn write_under(rt: &HostRuntime, writing: &mut Writing, info: &Info) -> Result<E
     let source = repair(&layout, start, &text);
     if writing.labels {
         let text = names_in(rt.alloc(), &source, name)?;
+        need_segments(rt.alloc(), &source, name, info.segments())?;
         write_text(&mut Output::create(rt, names.output.take())?, &text)?;
     } else {
         let assembled = assembled_in(rt, name, writing.place, info, &source)?;

@@ -1,13 +1,13 @@
 -- What stands in a tag and in a page, step by step, and the numbers of ids.
 use Rattle.std.proofs.Common.{◌≡◌, ◌+◌, ◌-◌, ◌<◌, ℕ, Bool, Bor, List, [], ◌∷◌, None, Some, drop, length, take, true, false, refl, sym, ap, arith, ◌&&◌, ◌∙◌, get_or, min, suc, zero, ◌≢◌, ◌++◌, ◌≤◌, append_assoc, Option, option_to_list, inl, inr}
-use Rattle.std.specs.Prelude.{nat_eq, nat_le, not, set, ◌==◌, ◌||◌}
+use Rattle.std.specs.Prelude.{codes, nat_eq, nat_le, not, set, ◌==◌, ◌||◌}
 use Rattle.std.specs.List.{filter_map, list_any, prefix_len, slice_get, starts_with}
 use Rattle.std.specs.Str.{bytes_eq}
 use Rattle.std.proofs.lemmas.Slice.Eq.{bytes_eq-Decides}
 use Rattle.std.proofs.lemmas.Bool.{and_parts, eq-eqb, eqb-true, false_from_ne_true, leb-true, ne_eqb}
 use Rattle.std.proofs.lemmas.Bool.{cases_eq}
 use Rattle.std.proofs.lemmas.Bool.Decides.{eqb_tells}
-use Rattle.std.proofs.lemmas.List.{append-nil, get_or-set_other, get_or-set_same, length-set, take-append-drop, take_rest}
+use Rattle.std.proofs.lemmas.List.{append-nil, get_or-set_other, get_or-set_same, length-set, length-take, take-append-drop, take_rest}
 use Rattle.html65.specs.Links.{are_ascending, count_in, is_found, kind_of, number_in, quoted_after, texts}
 use Rattle.html65.specs.Operands.{PlacedView, defines, is_line_of, placed_by, placed_from}
 use Rattle.html65.specs.PageText.{after_tag, kept, region_after, text_from}
@@ -58,6 +58,26 @@ blank_first more (b ∷ bs) = elim (eqb_tells b 32) [
 -- nothing is found before the first blank
 pub quoted_from_blank : (more tag : List ℕ) (len : ℕ) → len ≡ prefix_len (is_other 32) tag → quoted_after (32 ∷ more) (take (length tag - len) (drop len tag)) ≡ quoted_after (32 ∷ more) tag
 quoted_from_blank more tag len is = rw (take_rest, is) (blank_first more tag)
+
+no_room : (key tag : List ℕ) → length tag < length key → starts_with nat_eq tag key ≡ true → ⊥
+no_room key tag short is =
+    let same : key ≡ take (length key) tag = (bytes_eq-Decides key (take (length key) tag)).0 is in
+    let len : length key ≡ min (length key) (length tag) = ap length same ∙ length-take (length key) tag in
+    omega arith
+
+-- nothing is found in what is shorter than what is looked for
+pub quoted_short : (key tag : List ℕ) → length tag < length key → quoted_after key tag ≡ None
+unfolding quoted_after
+quoted_short key [] short = refl
+quoted_short key (b ∷ bs) short =
+    let other : starts_with nat_eq (b ∷ bs) key ≡ false = false_from_ne_true _ (no_room key (b ∷ bs) short) in
+    rw other (quoted_short key bs (omega arith))
+
+pub no_id : (tag : List ℕ) → length tag < 5 → quoted_after (codes " id=\"") tag ≡ None
+no_id tag short = quoted_short (codes " id=\"") tag short
+
+pub no_target : (tag : List ℕ) → length tag < 5 → quoted_after (codes " href=\"#") tag ≡ None
+no_target tag short = quoted_short (codes " href=\"#") tag (omega arith)
 
 pub ruleset quoted_steps = (quoted_none, quoted_here, quoted_other, quoted_later, quoted_from_blank)
 

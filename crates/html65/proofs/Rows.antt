@@ -1,6 +1,9 @@
 -- Worked rows of the definitions.
-use Rattle.std.proofs.Common.{◌≡◌, [], ◌∷◌, codes, refl}
+use Rattle.std.proofs.Common.{◌≡◌, List, [], ◌∷◌, codes, false, refl, true, ℕ}
+use Rattle.stmt65.specs.Parts.{number_of}
+use Rattle.stmt65.specs.Words.{part_at, parts_after}
 use Rattle.html65.specs.Links.{count_in, ids_in, number_in, quoted_after, targets_in}
+use Rattle.html65.specs.Operands.{PlacedView, is_led}
 use Rattle.html65.specs.Pieces.{Tag, Text, entity_at, piece_at, pieces, pieces_after}
 use Rattle.html65.specs.PageText.{text_from, text_of}
 
@@ -48,3 +51,47 @@ address = refl
 control : text_of (codes "<pre id=\"listing\"><i class=\"r\">x</i>a&#13;&#0;</pre>") ≡ 97 ∷ 13 ∷ 0 ∷ []
 unfolding pieces_after piece_at entity_at text_from
 control = refl
+
+-- ---- links of operands
+
+-- an id or a target, and what of the listing stands from there on
+abbrev placed : List ℕ → List ℕ → PlacedView
+placed name text = record { name = name; text = text }
+
+abbrev lines : List PlacedView
+lines = placed (codes "l1") (codes "L: nop") ∷ placed (codes "l2") (codes "M := 3") ∷ placed (codes "l3") (codes "L") ∷ []
+
+-- a name leads to the line that defines it
+label : is_led lines (placed (codes "l1") (codes "L,x ; M")) ≡ true
+unfolding parts_after part_at
+label = refl
+
+constant : is_led lines (placed (codes "l2") (codes "M+1")) ≡ true
+unfolding parts_after part_at
+constant = refl
+
+-- to no line of another name, to none that has the name and does not define it, and to none that is not there
+other_name : is_led lines (placed (codes "l2") (codes "L")) ≡ false
+unfolding parts_after part_at
+other_name = refl
+
+no_definition : is_led lines (placed (codes "l3") (codes "L")) ≡ false
+unfolding parts_after part_at
+no_definition = refl
+
+no_line : is_led lines (placed (codes "l4") (codes "L")) ≡ false
+unfolding parts_after part_at
+no_line = refl
+
+-- a number leads to the row of its address, and to no other row or element
+row : is_led lines (placed (codes "r0020") (codes "$20")) ≡ true
+unfolding parts_after part_at number_of number_in
+row = refl
+
+other_row : is_led lines (placed (codes "r0021") (codes "$20")) ≡ false
+unfolding parts_after part_at number_of number_in
+other_row = refl
+
+no_row : is_led lines (placed (codes "a0020") (codes "$20")) ≡ false
+unfolding parts_after part_at number_of number_in
+no_row = refl

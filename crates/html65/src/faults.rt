@@ -140,7 +140,8 @@ struct Found<'p> {
     links: Vec<Placed<'p>>,
 }
 
-/// Takes down the id and the target of a piece, if it is a tag that has them. Neither stands before its first blank.
+/// Takes down the id and the target of a piece, if it is a tag that has them. Neither stands before its first blank,
+/// nor in a tag of less than five bytes.
 #[tactic(auto, using(crate::proofs::LinkLemmas::quoted_from_blank))]
 fn take_both<'p>(
     found: &mut Found<'p>,
@@ -158,6 +159,9 @@ fn take_both<'p>(
         (placed_by (codes " href=\"#") place left.now (piece_of piece.entry))) }
 {
     if let Piece::Tag(tag) = piece {
+        if tag.len() < 5 {
+            return Ok(());
+        }
         let tag = &tag[len_before(b' ', tag)..];
         let is_in = is_listing(place);
         take(&mut found.ids, &mut found.lines, b"id=\"", tag, is_in, left)?;

@@ -44,7 +44,7 @@ const STYLES: &str = "</title>\n<style>\n\
     .addresses{stroke:var(--addresses);border-color:var(--addresses)}.filler{stroke:var(--filler);border-color:var(--filler)}\n\
     @media (max-width:700px){main{display:block}nav{position:static;max-height:50vh;border-right:0;border-bottom:1px solid var(--line)}}\n\
     @media print{main{display:block}nav{position:static;max-height:none;border:0}pre{overflow:visible;white-space:pre-wrap}\
-    .u{display:table-row}.k{max-width:none;white-space:normal}.u code{display:none}.f{max-height:none}label b{display:block}label input{display:none}}\n\
+    .u{display:table-row}.k{max-width:none;white-space:normal}.u code{display:none}.f{display:inline}.r{break-after:avoid}label b{display:block}label input{display:none}}\n\
     </style>\n</head>\n<body>\n<header><h1>";
 
 /// Appends what stands before the map, for a listing of this name: its addresses, and

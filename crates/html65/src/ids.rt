@@ -2,7 +2,6 @@
 
 ghost use Rattle.std.specs.Prelude.{◌≡◌, ◌∷◌, ◌<◌, ◌+◌, [], IfOk, IsSome, IsTrue, true};
 ghost use Rattle.std.specs.List.{list_all};
-ghost use Rattle.std.specs.Char.{digit_value};
 ghost use Rattle.html65.specs.Links.{are_ascending, is_found, kind_of, number_in, texts, with_digit};
 
 use std::alloc::{AllocError, Global};
@@ -92,25 +91,18 @@ pub fn kind_of(id: &[u8]) -> usize
     usize::from(id[0] % 4)
 }
 
-fn digit_of(byte: u8) -> u8
-    ensures { result ≡ digit_value byte }
-{
-    match byte {
-        b'0'..=b'9' => byte - b'0',
-        b'A'..=b'Z' => byte - b'A' + 10,
-        b'a'..=b'z' => byte - b'a' + 10,
-        _ => 36,
-    }
-}
-
+/// The number after a byte, which counts if it is a hex digit.
+#[inline(always)]
 fn with_digit(radix: u32, number: u32, byte: u8) -> u32
     ensures { result ≡ with_digit radix number byte }
 {
-    if byte.is_ascii_hexdigit() {
-        let digit = u32::from(digit_of(byte));
-        return number.wrapping_mul(radix).wrapping_add(digit);
-    }
-    number
+    let digit = match byte {
+        b'0'..=b'9' => byte - b'0',
+        b'a'..=b'f' => byte - b'a' + 10,
+        b'A'..=b'F' => byte - b'A' + 10,
+        _ => return number,
+    };
+    number.wrapping_mul(radix).wrapping_add(u32::from(digit))
 }
 
 /// The number that the digits of an id make.

@@ -51,7 +51,18 @@ fn written(alloc: Global, name: &str, survey: &Survey<'_, '_>) -> Result<Vec<u8>
     Ok(out)
 }
 
-/// A page of the listing of this name, as it is hoped for. What it was made of is not kept.
+/// A page of the listing of this name, which means these bytes. What it was made of is not kept.
+fn written_of<'t>(
+    alloc: Global,
+    name: &str,
+    source: &Source<'t, '_, '_>,
+    assembly: &Assembly<'t, '_, Global>,
+) -> Result<Vec<u8>, AllocError> {
+    let survey = Survey::of(alloc, source, assembly)?;
+    written(alloc, name, &survey)
+}
+
+/// A page of the listing of this name, as it is hoped for.
 fn hoped_for(alloc: Global, name: &str, source: &Source<'_, '_, '_>) -> Result<Vec<u8>, Failure>
     ensures { IfErr result (MayReport name.now source.now) }
 {
@@ -59,8 +70,7 @@ fn hoped_for(alloc: Global, name: &str, source: &Source<'_, '_, '_>) -> Result<V
     if assembly.bytes.is_empty() {
         return Err(Failure::File(FileFault::Empty(String::from_str(alloc, name)?)));
     }
-    let survey = Survey::of(alloc, source, &assembly)?;
-    Ok(written(alloc, name, &survey)?)
+    Ok(written_of(alloc, name, source, &assembly)?)
 }
 
 /// Returns the page of the listing of this name. Fails with the first fault of the listing, and if it has no byte.

@@ -1,8 +1,11 @@
 -- Lines `#: ..` held against what they say.
-use Rattle.std.proofs.Common.{◌≡◌, [], ◌∷◌, refl}
-use Rattle.std.specs.Prelude.{None, Some, Ok, Err, codes}
+use Rattle.std.proofs.Common.{◌≡◌, [], ◌∷◌, List, map, refl}
+use Rattle.std.specs.Prelude.{None, Option, Some, Ok, Err, codes}
 use Rattle.info65.specs.Words.{Expected, GivenTwice, Missing, OutOfRange, UnknownAttribute, UnknownGroup, fault, in_class, lexeme_at, number_in, spot_after, tag_attribute, tag_end, tag_named, tag_step, tagged_byte, tagged_from, tagged_text, tags_from, tags_of, tokens_after, word_at}
 use Rattle.info65.specs.Lexemes.{number_at}
+use Rattle.info65.specs.declared.tags.tag.TagAttribute.{TagAttribute}
+use Rattle.info65.specs.declared.tags.tag.TagAttribute.TheVariants.{Address, Size, Low, High, First, Last}
+use Rattle.info65.specs.declared.tags.tag.TagKind.{TagKind}
 use Rattle.info65.specs.declared.tags.tag.TagKind.TheVariants as kind
 
 -- only lines that begin with `#:` count, each at its line
@@ -63,6 +66,38 @@ backward = refl
 unended : tags_of (codes "#: ENTRY { ADDR 1;\n") ≡ Err (fault 2 Expected)
 unfolding tags_of tags_from tag_step tag_end tag_named tag_attribute tagged_from tagged_byte spot_after tokens_after lexeme_at word_at number_at number_in in_class
 unended = refl
+
+-- which attributes each group has: the words are ADDR, SIZE, LOW, HIGH, START, END, FROM and TO, in this order
+abbrev attributes_of : TagKind → List (Option TagAttribute)
+attributes_of k = map (tag_attribute k) (codes "ADDR" ∷ codes "SIZE" ∷ codes "LOW" ∷ codes "HIGH" ∷ codes "START" ∷ codes "END" ∷ codes "FROM" ∷ codes "TO" ∷ [])
+
+of_entry : attributes_of kind.Entry ≡ Some Address ∷ None ∷ None ∷ None ∷ None ∷ None ∷ None ∷ None ∷ []
+unfolding tag_attribute
+of_entry = refl
+
+of_number : attributes_of kind.Number ≡ Some Address ∷ None ∷ None ∷ None ∷ None ∷ None ∷ None ∷ None ∷ []
+unfolding tag_attribute
+of_number = refl
+
+of_inline : attributes_of kind.Inline ≡ Some Address ∷ Some Size ∷ None ∷ None ∷ None ∷ None ∷ None ∷ None ∷ []
+unfolding tag_attribute
+of_inline = refl
+
+of_halves : attributes_of kind.Halves ≡ Some Address ∷ Some Size ∷ Some Low ∷ Some High ∷ None ∷ None ∷ None ∷ None ∷ []
+unfolding tag_attribute
+of_halves = refl
+
+of_after : attributes_of kind.After ≡ None ∷ None ∷ None ∷ None ∷ Some First ∷ Some Last ∷ None ∷ None ∷ []
+unfolding tag_attribute
+of_after = refl
+
+of_difference : attributes_of kind.Difference ≡ Some Address ∷ None ∷ None ∷ None ∷ None ∷ None ∷ Some First ∷ Some Last ∷ []
+unfolding tag_attribute
+of_difference = refl
+
+of_base : attributes_of kind.Base ≡ Some Address ∷ None ∷ None ∷ None ∷ None ∷ None ∷ Some First ∷ None ∷ []
+unfolding tag_attribute
+of_base = refl
 
 -- what is just allowed
 edges : tags_of (codes "#: INLINE { ADDR $FFFF; SIZE 256; };\n#: HALVES { LOW 1; HIGH 2; SIZE 1; };\n#: HALVES { HIGH 1; ADDR 0; };\n#: AFTER { START 3; END 3; };\n#: DIFFERENCE { ADDR 1; FROM 3; TO 2; };\n#: NUMBER { ADDR 7; };")

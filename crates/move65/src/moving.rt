@@ -13,7 +13,7 @@ use crate::report::Moved;
 use crate::request::Moving;
 use crate::runs::{Both, run_all};
 use crate::scene::Scene;
-use crate::variables::{limit_of, move_found, move_variables};
+use crate::variables::{limit_of, move_found, move_variables, take_defined};
 use crate::world::World;
 use files65::{faulty_listing, information_of, layout_of, repair, start_or_end, tags_of};
 use info65::{Info, Tag, TagKind, without_numbers};
@@ -202,6 +202,7 @@ fn written(
     let alloc = rt.alloc();
     let assembly = assembled(&alloc, setup.moving.names.listing.as_str(), source)?;
     let mut scene = scene_of(alloc, setup, source, &assembly.bytes)?;
+    take_defined(&mut scene, assembly.names.definitions());
     scene.limit = limit_of(&scene, assembly.names.definitions(), setup.info);
     let lines = Lines::of(alloc, &scene, source.text, &assembly, setup.info)?;
     Ok(moved(rt, setup, &lines, scene)?)

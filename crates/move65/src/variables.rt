@@ -28,6 +28,22 @@ fn is_foreign(scene: &Scene, name: &[u8], address: u16) -> bool {
     name != default_name(address).as_slice() && !scene.after.get(address)
 }
 
+/// Takes for variables what lies behind the image up to the last address that a line such as `NAME := * + 1` names: its
+/// name moves with the listing, so in the second image it lies behind the image too.
+pub fn take_defined(scene: &mut Scene, definitions: &[Definition<'_>]) {
+    let end = scene.end();
+    let mut behind = end;
+    for definition in definitions {
+        if let Some(address) = definition.address()
+            && !definition.constant
+            && scene.is_behind(address)
+        {
+            behind = behind.max(usize::from(address).saturating_add(1));
+        }
+    }
+    scene.after.set_span(end, behind);
+}
+
 /// The address before which variables end: the first edge that the image begins below, or the first address
 /// behind the image that has a name. An image that ends in the zero page has none.
 pub fn limit_of(scene: &Scene, definitions: &[Definition<'_>], info: &Info) -> usize {

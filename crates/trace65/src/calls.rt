@@ -1,9 +1,10 @@
-//! What stands behind the calls of routines that pull their return address, as lines for the information file, before
-//! the code is followed.
+//! What stands behind the calls of routines that pull their return address, and what a line of BASIC calls, as lines
+//! for the information file, before the code is followed.
 
 use files65::put_address;
-use info65::Tag;
+use info65::{Tag, TagKind};
 use map65::Map;
+use reach65::rules::entries::basic::called_by_basic;
 use reach65::rules::entries::pulls::{PRODOS, Pulls, Words, pulls_of};
 use std::alloc::{AllocError, Global};
 
@@ -16,15 +17,42 @@ fn put_words(lines: &mut Vec<u8>, words: Words) -> Result<(), AllocError> {
     lines.extend_from_slice(b"\n")
 }
 
-/// Returns a group INLINE for each routine that reads the texts behind its calls, and a RANGE for the words behind each
-/// call of one that jumps through them.
-pub fn lines_of(alloc: Global, map: &Map<'_>, tags: &[Tag]) -> Result<Vec<u8>, AllocError> {
+/// Adds a group ENTRY for the address that the line of BASIC calls with which the image begins, unless it is one of
+/// these entries.
+fn put_basic(
+    lines: &mut Vec<u8>,
+    map: &Map<'_>,
+    tags: &[Tag],
+    entries: &[u16],
+) -> Result<(), AllocError> {
+    let Some(called) = called_by_basic(map) else {
+        return Ok(());
+    };
+    let is_tag = |tag: &Tag| tag.kind == TagKind::Entry && tag.address == Some(called);
+    if entries.contains(&called) || tags.iter().any(is_tag) {
+        return Ok(());
+    }
+    lines.extend_from_slice(b"# the line of BASIC calls this:\n")?;
+    put_address(lines, b"#: ENTRY { ADDR $", usize::from(called))?;
+    lines.extend_from_slice(b"; };\n")
+}
+
+/// Returns a group ENTRY for what a line of BASIC calls, a group INLINE for each routine that reads the texts behind
+/// its calls, and a RANGE for the words behind each call of one that jumps through them. The groups and these addresses
+/// say which entries are given.
+pub fn lines_of(
+    alloc: Global,
+    map: &Map<'_>,
+    tags: &[Tag],
+    entries: &[u16],
+) -> Result<Vec<u8>, AllocError> {
     let Pulls {
         texts,
         words,
         calls_prodos,
     } = pulls_of(alloc, map, tags)?;
     let mut lines = Vec::new(alloc);
+    put_basic(&mut lines, map, tags, entries)?;
     if calls_prodos {
         lines.extend_from_slice(b"# ProDOS reads a command and an address behind each call:\n")?;
         put_address(&mut lines, b"#: INLINE { ADDR $", usize::from(PRODOS))?;

@@ -24,7 +24,7 @@ use failure::Failure;
 use files65::{Output, Placeholders, end, information_of, read_information, tags_of, write_text};
 use info65::{Info, Options, Tag};
 use information::{image, information};
-use map65::Map;
+use map65::{Image, Map};
 use report::{InfoFile, report_of};
 use request::{Tracing, request_of};
 use std::process::ExitCode;
@@ -58,33 +58,62 @@ impl Read {
             info: alone.as_ref().unwrap_or(&self.info),
             tags: &self.tags,
         };
-        Ok(report_of(rt.alloc(), map, &file, tracing)?.text)
+        Ok(report_of(rt.alloc(), map, &file, tracing)?.into_text())
+    }
+
+    /// The same of an image.
+    fn text_of(
+        &self,
+        rt: &HostRuntime,
+        tracing: &Tracing,
+        image: &Image,
+    ) -> Result<Vec<u8>, Failure> {
+        self.text(rt, tracing, &Map::build(rt.alloc(), &self.info, image)?)
     }
 }
 
-/// The text that is written. What stands behind calls is added to the information file before the rest is found.
-fn traced_text(rt: &HostRuntime, tracing: &Tracing) -> Result<Vec<u8>, Failure> {
-    let (alloc, options) = (rt.alloc(), &tracing.options);
-    let read = Read::of(rt, options, read_information(rt, options.info.as_deref())?)?;
-    let image = image(rt, &read.info)?;
-    let map = Map::build(alloc, &read.info, &image)?;
-    let mut lines = Vec::new(alloc);
-    if !tracing.plain {
-        lines = lines_of(alloc, &map, &read.tags)?;
-    }
-    if lines.is_empty() {
-        return read.text(rt, tracing, &map);
-    }
-    let mut bytes = Vec::from_slice(alloc, &read.bytes)?;
+/// The text that is written where these lines are added to the information file.
+fn text_with(
+    rt: &HostRuntime,
+    tracing: &Tracing,
+    read: &Read,
+    image: &Image,
+    mut lines: Vec<u8>,
+) -> Result<Vec<u8>, Failure> {
+    let mut bytes = Vec::from_slice(rt.alloc(), &read.bytes)?;
     bytes.extend_from_slice(&lines)?;
-    let more = Read::of(rt, options, bytes)?;
-    let map = Map::build(alloc, &more.info, &image)?;
-    let text = more.text(rt, tracing, &map)?;
+    let text = Read::of(rt, &tracing.options, bytes)?.text_of(rt, tracing, image)?;
     if tracing.whole {
         return Ok(text);
     }
     lines.extend_from_slice(&text)?;
     Ok(lines)
+}
+
+/// The text that is written of what is read. What stands behind calls, and what a line of BASIC calls, is added to the
+/// information file before the rest is found.
+fn text_of(
+    rt: &HostRuntime,
+    tracing: &Tracing,
+    read: &Read,
+    image: &Image,
+) -> Result<Vec<u8>, Failure> {
+    let map = Map::build(rt.alloc(), &read.info, image)?;
+    if !tracing.plain {
+        let lines = lines_of(rt.alloc(), &map, &read.tags, &tracing.entries)?;
+        if !lines.is_empty() {
+            return text_with(rt, tracing, read, image, lines);
+        }
+    }
+    read.text(rt, tracing, &map)
+}
+
+/// The text that is written.
+fn traced_text(rt: &HostRuntime, tracing: &Tracing) -> Result<Vec<u8>, Failure> {
+    let options = &tracing.options;
+    let read = Read::of(rt, options, read_information(rt, options.info.as_deref())?)?;
+    let image = image(rt, &read.info)?;
+    text_of(rt, tracing, &read, &image)
 }
 
 /// Writes what is found in the image. The output is created once the text is there.

@@ -61,6 +61,13 @@ pub struct Report {
     pub text: Vec<u8>,
 }
 
+impl Report {
+    /// What is written.
+    pub fn into_text(self) -> Vec<u8> {
+        self.text
+    }
+}
+
 /// The ranges of these pieces, of the addresses of the image that are not taken. Fails only if an allocation failed.
 fn ranges_by(
     steps: &Steps<'_, '_>,

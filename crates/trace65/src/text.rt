@@ -85,6 +85,7 @@ impl<'a> Text<'a> {
         self.put_digits()?;
         self.put_unreached()?;
         self.put_copies()?;
+        self.put_named()?;
         self.put_far()?;
         self.put_calls()?;
         self.put_stops()?;

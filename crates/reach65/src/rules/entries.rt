@@ -1,6 +1,7 @@
 //! What may be code, in the order in which it is asked.
 //!
 //! - `pulls`: the routines that read what stands behind their calls.
+//! - `basic`: the line of BASIC that calls code.
 //! - `starts`: where reading begins.
 //! - `search` tries an entry, by what `sound` says reads as code. `growth` asks the rules below for others that join,
 //!   until there are no more.
@@ -12,6 +13,7 @@
 //! - `jumps`: the jumps that stand in rows.
 //! - `obstacles`: what kept bytes from being code.
 
+pub mod basic;
 pub mod declared;
 pub mod growth;
 pub mod halves;

@@ -96,9 +96,11 @@ impl Text<'_> {
             && map.info().covering(address).is_none()
     }
 
-    /// Where the image ends, or what the file says lies after it.
+    /// Where the image ends, or what the file says or is proposed to lie after it.
     fn last_end(&self) -> usize {
-        let (_, mut end) = ends(self.advice.steps.image());
+        let (_, image_end) = ends(self.advice.steps.image());
+        let proposed = self.last_after();
+        let mut end = proposed.map_or(image_end, |last| usize::from(last).saturating_add(1));
         for tag in self.advice.steps.tags() {
             if let (TagKind::After, Some(last)) = (tag.kind, tag.last) {
                 end = end.max(usize::from(last).saturating_add(1));

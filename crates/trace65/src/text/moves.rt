@@ -62,28 +62,61 @@ impl Text<'_> {
         Ok(())
     }
 
-    /// Adds the line of what lies after the image, up to the greatest address of the pairs and the variables, if one
-    /// lies there, and unless the file says it.
-    pub fn put_after(&mut self) -> Result<(), AllocError> {
-        let advice = self.advice;
-        let mut last = advice
-            .addresses
-            .variables
-            .addresses
-            .last()
-            .copied()
-            .unwrap_or(0);
-        for pair in &advice.addresses.pairs {
+    /// Whether the file says what lies after the image.
+    fn has_after(&self) -> bool {
+        let tags = self.advice.steps.tags();
+        tags.iter().any(|tag| tag.kind == TagKind::After)
+    }
+
+    /// Returns the greatest address of the pairs and the variables, if it lies after the image, and unless the file
+    /// says what lies there.
+    pub fn last_after(&self) -> Option<u16> {
+        let addresses = &self.advice.addresses;
+        let mut last = addresses.variables.addresses.last().copied().unwrap_or(0);
+        for pair in &addresses.pairs {
             last = last.max(pair.address);
         }
-        let (_, end) = ends(advice.steps.image());
-        let tags = advice.steps.tags();
-        if usize::from(last) < end || tags.iter().any(|tag| tag.kind == TagKind::After) {
-            return Ok(());
-        }
-        put_address(&mut self.out, b"#: AFTER { START $", end)?;
+        let (_, end) = ends(self.advice.steps.image());
+        (end <= usize::from(last) && !self.has_after()).then_some(last)
+    }
+
+    /// Adds what a group AFTER has: from the end of the image to this address.
+    fn put_span(&mut self, last: u16) -> Result<(), AllocError> {
+        let (_, end) = ends(self.advice.steps.image());
+        put_address(&mut self.out, b"AFTER { START $", end)?;
         self.put_address(b"; END $", last)?;
-        self.put(b"; };\n")
+        self.put(b"; }")
+    }
+
+    /// Adds the line of what lies after the image, unless the file says it.
+    pub fn put_after(&mut self) -> Result<(), AllocError> {
+        let Some(last) = self.last_after() else {
+            return Ok(());
+        };
+        self.put(b"#: ")?;
+        self.put_span(last)?;
+        self.put(b";\n")
+    }
+
+    /// Adds a comment for operands that would be variables if the file had no name there, and that lie behind what is
+    /// proposed, unless the file says what lies after the image.
+    pub fn put_named(&mut self) -> Result<(), AllocError> {
+        let variables = &self.advice.addresses.variables;
+        let proposed = self.last_after().unwrap_or(0);
+        let known = variables.named.partition_point(|at| *at <= proposed);
+        let rest = variables.named.get(known..).unwrap_or(&[]);
+        if let (Some(&first), Some(&last)) = (rest.first(), rest.last())
+            && !self.has_after()
+        {
+            self.put_address(b"# the operands $", first)?;
+            self.put_address(b" to $", last)?;
+            self.put_address(b" stay, since $", variables.name_at)?;
+            self.put_name(variables.name_at)?;
+            self.put(b" has a name: ")?;
+            self.put_span(last)?;
+            self.put(b"?\n")?;
+        }
+        Ok(())
     }
 
     /// Adds a comment for operands that lie far behind the image or its variables, if they may be some of it, with the
@@ -119,10 +152,9 @@ impl Text<'_> {
         self.put_address(b" to $", last)?;
         self.put_decimal(b" lie ", usize::from(first).saturating_sub(end))?;
         self.put(what)?;
-        let (_, end) = ends(advice.steps.image());
-        put_address(&mut self.out, b": AFTER { START $", end)?;
-        self.put_address(b"; END $", last)?;
-        self.put(b"; }?")?;
+        self.put(b": ")?;
+        self.put_span(last)?;
+        self.put(b"?")?;
         let mut count = 0usize;
         for &at in &advice.survey.users {
             let operand = advice.steps.at(at).and_then(|step| step.operand);

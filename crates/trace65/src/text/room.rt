@@ -1,5 +1,6 @@
 //! Comments for where there is room for new code: a proposed range of equal bytes, 16 at least. If an operand of
 //! reached code lies there, or the address of a pair, also one byte before, or a label, the comment asks and says so.
+//! It asks too if the bytes are an instruction, and not $00 or $FF: code that waits may jump into a row of `cmp #$C9`.
 
 use crate::advice::Advice;
 use crate::text::Text;
@@ -95,6 +96,12 @@ impl Text<'_> {
         LEAST <= bytes.len() && bytes.iter().all(|byte| Some(byte) == bytes.first())
     }
 
+    /// Whether code may run through a range of filler.
+    fn may_run(&self, range: RangeSpec) -> bool {
+        let is_usual = matches!(self.bytes(range).first(), None | Some(0 | 0xFF));
+        !is_usual && self.advice.steps.instruction_at(range.first).is_some()
+    }
+
     /// Returns how many bytes are filler.
     pub fn filler_len(&self) -> usize {
         let filler = self.ranges.iter().filter(|range| self.is_filler(**range));
@@ -115,7 +122,8 @@ impl Text<'_> {
                 continue;
             }
             let used = use_of(&uses, range);
-            let title = if used.is_none() {
+            let may_run = self.may_run(range);
+            let title = if used.is_none() && !may_run {
                 "# room: "
             } else {
                 "# room? "
@@ -123,6 +131,7 @@ impl Text<'_> {
             self.put_decimal(title.as_bytes(), self.bytes(range).len())?;
             self.put_address(b" bytes at $", range.first)?;
             match used {
+                None if may_run => self.put(b", but code may run through it\n")?,
                 None => self.put(b"\n")?,
                 Some((_, way, at)) => {
                     let (before, after) = words_of(way);

@@ -3,7 +3,8 @@
 use crate::text::Text;
 use isa65::Mnemonic::{Brk, Rti, Rts};
 use map65::is_jump;
-use reach65::rules::image::{address, byte, ends};
+use reach65::rules::entries::basic::{LINE, sys_at};
+use reach65::rules::image::{address, ends};
 use std::alloc::AllocError;
 
 /// How many bytes have to read as code.
@@ -17,15 +18,6 @@ const MOST: usize = 8192;
 
 /// The lowest address to which code leads outside the image: below are the zero page and the stack.
 const LOWEST: u16 = 0x200;
-
-/// The token of SYS in a program of BASIC.
-const SYS: u8 = 0x9E;
-
-/// How many digits an address has at most.
-const DIGITS: usize = 5;
-
-/// In how many bytes of an image its first line of BASIC stands.
-const LINE: usize = 64;
 
 impl Text<'_> {
     /// Where the bytes from the address on end that read as code and that nothing speaks for, and whether they
@@ -87,42 +79,19 @@ impl Text<'_> {
         Ok(())
     }
 
-    /// The number that the digits from the address on are, and the address behind them.
-    fn number(&self, from: usize) -> (usize, usize) {
-        let image = self.advice.steps.image();
-        let mut number = 0usize;
-        for at in from..from.saturating_add(DIGITS) {
-            match byte(image, at) {
-                Some(digit @ 0x30..=0x39) => {
-                    number = number
-                        .saturating_mul(10)
-                        .saturating_add(usize::from(digit.saturating_sub(0x30)));
-                }
-                _ => return (number, at),
-            }
-        }
-        (number, from.saturating_add(DIGITS))
-    }
-
     /// Adds a comment for the digits behind a SYS at the start of the image that are where reached code begins.
     pub fn put_digits(&mut self) -> Result<(), AllocError> {
         let advice = self.advice;
-        let image = advice.steps.image();
-        let (start, end) = ends(image);
-        let sys = (start..end).zip(image.bytes()).take(LINE);
-        for (at, _) in sys.filter(|(_, byte)| **byte == SYS) {
-            let blank = usize::from(matches!(byte(image, at.saturating_add(1)), Some(0x20 | 0x28)));
-            let from = at.saturating_add(1).saturating_add(blank);
-            let (number, behind) = self.number(from);
-            if advice.data.ground.is_free(at)
-                && let (Some(to), Some(first)) = (address(number), address(from))
-                && let Some(last) = address(behind.saturating_sub(1))
-                && advice.survey.reached.get(to)
+        let (start, end) = ends(advice.steps.image());
+        for at in start..end.min(start.saturating_add(LINE)) {
+            if let Some(sys) = sys_at(advice.steps.image(), at)
+                && !advice.reach.code.get_at(at)
+                && advice.survey.reached.get(sys.to)
             {
-                self.put_address(b"# the digits at $", first)?;
-                self.put_address(b"-$", last)?;
-                self.put_decimal(b" are ", number)?;
-                self.put_address(b", $", to)?;
+                self.put_address(b"# the digits at $", sys.first)?;
+                self.put_address(b"-$", sys.last)?;
+                self.put_decimal(b" are ", usize::from(sys.to))?;
+                self.put_address(b", $", sys.to)?;
                 self.put(b", where code begins: they stay if it moves\n")?;
             }
         }

@@ -9,7 +9,7 @@ use map65::Marks;
 use std::alloc::AllocError;
 
 /// How far a table may lie behind the operand that is counted from it.
-const FAR: usize = 256;
+const FAR: u16 = 256;
 
 /// An operand that is counted from a table, and the instruction that has it.
 #[derive(Clone, Copy)]
@@ -37,18 +37,17 @@ fn given(steps: &Steps<'_>) -> Result<Marks, AllocError> {
     Ok(marks)
 }
 
-/// For each byte of the image the address where the code ends that has it, or its own address.
-fn code_ends(survey: &Survey<'_>) -> Result<Vec<usize>, AllocError> {
+/// The addresses of the image that no code has, in order.
+fn open_places(survey: &Survey<'_>) -> Result<Vec<u16>, AllocError> {
     let (start, end) = ends(survey.steps.image());
-    let mut found = Vec::with_capacity(survey.steps.alloc(), end.saturating_sub(start))?;
-    let mut behind = end;
-    for at in (start..end).rev() {
-        if !survey.code.get_at(at) {
-            behind = at;
+    let mut found = Vec::new(survey.steps.alloc());
+    for at in start..end {
+        if !survey.code.get_at(at)
+            && let Some(place) = address(at)
+        {
+            found.push(place)?;
         }
-        found.push(behind)?;
     }
-    found.reverse();
     Ok(found)
 }
 
@@ -71,16 +70,13 @@ pub fn bases_of(survey: &Survey<'_>) -> Result<Vec<Base>, AllocError> {
     if found.is_empty() {
         return Ok(found);
     }
-    let (start, end) = ends(steps.image());
-    let (given, code_ends) = (given(steps)?, code_ends(survey)?);
+    let (given, open) = (given(steps)?, open_places(survey)?);
     for base in found.as_mut_slice() {
-        let from = usize::from(base.operand);
-        let table = code_ends
-            .get(from.saturating_sub(start))
-            .copied()
-            .unwrap_or(end);
-        if table < end.min(from.saturating_add(FAR)) {
-            base.table = address(table).unwrap_or(base.operand);
+        let index = open.partition_point(|place| *place < base.operand);
+        if let Some(&table) = open.get(index)
+            && table.saturating_sub(base.operand) < FAR
+        {
+            base.table = table;
         }
     }
     found.retain(|base| base.table != base.operand && !given.get(base.reader));

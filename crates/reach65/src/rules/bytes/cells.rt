@@ -1,6 +1,6 @@
 //! Words of data that a loop of reached code copies to the zero page, where code reads or writes through them.
 
-use crate::rules::bytes::copies::{len_of, moved};
+use crate::rules::bytes::copies::{Move, len_of};
 use crate::rules::bytes::ground::Ground;
 use crate::rules::bytes::survey::Survey;
 use crate::rules::image::ends;
@@ -45,13 +45,7 @@ pub fn cells_of(ground: &Ground<'_>, survey: &Survey<'_>) -> Result<Vec<Cell>, A
     let steps = survey.steps;
     let mut found = Vec::new(steps.alloc());
     let mut pointers = None;
-    for &reader in &survey.users {
-        let Some(load) = steps.marked(survey.reached, reader) else {
-            continue;
-        };
-        let Some((from, to)) = moved(survey, load) else {
-            continue;
-        };
+    for &Move { load, from, to } in &survey.moves {
         if PAGE <= to {
             continue;
         }
@@ -70,7 +64,7 @@ pub fn cells_of(ground: &Ground<'_>, survey: &Survey<'_>) -> Result<Vec<Cell>, A
                     place,
                     address,
                     pointer,
-                    reader,
+                    reader: load.at,
                 })?;
             }
         }

@@ -2,10 +2,10 @@
 //! index, and jumps or calls to where that begins. Inside the image it does so to the first byte alone, outside of it
 //! to one of 256 bytes.
 
-use crate::rules::Placed;
 use crate::rules::bytes::survey::Survey;
+use crate::rules::{Placed, Steps};
 use isa65::{Mnemonic, Mode};
-use map65::is_inside;
+use map65::{Marks, is_inside};
 use std::alloc::AllocError;
 
 /// How many bytes a loop copies at most.
@@ -34,10 +34,21 @@ impl Copied {
     }
 }
 
-/// Returns the address from which the instruction loads with an index, and that to which the one behind it stores.
-pub fn moved(survey: &Survey<'_>, load: Placed<'_>) -> Option<(u16, u16)> {
-    let store = survey.steps.behind(survey.reached, load)?;
-    if (load.step.op.mnemonic, store.step.op.mnemonic) != (Mnemonic::Lda, Mnemonic::Sta) {
+/// An instruction that loads with an index, from which address, and to which one the one behind it stores.
+#[derive(Clone, Copy)]
+pub struct Move<'s> {
+    pub load: Placed<'s>,
+    pub from: u16,
+    pub to: u16,
+}
+
+/// Returns what the instruction and the one behind it move, if they do.
+pub fn moved<'s>(steps: &Steps<'_>, reached: &Marks, load: Placed<'s>) -> Option<Move<'s>> {
+    if load.step.op.mnemonic != Mnemonic::Lda {
+        return None;
+    }
+    let store = steps.behind(reached, load)?;
+    if store.step.op.mnemonic != Mnemonic::Sta {
         return None;
     }
     let to = match (load.step.op.mode, store.step.op.mode) {
@@ -45,7 +56,8 @@ pub fn moved(survey: &Survey<'_>, load: Placed<'_>) -> Option<(u16, u16)> {
         (Mode::Absx, Mode::Zpx) => u16::from(store.step.byte?),
         _ => return None,
     };
-    Some((load.step.operand?, to))
+    let from = load.step.operand?;
+    Some(Move { load, from, to })
 }
 
 /// Returns how many bytes the loop copies in which the instruction loads: an index counts down from a number right
@@ -105,28 +117,25 @@ fn more_of(survey: &Survey<'_>, goals: &[u16], to: u16) -> Option<u16> {
 pub fn copies_of(survey: &Survey<'_>) -> Result<Vec<Copied>, AllocError> {
     let steps = survey.steps;
     let mut found = Vec::new(steps.alloc());
-    let mut goals = Vec::new(steps.alloc());
-    let mut has_goals = false;
-    for &reader in &survey.users {
+    if survey.moves.is_empty() {
+        return Ok(found);
+    }
+    let goals = goals_of(survey)?;
+    for &Move { load, from, to } in &survey.moves {
         if found.len() < TOLD
-            && let Some(load) = steps.marked(survey.reached, reader)
-            && let Some((from, to)) = moved(survey, load)
             && from != to
+            // Nothing is copied to $FFFF and behind it: code changes such an operand before it runs.
+            && to < u16::MAX
             && is_inside(steps.image(), usize::from(from))
+            && let Some(more) = more_of(survey, &goals, to)
         {
-            if !has_goals {
-                goals = goals_of(survey)?;
-                has_goals = true;
-            }
-            if let Some(more) = more_of(survey, &goals, to) {
-                found.push(Copied {
-                    from: from.saturating_add(more),
-                    to: to.saturating_add(more),
-                    len: len_of(survey, load),
-                    reader,
-                    is_over: is_inside(steps.image(), usize::from(to)),
-                })?;
-            }
+            found.push(Copied {
+                from: from.saturating_add(more),
+                to: to.saturating_add(more),
+                len: len_of(survey, load),
+                reader: load.at,
+                is_over: is_inside(steps.image(), usize::from(to)),
+            })?;
         }
     }
     Ok(found)

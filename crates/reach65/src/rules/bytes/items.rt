@@ -7,17 +7,20 @@ use std::alloc::AllocError;
 
 /// Returns marks of where the instructions begin that are listed: each begins where the one before it ends, and neither
 /// a range nor a border of a segment cuts it. Ranges will have what neither the information file nor reached code has,
-/// and opcodes that only hide an instruction.
+/// and opcodes that only hide an instruction. None if no pair of halves may begin.
 pub fn items_of(survey: &Survey<'_>, taken: &Marks) -> Result<Marks, AllocError> {
     let steps = survey.steps;
     let (alloc, map) = (steps.alloc(), steps.map());
+    let mut items = Marks::none(alloc)?;
+    if survey.firsts.is_empty() {
+        return Ok(items);
+    }
     let mut borders = Vec::new(alloc);
     for segment in map.info().segments() {
         borders.push(usize::from(segment.first))?;
         borders.push(usize::from(segment.last) + 1)?;
     }
     borders.sort()?;
-    let mut items = Marks::none(alloc)?;
     let mut next = 0;
     let (start, end) = ends(steps.image());
     for at in start..end {

@@ -47,23 +47,27 @@ fn is_unled(survey: &Survey<'_>, address: u16) -> bool {
         && !survey.goals.get(address)
 }
 
-/// Whether a text of ASCII, of ten characters at least, has both bytes at the address, and they are not behind the
-/// opcode of a call or a jump.
-fn is_in_text(ground: &Ground<'_>, at: usize) -> bool {
-    if matches!(byte(ground.image, at.saturating_sub(1)), Some(0x20 | 0x4C)) {
-        return false;
-    }
+/// Whether a text of this alphabet, of ten characters at least, has both bytes at the address.
+fn has_text(ground: &Ground<'_>, alphabet: Alphabet, at: usize) -> bool {
     let mut first = at;
     for _ in 0..LOOKED {
         let before = first.saturating_sub(1);
-        let is_char = byte(ground.image, before).is_some_and(|it| Alphabet::Ascii.is_char(it));
+        let is_char = byte(ground.image, before).is_some_and(|it| alphabet.is_char(it));
         if !is_char || !ground.is_plain(before) {
             break;
         }
         first = before;
     }
-    let len = Alphabet::Ascii.text_len(bytes_at(ground.image, first, 2 * LOOKED));
+    let len = alphabet.text_len(bytes_at(ground.image, first, 2 * LOOKED));
     TEXT <= len && at.saturating_add(1) < first.saturating_add(len)
+}
+
+/// Whether a text of ASCII or PETSCII has both bytes at the address, and they are not behind the opcode of a call or a
+/// jump.
+fn is_in_text(ground: &Ground<'_>, at: usize) -> bool {
+    let is_operand = matches!(byte(ground.image, at.saturating_sub(1)), Some(0x20 | 0x4C));
+    !is_operand
+        && (has_text(ground, Alphabet::Ascii, at) || has_text(ground, Alphabet::Petscii, at))
 }
 
 /// Marks the words of data that are the address of a reached routine to which nothing else refers, where two words at

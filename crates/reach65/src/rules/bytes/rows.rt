@@ -5,30 +5,20 @@ use crate::rules::bytes::links::FAR;
 use crate::rules::bytes::survey::Survey;
 use crate::rules::entries::words::ROW;
 use crate::rules::image::{address, ends};
-use map65::{Image, Marks};
+use map65::Marks;
 use std::alloc::AllocError;
 
-/// The word at the address, if it is the address of a routine, less so much.
-fn leading(ground: &Ground<'_>, survey: &Survey<'_>, less: u16, at: usize) -> Option<u16> {
-    let word = ground.word(at)?;
-    survey
-        .is_routine(usize::from(word) + usize::from(less))
-        .then_some(word)
+/// Whether the word at the address is the address of a routine, less so much.
+fn is_leading(ground: &Ground<'_>, survey: &Survey<'_>, less: u16, at: usize) -> bool {
+    ground.word(at).is_some_and(|word| survey.is_routine(usize::from(word) + usize::from(less)))
 }
 
-/// How many words a row has that begins at the address: each is the address of a routine, less so much, there are three
-/// at least, and the first two are different.
+/// How many words a row has that begins at the address: each is the address of a routine, less so much, and there are
+/// three at least.
 fn row_len(ground: &Ground<'_>, survey: &Survey<'_>, less: u16, from: usize, end: usize) -> usize {
-    let Some(one) = leading(ground, survey, less, from) else {
-        return 0;
-    };
-    match leading(ground, survey, less, from.saturating_add(2)) {
-        Some(two) if one != two => {}
-        _ => return 0,
-    }
     let words = (from..end).step_by(2);
     let count = words
-        .take_while(|at| leading(ground, survey, less, *at).is_some())
+        .take_while(|at| is_leading(ground, survey, less, *at))
         .count();
     if ROW <= count { count } else { 0 }
 }
@@ -74,18 +64,12 @@ pub struct Words {
     pub near: Vec<u16>,
 }
 
-/// Marks of the addresses of routines and of those right before them, and of names.
-fn meant_of(survey: &Survey<'_>, image: &Image) -> Result<Marks, AllocError> {
+/// Marks of the addresses of names.
+fn named_of(survey: &Survey<'_>) -> Result<Marks, AllocError> {
     let info = survey.steps.map().info();
     let mut marks = Marks::none(survey.steps.alloc())?;
     for k in 0..info.given_count() {
         marks.set(info.given(k).address);
-    }
-    let (start, end) = ends(image);
-    for at in start..end {
-        if survey.is_routine(at) {
-            marks.set_span(at.saturating_sub(1), at.saturating_add(1));
-        }
     }
     Ok(marks)
 }
@@ -93,7 +77,7 @@ fn meant_of(survey: &Survey<'_>, image: &Image) -> Result<Marks, AllocError> {
 /// Returns where words begin that may be addresses.
 pub fn words_of(ground: &Ground<'_>, survey: &Survey<'_>) -> Result<Words, AllocError> {
     let alloc = survey.steps.alloc();
-    let meant = meant_of(survey, ground.image)?;
+    let named = named_of(survey)?;
     let (mut leading, mut near) = (Vec::new(alloc), Vec::new(alloc));
     let (start, end) = ends(ground.image);
     for (at, bytes) in (start..end).zip(ground.image.bytes().windows(2)) {
@@ -101,12 +85,14 @@ pub fn words_of(ground: &Ground<'_>, survey: &Survey<'_>) -> Result<Words, Alloc
             continue;
         };
         let word = u16::from_le_bytes([low, high]);
-        let (is_meant, is_near) = (meant.get(word), word.abs_diff(here) <= FAR);
-        // Most words are neither.
-        if !is_meant && !is_near || ground.word(at).is_none() {
+        let to = usize::from(word);
+        let (is_named, is_near) = (named.get(word), word.abs_diff(here) <= FAR);
+        let is_code = survey.reached.get(word) || survey.reached.get_at(to + 1);
+        // Most words are none of this.
+        if !is_code && !is_named && !is_near || ground.word(at).is_none() {
             continue;
         }
-        if is_meant {
+        if is_named || survey.is_routine(to) || survey.is_routine(to + 1) {
             leading.push(here)?;
         }
         if is_near {
@@ -117,11 +103,15 @@ pub fn words_of(ground: &Ground<'_>, survey: &Survey<'_>) -> Result<Words, Alloc
 }
 
 /// Marks the words of rows that are addresses of routines, and those of rows that are such addresses less
-/// one, with the words beside them that lead to any code. `words` has where rows may begin.
+/// one, with the words beside them that lead to any code. The first two words of a row differ. `words` has where rows
+/// may begin.
 pub fn mark_rows(ground: &mut Ground<'_>, survey: &Survey<'_>, words: &[u16]) {
     let (start, end) = ends(ground.image);
     for &first in words {
         let at = usize::from(first);
+        if ground.word(at) == ground.word(at.saturating_add(2)) {
+            continue;
+        }
         for less in [0u16, 1] {
             let count = row_len(ground, survey, less, at, end);
             if 0 < count {

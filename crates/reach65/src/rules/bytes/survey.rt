@@ -1,5 +1,6 @@
 //! What reached code does with addresses.
 
+use crate::rules::bytes::copies::{Move, moved};
 use crate::rules::bytes::skips::skips_of;
 use crate::rules::entries::halves::may_begin;
 use crate::rules::entries::sound::holder_of;
@@ -37,6 +38,8 @@ pub struct Survey<'a> {
     pub users: Vec<u16>,
     /// Where calls begin.
     pub calls: Vec<u16>,
+    /// What is loaded with an index and stored.
+    pub moves: Vec<Move<'a>>,
 }
 
 /// Returns whether an instruction stores to its operand, or changes it.
@@ -84,6 +87,7 @@ impl<'a> Survey<'a> {
             firsts: Vec::new(alloc),
             users: Vec::new(alloc),
             calls: Vec::new(alloc),
+            moves: Vec::new(alloc),
         };
         let (start, end) = ends(steps.image());
         for at in start..end {
@@ -106,7 +110,7 @@ impl<'a> Survey<'a> {
     }
 
     /// Marks what the instruction does.
-    fn put(&mut self, placed: Placed<'_>) -> Result<(), AllocError> {
+    fn put(&mut self, placed: Placed<'a>) -> Result<(), AllocError> {
         let Placed { at, step } = placed;
         if self.is_skip(at) {
             set_some(&mut self.gone_on, step.next);
@@ -127,6 +131,9 @@ impl<'a> Survey<'a> {
         }
         if let Some(operand) = step.operand {
             self.users.push(at)?;
+            if let Some(one) = moved(self.steps, self.reached, placed) {
+                self.moves.push(one)?;
+            }
             if step.to.is_none() {
                 self.operands.set(operand);
             }

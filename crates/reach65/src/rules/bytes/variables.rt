@@ -1,8 +1,9 @@
 //! The variables right after an image.
 
+use crate::rules::Steps;
 use crate::rules::bytes::survey::{Survey, writes};
 use crate::rules::image::{address, ends};
-use info65::Info;
+use info65::TagKind;
 use map65::{ADDRESSES, Marks};
 use std::alloc::AllocError;
 
@@ -32,6 +33,10 @@ const IO: usize = 0xC000;
 pub struct Variables {
     /// The addresses, in order.
     pub addresses: Vec<u16>,
+    /// Those from a name of the information file on that would be some without it.
+    pub named: Vec<u16>,
+    /// The address that has this name, or is covered by it.
+    pub name_at: u16,
     /// Those that may be some: the first lies far from the image.
     pub far: Vec<u16>,
     /// Those farther behind that may be some.
@@ -48,17 +53,44 @@ fn gap_before(end: usize, last: usize, at: usize) -> usize {
     }
 }
 
-/// The first address from this one on that a name covers.
-fn first_named(info: &Info, from: usize) -> usize {
-    let mut first = ADDRESSES;
+/// Where each group AFTER of the information file begins, in order, and the last address of those up to it.
+fn groups_after(steps: &Steps<'_>) -> Result<Vec<(u16, u16)>, AllocError> {
+    let mut groups = Vec::new(steps.alloc());
+    for tag in steps.tags() {
+        if let (TagKind::After, Some(first), Some(last)) = (tag.kind, tag.first, tag.last) {
+            groups.push((first, last))?;
+        }
+    }
+    groups.sort()?;
+    let mut greatest = 0;
+    for (_, last) in groups.iter_mut() {
+        greatest = greatest.max(*last);
+        *last = greatest;
+    }
+    Ok(groups)
+}
+
+/// The first address from this one on that a name covers, unless a group AFTER has it.
+fn first_named(steps: &Steps<'_>, from: usize) -> Result<usize, AllocError> {
+    let info = steps.map().info();
+    let mut named = Vec::new(steps.alloc());
     for k in 0..info.given_count() {
         let name = info.given(k);
         let at = usize::from(name.address);
         if from < at.saturating_add(name.size as usize) {
-            first = first.min(at.max(from));
+            named.push(at.max(from))?;
         }
     }
-    first
+    named.sort()?;
+    let groups = groups_after(steps)?;
+    for at in named {
+        let begun = groups.partition_point(|(first, _)| usize::from(*first) <= at);
+        let group = groups.get(begun.wrapping_sub(1));
+        if group.is_none_or(|(_, last)| usize::from(*last) < at) {
+            return Ok(at);
+        }
+    }
+    Ok(ADDRESSES)
 }
 
 /// How many of these addresses are both read and written.
@@ -76,14 +108,13 @@ fn used_count(survey: &Survey<'_>, addresses: &[u16]) -> Result<usize, AllocErro
     Ok(addresses.iter().filter(is_used).count())
 }
 
-/// The operands after the image that are its variables. Empty if the image writes to none of them.
-fn operands_after(survey: &Survey<'_>) -> Result<Vec<u16>, AllocError> {
-    let map = survey.steps.map();
+/// The operands after the image up to a limit that are its variables. Empty if the image writes to none of them.
+fn operands_after(survey: &Survey<'_>, limit: usize) -> Result<Vec<u16>, AllocError> {
     let mut found = Vec::new(survey.steps.alloc());
-    let (_, end) = ends(map.image());
+    let (_, end) = ends(survey.steps.image());
     let mut last = end;
     let mut has_written = false;
-    for at in end..first_named(map.info(), end).min(REGISTERS) {
+    for at in end..limit {
         let Some(address) = address(at) else {
             break;
         };
@@ -105,13 +136,11 @@ fn operands_after(survey: &Survey<'_>) -> Result<Vec<u16>, AllocError> {
     Ok(found)
 }
 
-/// The operands from the address on that may be variables of the image, if it reads and writes one at least: below
-/// where machines have registers, and before a name of the information file.
-fn operands_beyond(survey: &Survey<'_>, from: usize) -> Result<Vec<u16>, AllocError> {
-    let map = survey.steps.map();
+/// The operands from the address on up to a limit that may be variables of the image, if it reads and writes one at
+/// least.
+fn operands_beyond(survey: &Survey<'_>, from: usize, limit: usize) -> Result<Vec<u16>, AllocError> {
     let mut found = Vec::new(survey.steps.alloc());
-    let (_, end) = ends(map.image());
-    for at in from..first_named(map.info(), end).min(IO) {
+    for at in from..limit {
         if let Some(operand) = address(at)
             && survey.operands.get(operand)
         {
@@ -124,23 +153,45 @@ fn operands_beyond(survey: &Survey<'_>, from: usize) -> Result<Vec<u16>, AllocEr
     Ok(found)
 }
 
+/// Whether operands after the image are its variables without a question: the first lies near, or many are used.
+fn are_near(survey: &Survey<'_>, found: &[u16], end: usize) -> Result<bool, AllocError> {
+    let first = found.first().map_or(end, |first| usize::from(*first));
+    Ok(first <= end.saturating_add(NEAR) || USED <= used_count(survey, found)?)
+}
+
+/// The operands from the named address on that would be variables of the image if it had no name.
+fn operands_named(survey: &Survey<'_>, named: usize) -> Result<Vec<u16>, AllocError> {
+    let (_, end) = ends(survey.steps.image());
+    let mut found = Vec::new(survey.steps.alloc());
+    if named < REGISTERS {
+        found = operands_after(survey, REGISTERS)?;
+        if !are_near(survey, &found, end)? {
+            found.clear();
+        }
+        found.retain(|at| named <= usize::from(*at));
+    }
+    Ok(found)
+}
+
 /// Returns the variables after the image: from its end on the operands, each at most 2,048 bytes after the one before,
-/// up to where a name of the information file covers one, and before $D000. Where the image ends before $8000, $9000 or
-/// $C000, the first from there on lies at most 32 bytes after the one before. Where the first of all lies more than 256
-/// bytes after the image they only may be some, unless eight of them are both read and written. An image that ends in
-/// the zero page has none, and one that writes to none of them has none. The operands behind these up to $C000 may be
-/// some too, if one is both read and written.
+/// up to where a name of the information file covers one that no group AFTER has, and before $D000. Where the image
+/// ends before $8000, $9000 or $C000, the first from there on lies at most 32 bytes after the one before. Where the
+/// first of all lies more than 256 bytes after the image they only may be some, unless eight of them are both read and
+/// written. An image that ends in the zero page has none, and one that writes to none of them has none. The operands
+/// behind these up to $C000 may be some too, if one is both read and written.
 pub fn variables_of(survey: &Survey<'_>) -> Result<Variables, AllocError> {
     let alloc = survey.steps.alloc();
     let (_, end) = ends(survey.steps.image());
     let (mut addresses, mut far) = (Vec::new(alloc), Vec::new(alloc));
     let mut beyond = Vec::new(alloc);
+    let mut named = Vec::new(alloc);
+    let limit = first_named(survey.steps, end)?;
     if 0x100 < end {
-        let found = operands_after(survey)?;
-        let first = found.first().map_or(end, |first| usize::from(*first));
+        let found = operands_after(survey, limit.min(REGISTERS))?;
+        named = operands_named(survey, limit)?;
         let behind = found.last().map_or(end, |last| usize::from(*last) + 1);
-        beyond = operands_beyond(survey, behind)?;
-        if first <= end.saturating_add(NEAR) || USED <= used_count(survey, &found)? {
+        beyond = operands_beyond(survey, behind, limit.min(IO))?;
+        if are_near(survey, &found, end)? {
             addresses = found;
         } else {
             far = found;
@@ -148,6 +199,8 @@ pub fn variables_of(survey: &Survey<'_>) -> Result<Variables, AllocError> {
     }
     Ok(Variables {
         addresses,
+        named,
+        name_at: address(limit).unwrap_or(0),
         far,
         beyond,
     })

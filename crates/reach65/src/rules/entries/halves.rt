@@ -117,7 +117,11 @@ fn is_load(op: Op) -> bool {
 
 /// Returns whether a pair may begin with the instruction.
 pub fn may_begin(op: Op) -> bool {
-    is_load(op) || matches!(op.mnemonic, Clc | Sec) || is_sum(op) || is_compare(op)
+    match op.mnemonic {
+        Clc | Sec => true,
+        Lda | Ldx | Ldy | Adc | Cmp | Cpx | Cpy | Sbc => op.mode == Mode::Imm,
+        _ => false,
+    }
 }
 
 /// Whether it compares a register with an immediate, or takes one away from A.
@@ -293,20 +297,20 @@ impl<'a> Code<'a> {
     /// The pair to which a number is added, or from which one is taken away: `lda #`, `clc` and `adc`, or `sec` and
     /// `sbc`, what keeps the low half, and `lda #` and the sum again, with no more than an instruction that changes Y
     /// before each of the others.
-    fn summed(&self, low: Placed<'a>) -> Option<Pair> {
+    fn summed(&self, low: Placed<'a>, then: Placed<'a>) -> Option<Pair> {
         if low.step.op.mnemonic != Lda {
             return None;
         }
-        let carry = self.past_y(low)?;
+        let carry = self.past_y(then)?;
         let (rank, sum) = match carry.step.op.mnemonic {
             Clc => (ADDED, Adc),
             Sec => (COMPARED, Sbc),
             _ => return None,
         };
-        let first = self.past_y(carry)?;
+        let first = self.past_y(self.behind(carry)?)?;
         let keeps = self.behind(first)?;
-        let high = self.past_y(keeps)?;
-        let second = self.past_y(high)?;
+        let high = self.past_y(self.behind(keeps)?)?;
+        let second = self.past_y(self.behind(high)?)?;
         let fits = first.step.op.mnemonic == sum
             && second.step.op.mnemonic == sum
             && keeps_carry(keeps.step.op)
@@ -315,9 +319,8 @@ impl<'a> Code<'a> {
         fits.then_some(Pair::of(rank, low, high)?)
     }
 
-    /// The instruction behind this one, but for one that changes Y.
-    fn past_y(&self, placed: Placed<'a>) -> Option<Placed<'a>> {
-        let then = self.behind(placed)?;
+    /// This instruction, or the one behind it if it changes Y.
+    fn past_y(&self, then: Placed<'a>) -> Option<Placed<'a>> {
         match then.step.op.mnemonic {
             Ldy | Iny | Dey => self.behind(then),
             _ => Some(then),
@@ -377,7 +380,11 @@ impl<'a> Code<'a> {
         };
         if !is_load(two.step.op) {
             let kept = self.kept_twice(one, two);
-            return [kept.or(self.stored_twice(one, two)), self.summed(one), None];
+            return [
+                kept.or(self.stored_twice(one, two)),
+                self.summed(one, two),
+                None,
+            ];
         }
         if one.step.op == two.step.op {
             return [None; 3];
@@ -386,7 +393,7 @@ impl<'a> Code<'a> {
             Some(store) if two.step.op.mnemonic == Ldy => self.stored_twice(one, store),
             _ => None,
         };
-        let more = through.or(self.summed(one));
+        let more = through.or(self.summed(one, two));
         [Pair::of_loads(one, two), Pair::of_loads(two, one), more]
     }
 }
@@ -504,11 +511,12 @@ pub fn halves_of(
             if let Some(pair) = pair
                 && steps.image().start() <= pair.address
                 && pair.meant() < most
-                && (is_address(survey, pair) || is_over_code(survey, pair))
             {
-                let is_sure = pair.meant() < limit
-                    && is_address(survey, pair)
-                    && is_sure(survey, items, pair);
+                let is_address = is_address(survey, pair);
+                if !is_address && !is_over_code(survey, pair) {
+                    continue;
+                }
+                let is_sure = pair.meant() < limit && is_address && is_sure(survey, items, pair);
                 let more = if is_sure { 0 } else { LIKELY };
                 let rank = pair.rank.saturating_add(more);
                 ranks |= 1 << (rank % 32);

@@ -123,13 +123,15 @@ fn clashes(steps: &Steps<'_>, marks: &Marks, outer: u16, distance: u16) -> bool 
 /// Returns whether the instruction of the address, which is marked, shares no byte with another one, but for one in the
 /// operand of one that hides it: with none that begins behind it, and with none of those before it that have `code`.
 pub fn is_apart(steps: &Steps<'_>, marks: &Marks, code: &Marks, address: u16) -> bool {
-    let is_code = code.get(address);
-    [1u16, 2].iter().all(|&distance| {
-        let outer = address.wrapping_sub(distance);
-        !clashes(steps, marks, address, distance)
-            && !(is_code
-                && outer < address
-                && marks.get(outer)
-                && clashes(steps, marks, outer, distance))
-    })
+    let distances = [1u16, 2];
+    let inside = steps.len_at(address).saturating_sub(1);
+    let mut behind = distances.iter().take(inside);
+    if behind.any(|&distance| clashes(steps, marks, address, distance)) {
+        return false;
+    }
+    !code.get(address)
+        || distances.iter().all(|&distance| {
+            let outer = address.wrapping_sub(distance);
+            !(outer < address && marks.get(outer) && clashes(steps, marks, outer, distance))
+        })
 }

@@ -136,24 +136,20 @@ impl<'i> DataWords<'i> {
         let (start, end) = ends(self.image);
         let (mut second, mut before) = (0u8, 0u8);
         for (at, bytes) in (start..end).zip(self.image.bytes().windows(4)) {
-            let is_worth = is_worth(&self.hopeful, bytes);
-            let is_field = is_field(&self.hopeful, at, bytes);
-            let is_named = is_named(&self.hopeful, second, before, bytes);
-            (second, before) = (before, bytes.first().copied().unwrap_or(0));
-            if (is_worth || is_field || is_named)
-                && let Some(at) = address(at)
-                && search.is_open(at)
+            if let Some(here) = address(at)
+                && search.is_open(here)
             {
-                if is_worth {
-                    self.worth.push(at)?;
+                if is_worth(&self.hopeful, bytes) {
+                    self.worth.push(here)?;
                 }
-                if is_field {
-                    self.fields.push(at)?;
+                if is_field(&self.hopeful, at, bytes) {
+                    self.fields.push(here)?;
                 }
-                if is_named {
-                    self.named.push(at)?;
+                if is_named(&self.hopeful, second, before, bytes) {
+                    self.named.push(here)?;
                 }
             }
+            (second, before) = (before, bytes.first().copied().unwrap_or(0));
         }
         Ok(())
     }
