@@ -1,8 +1,9 @@
 -- The parts of a line, step by step, and where they stand.
 use Rattle.std.specs.Prelude.{◌&&◌, ◌++◌, ◌+◌, ◌-◌, ◌<◌, ◌==◌, ◌∷◌, ◌≡◌, ◌≢◌, ◌≤◌}
-use Rattle.stmt65.proofs.Lemmas.{List, [], add-one, and_parts, ap, arith, drop, drop-drop, eqb, eqb-true, false, get_or, length, length-drop, lt-ltb, ne_eqb, refl, suc, sym, take, take_rest, true, zero, ℕ, ◌∙◌}
-use Rattle.stmt65.specs.Words.{Datum, GoesOver, IsWholeOperand, Language, Listing, Number, Part, Repair, StringDatum, Text, Word, alone_at, begins_operand, begins_with, from_operand, goes_on, hex_len, is_ascii_digit, is_blank, is_text_byte, is_word_byte, is_word_start, nat_lt, part_at, part_text, parts, parts_after, parts_left, prefix_len}
+use Rattle.stmt65.proofs.Lemmas.{Bool, List, [], add-one, and_parts, ap, arith, drop, drop-drop, eqb, eqb-true, false, get_or, length, length-drop, lt-ltb, ne_eqb, refl, suc, sym, take, take_rest, true, zero, ℕ, ◌∙◌}
+use Rattle.stmt65.specs.Words.{AreBlanks, AreParts, Datum, GoesOver, IsPart, IsWholeOperand, Language, Listing, Number, Part, Repair, StringDatum, Text, Word, alone_at, begins_operand, begins_with, from_operand, goes_on, hex_len, is_ascii_digit, is_blank, is_text_byte, is_word_byte, is_word_start, list_all, nat_lt, part_at, part_text, parts, parts_after, parts_left, prefix_len}
 use Rattle.stmt65.specs.Places.{EndsBefore, PlacesView}
+use Rattle.stmt65.specs.Places.AreParts.{and_part, nothing}
 use Rattle.stmt65.specs.declared.reading.places.Span.{Span}
 use Rattle.stmt65.specs.Signs.{colon, dollar, equals, quote}
 use Rattle.stmt65.proofs.Cases.{by_test}
@@ -41,6 +42,12 @@ after_blank b bs e = rw e (one_more b (prefix_len is_blank bs) bs)
 pub parts_begin : (l : Language) (bs : List ℕ) → parts l (drop (prefix_len is_blank bs) bs) ≡ parts l bs
 parts_begin l [] = refl
 parts_begin l (b ∷ bs) = by_test (is_blank b) (λ e. ap (parts l) (after_blank b bs e) ∙ parts_begin l bs ∙ sym (parts_blank l b bs e)) (λ e. rw e refl)
+
+-- as many bytes as pass in front, or fewer, all pass
+pub run_passes : (p : ℕ → Bool) (n : ℕ) (xs : List ℕ) → n ≤ prefix_len p xs → list_all p (take n xs) ≡ true
+run_passes p zero xs le = refl
+run_passes p (suc n) [] le = refl
+run_passes p (suc n) (x ∷ xs) le = grind (arith, by_test, (run_passes p n xs))
 
 -- what follows them is none
 pub no_blank : (bs : List ℕ) → 0 < length (drop (prefix_len is_blank bs) bs) → is_blank (get_or (drop (prefix_len is_blank bs) bs) 0 0) ≡ false
@@ -146,7 +153,10 @@ begin_stop line left at n r e lt =
     let same : drop (at + n) line ≡ drop (prefix_len is_blank left) left = rest_after line at n ∙ rw (e, r) refl in
     rw same (no_blank left (omega (arith, ap length same, length-drop (at + n) line)))
 
-pub ruleset begins = (begin_parts, begin_stop)
+pub begin_blanks : (line left : List ℕ) (at n : ℕ) → left ≡ drop at line → n ≡ prefix_len is_blank left → AreBlanks line at (at + n)
+begin_blanks line left at n r e = record { on = omega arith; blank = (let same : (at + n) - at ≡ n = omega arith in rw (same, ← r) (run_passes is_blank n left (omega (arith, e)))) }
+
+pub ruleset begins = (begin_parts, begin_stop, begin_blanks)
 
 -- the place of a part that begins at a place of a line
 pub place_text : (line left : List ℕ) (from len : ℕ) (text : List ℕ) → left ≡ drop from line → text ≡ take len left → take ((from + len) - from) (drop from line) ≡ text
@@ -164,6 +174,24 @@ goes_nowhere p h = record { language = refl; line = refl; on = omega arith; with
 
 pub goes_further : (p q r : PlacesView) → GoesOver p q → GoesOver q r → GoesOver p r
 goes_further p q r h g = record { language = g.language ∙ h.language; line = g.line ∙ h.line; on = omega (arith, h.on, g.on); within = rw (← h.line) g.within }
+
+-- parts, and parts after them
+pub parts_then : (l : Language) (line : List ℕ) (at middle to : ℕ) → AreParts l line at middle → AreParts l line middle to → AreParts l line at to
+parts_then l line at middle to first nothing = first
+parts_then l line at middle to first (and_part from end p before blanks part) = and_part from end p (parts_then l line at middle _ first before) blanks part
+
+pub parts_none : (l : Language) (line : List ℕ) (at : ℕ) → AreParts l line at at
+parts_none l line at = nothing
+
+pub parts_further : (a b c : PlacesView) → GoesOver a b → AreParts a.language a.line a.at b.at → AreParts b.language b.line b.at c.at → AreParts a.language a.line a.at c.at
+parts_further a b c over first others = parts_then a.language a.line a.at b.at c.at first (rw (← over.language, ← over.line) others)
+
+-- two parts
+pub parts_two : (a b c : PlacesView) (s t : Span) (p q : Part) → GoesOver a b → s.to ≡ b.at → t.to ≡ c.at → AreBlanks a.line a.at s.from → IsPart a.language a.line s.from s.to p → AreBlanks b.line b.at t.from → IsPart b.language b.line t.from t.to q → AreParts a.language a.line a.at c.at
+parts_two a b c s t p q over at to blanks part others other =
+    rw (← to) (and_part t.from t.to q (and_part s.from s.to p nothing blanks part) (rw (at, ← over.line) others) (rw (← over.language, ← over.line) other))
+
+pub ruleset terms = (goes_nowhere, goes_further, parts_none, parts_further)
 
 -- of a line some parts were passed over, and among those that are left the next operand is the same
 pub record IsSought (old now : PlacesView) : Type 0 where
@@ -194,12 +222,27 @@ sought_from old now next part from h place e begins =
     rw (← h.over.language, ← h.over.line) place ∙ sym here ∙ h.same
 
 -- a string, and an expression with its terms
-pub sought_text : (old now next : PlacesView) (text : List ℕ) (s : Span) (d : Datum) → IsSought old now → parts now.language (drop s.from now.line) ≡ parts_left now → parts_left now ≡ Text text ∷ parts_left next → s.to ≡ next.at → d ≡ StringDatum text
+pub sought_text : (old now next : PlacesView) (text : List ℕ) (s : Span) (d : Datum) → IsSought old now → IsPart now.language now.line s.from s.to (Text text) → parts now.language (drop s.from now.line) ≡ parts_left now → parts_left now ≡ Text text ∷ parts_left next → s.to ≡ next.at → d ≡ StringDatum text
     → IsWholeOperand old next s d
-sought_text old now next text s d h place e to is = record { from = sought_from old now next (Text text) s.from h place e refl; to = to; ends = rw is tt }
+sought_text old now next text s d h part place e to is = record {
+  from = sought_from old now next (Text text) s.from h place e refl;
+  to = to;
+  ends = rw is tt;
+  run = record { first = Text text; after = s.to; is_first = rw (← h.over.language, ← h.over.line) part; others = nothing };
+}
 
-pub sought_whole : (old now next end : PlacesView) (part : Part) (s t : Span) (d : Datum) → IsSought old now → parts now.language (drop s.from now.line) ≡ parts_left now → parts_left now ≡ part ∷ parts_left next → begins_operand old.language part ≡ true
+pub sought_whole : (old now next end : PlacesView) (part : Part) (s t : Span) (d : Datum) → IsSought old now → IsPart now.language now.line s.from s.to part → GoesOver now next → AreParts next.language next.line next.at end.at → s.to ≡ next.at → parts now.language (drop s.from now.line) ≡ parts_left now → parts_left now ≡ part ∷ parts_left next → begins_operand old.language part ≡ true
     → goes_on (parts_left end) ≡ false → t.from ≡ s.from → t.to ≡ end.at → IsWholeOperand old end t d
-sought_whole old now next end part s t d h place e begins ends from to = record { from = rw from (sought_from old now next part s.from h place e begins); to = to; ends = ends_any d (parts_left end) ends }
+sought_whole old now next end part s t d h is over joined at place e begins ends from to = record {
+  from = rw from (sought_from old now next part s.from h place e begins);
+  to = to;
+  ends = ends_any d (parts_left end) ends;
+  run = record {
+    first = part;
+    after = s.to;
+    is_first = rw (from, ← h.over.language, ← h.over.line) is;
+    others = rw (to, at, ← h.over.language, ← h.over.line, ← over.language, ← over.line) joined;
+  };
+}
 
 pub ruleset operands = (sought_begun, sought_next, sought_text, sought_whole, goes_further)

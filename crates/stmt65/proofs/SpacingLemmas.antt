@@ -2,7 +2,7 @@
 use Rattle.std.specs.Prelude.{◌&&◌, ◌++◌, ◌+◌, ◌<◌, ◌||◌, ◌∷◌, ◌≡◌, ◌≤◌, ◌⊎◌}
 use Rattle.stmt65.proofs.Lemmas.{Bool, List, [], and_parts, ap, append_assoc, arith, drop, drop_at, eqb, eqb-true, false, inl, inr, length, length-drop, length-take, length-take-le, ltb-true, not-true, or_parts, prefix_len-le-length, refl, subst, suc, sym, take, take-append-drop, take_at, true, zero, ℕ, ◌∙◌, length-append}
 use Rattle.stmt65.specs.Words.{Define, IsDecimal, IsHex, IsSpacing, IsText, Listing, Mark, Number, Part, TakesParts, Text, Word, begins_with, hex_len, is_alone, is_ascii_digit, is_ascii_hexdigit, is_blank, is_text_byte, is_word_byte, is_word_start, list_all, nat_lt, part_at, parts, prefix_len}
-use Rattle.stmt65.proofs.PartLemmas.{parts_nil, parts_blank, parts_remark, parts_part}
+use Rattle.stmt65.proofs.PartLemmas.{parts_nil, parts_blank, parts_remark, parts_part, run_passes}
 use Rattle.stmt65.proofs.Cases.{by_test}
 use Rattle.stmt65.proofs.Lexed.{digit_begins, digit_no_word, prefix_stop, word_begins}
 
@@ -12,11 +12,6 @@ use Rattle.stmt65.proofs.Lexed.{digit_begins, digit_no_word, prefix_stop, word_b
 at_least : (p : ℕ → Bool) (xs ys : List ℕ) → list_all p xs ≡ true → length xs ≤ prefix_len p (xs ++ ys)
 at_least p [] ys h = omega arith
 at_least p (x ∷ xs) ys h = let b = and_parts (p x) (list_all p xs) h in rw b.0 (omega (arith, at_least p xs ys b.1))
-
-pub run_passes : (p : ℕ → Bool) (n : ℕ) (xs : List ℕ) → n ≤ prefix_len p xs → list_all p (take n xs) ≡ true
-run_passes p zero xs le = refl
-run_passes p (suc n) [] le = refl
-run_passes p (suc n) (x ∷ xs) le = grind (arith, by_test, (run_passes p n xs))
 
 -- ---- the part in front
 

@@ -3,7 +3,7 @@ use Rattle.stmt65.specs.declared.reading.places.PlacedPart.{PlacedPart}
 use Rattle.stmt65.specs.declared.reading.places.Span.{Span}
 use Rattle.stmt65.specs.Code.PartViews.{part_of}
 use Rattle.std.specs.Prelude.{if◌then◌else◌, ◌++◌, ◌-◌, ◌==◌, ◌∷◌, ◌≡◌, ◌≤◌, ◌||◌}
-use Rattle.stmt65.specs.Types.{Bool, Language, List, Listing, Option, Repair, Some, [], drop, false, get_or, length, take, true, ℕ}
+use Rattle.stmt65.specs.Types.{Bool, Language, List, Listing, Option, Repair, Some, [], drop, false, get_or, is_blank, length, list_all, take, true, ℕ}
 use Rattle.stmt65.specs.Names.{is_name}
 use Rattle.stmt65.specs.Signs.{quote, star, plus, minus, colon, semicolon, equals}
 use Rattle.stmt65.specs.Parts.{Part, Word, Number, Text, Define, Mark}
@@ -79,12 +79,36 @@ abbrev pub EndsBefore : Datum → List Part → Type 0
 EndsBefore (StringDatum t) ps = Unit {0}
 EndsBefore _ ps = goes_on ps ≡ false
 
--- The place begins with the first part with which an operand can begin, and ends where the parts that are left begin,
--- before which it ends.
+-- a part stands from one place of a line to before another
+pub record IsPart (language : Language) (line : List ℕ) (from to : ℕ) (p : Part) : Type 0 where
+  pub text : take (to - from) (drop from line) ≡ part_text p
+  pub reads : parts language (drop from line) ≡ p ∷ parts language (drop to line)
+
+-- nothing but blanks stands from one place of a line to before another
+pub record AreBlanks (line : List ℕ) (from to : ℕ) : Type 0 where
+  pub on : from ≤ to
+  pub blank : list_all is_blank (take (to - from) (drop from line)) ≡ true
+
+-- From one place of a line to before another stand parts, with nothing but blanks before each.
+pub data AreParts (language : Language) (line : List ℕ) (at : ℕ) : ℕ → Type 0 where
+  nothing : AreParts language line at at
+  and_part : {to : ℕ} (from end : ℕ) (p : Part) → AreParts language line at to → AreBlanks line to from → IsPart language line from end p
+      → AreParts language line at end
+
+-- the same, and the first of them stands at the first place
+pub record IsRun (language : Language) (line : List ℕ) (from to : ℕ) : Type 0 where
+  pub first : Part
+  pub after : ℕ
+  pub is_first : IsPart language line from after first
+  pub others : AreParts language line after to
+
+-- The place begins with the first part with which an operand can begin, goes on over parts with nothing but blanks
+-- between them, and ends with the last of these. There the parts begin that are left, before which it ends.
 pub record IsWholeOperand (old new : PlacesView) (s : Span) (d : Datum) : Type 0 where
   pub from : parts old.language (drop s.from old.line) ≡ from_operand old.language (parts_left old)
   pub to : s.to ≡ new.at
   pub ends : EndsBefore d (parts_left new)
+  pub run : IsRun old.language old.line s.from s.to
 
 -- an expression, if nothing is left after it
 abbrev pub value_alone : Language → List Part → Option Value

@@ -41,7 +41,7 @@ unfoldable pub use Rattle.stmt65.specs.Names.{is_name}
 pub use Rattle.stmt65.specs.Operands.{in_row, kind_text, long_text, named_text, prefix_text, row_operands}
 unfoldable pub use Rattle.stmt65.specs.Operands.{operand_text}
 pub use Rattle.stmt65.specs.Parts.{Define, Mark, Number, Part, Text, Word, begins_with}
-pub use Rattle.stmt65.specs.Places.{GoesOver, IsAmong, IsRemarkOf, IsWholeOperand, ReadsAs, StandsIn, begins_operand, bytes_in, goes_on, part_text, parts_left, value_alone}
+pub use Rattle.stmt65.specs.Places.{AreBlanks, AreParts, GoesOver, IsAmong, IsPart, IsRemarkOf, IsRun, IsWholeOperand, ReadsAs, StandsIn, begins_operand, bytes_in, goes_on, part_text, parts_left, value_alone}
 unfoldable pub use Rattle.stmt65.specs.Places.{from_operand}
 pub use Rattle.stmt65.specs.Printable.{AreOperands, IsLong, IsNameLong, IsOperand, IsPrintable, IsTable, IsWrittenIn, MayBeForced, MayBeLabelled, TakesLabel}
 pub use Rattle.stmt65.specs.Printed.{HasLabelName, HasName, HasNames, HasNamesIn, PrintsAs, ReadsBack, address_size, entry_value, row_form, source_line, source_value, with_label}

@@ -2,7 +2,7 @@
 
 ghost use Rattle.std.specs.Prelude.{◌<◌, ◌∷◌, ◌≡◌, ◌≤◌};
 ghost use Rattle.std.specs.Bool.{OnFalse, OnTrue};
-ghost use Rattle.stmt65.specs.Words.{Gives, GoesOver, IfSome, IsAmong, IsRemarkOf, IsWholeOperand, MatchOption, ReadsAs, StandsIn, [], begins_operand, bytes_in, datum_of, drop, false, get_or, goes_on, is_blank, length, part_of, parts, parts_left, value_alone, value_of};
+ghost use Rattle.stmt65.specs.Words.{AreBlanks, AreParts, Gives, GoesOver, IfSome, IsAmong, IsPart, IsRemarkOf, IsWholeOperand, MatchOption, ReadsAs, StandsIn, [], begins_operand, bytes_in, datum_of, drop, false, get_or, goes_on, is_blank, length, part_of, parts, parts_left, value_alone, value_of};
 
 use crate::language::Language;
 use crate::reading::expressions::next_value;
@@ -104,6 +104,7 @@ impl<'a> Places<'a> {
         ensures parts { parts self.now.language (drop result self.now.line) ≡ parts_left self.now }
         ensures stop { result < length self.now.line
             → is_blank (get_or (drop result self.now.line) 0 0) ≡ false }
+        ensures blanks { AreBlanks self.now.line self.now.at result }
         ensures on { self.now.at ≤ result }
         ensures fits { result ≤ length self.now.line }
     {
@@ -124,6 +125,11 @@ impl<'a> Places<'a> {
         ensures from { IfSome result (λ p.
             parts self.old.language (drop p.span.from self.old.line) ≡ parts_left self.old) }
         ensures to { IfSome result (λ p. p.span.to ≡ self.new.at) }
+        /// Nothing but blanks stands before it.
+        ensures blanks { IfSome result (λ p.
+            AreBlanks self.old.line self.old.at p.span.from) }
+        ensures part { IfSome result (λ p.
+            IsPart self.old.language self.old.line p.span.from p.span.to (part_of p.part)) }
     {
         let from = self.begin();
         let (_, left) = self.line.split_at(from);
@@ -170,10 +176,14 @@ impl<'a> Places<'a> {
         ensures fewer { OnTrue result
             (length (parts_left self.new) < length (parts_left self.old)) }
         ensures left { OnFalse result (self.new ≡ self.old) }
+        ensures joined { OnTrue result
+            (AreParts self.old.language self.old.line self.old.at self.new.at) }
     {
         let mut ahead = self.copied();
-        let (sign, term) = (ahead.next(), ahead.next());
-        let (Some(sign), Some(term)) = (sign, term) else {
+        let Some(sign) = ahead.next() else {
+            return false;
+        };
+        let Some(term) = ahead.next() else {
             return false;
         };
         let is_term = matches!(sign.part, Part::Mark(b'+' | b'-'))
@@ -186,11 +196,12 @@ impl<'a> Places<'a> {
 
     /// Passes over what is added and subtracted after the first part of an expression, and returns where the last part
     /// ends that was passed over.
-    #[tactic(auto, using(crate::proofs::PartLemmas::goes_nowhere, crate::proofs::PartLemmas::goes_further))]
+    #[tactic(auto, using(crate::proofs::PartLemmas::terms))]
     fn pass_terms(&mut self) -> usize
         ensures over { GoesOver self.old self.new }
         ensures to { result ≡ self.new.at }
         ensures ends { goes_on (parts_left self.new) ≡ false }
+        ensures joined { AreParts self.old.language self.old.line self.old.at self.new.at }
     {
         let mut to = self.at;
         'terms: while self.pass_term() {
@@ -205,8 +216,9 @@ impl<'a> Places<'a> {
         /// The bytes at the place of an operand are the string, or read as the expression and nothing else.
         ensures reads { IfSome result (λ o.
             ReadsAs self.old.language (bytes_in o.span self.old.line) (datum_of o.datum)) }
-        /// The place is the whole operand: it begins with the next part with which one can begin, and ends where the
-        /// parts begin that are left, with which its expression does not go on.
+        /// The place is the whole operand: it begins with the next part with which one can begin, goes on over parts
+        /// with nothing but blanks between them, and ends with the last of these. With the parts that are left its
+        /// expression does not go on.
         ensures whole { IfSome result (λ o.
             IsWholeOperand self.old self.new o.span (datum_of o.datum)) }
         ensures over { GoesOver self.old self.new }
