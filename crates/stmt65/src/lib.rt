@@ -48,7 +48,7 @@ pub use printing::line::{Line, put_line};
 pub use printing::remarks::Remarks;
 pub use reading::lexer::Part;
 pub use reading::numeral::Numeral;
-pub use reading::places::{Head, Operand, PlacedPart, Places, Span, read_value};
+pub use reading::places::{Head, Operand, PlacedPart, Places, Span};
 pub use reading::whole_line::read_line;
 pub use source_line::{
     AddressSize, Datum, Form, Half, Minus, Notation, Operation, SourceLine, Value,

@@ -62,8 +62,7 @@ impl<'a> Model for Places<'a> {
 }
 
 /// The expression that the bytes are, if they are one and nothing else.
-pub fn read_value<'a>(language: Language, bytes: &'a [u8]) -> Option<Value<'a>>
-    /// Returns the expression that some bytes are, if they are one and nothing else.
+fn read_value<'a>(language: Language, bytes: &'a [u8]) -> Option<Value<'a>>
     ensures { Gives value_of result (value_alone language (parts language bytes.now)) }
 {
     let mut parts = Parts::new(language, bytes);
