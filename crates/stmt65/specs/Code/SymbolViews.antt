@@ -1,6 +1,7 @@
 -- What the table of names stands for.
 use denote.Ref.{Bor}
 use Rattle.std.specs.Prelude.{◌≡◌, ℕ, zero, suc, ◌+◌, ◌*◌, ◌/◌, ◌%◌, ◌<◌, ◌≤◌, Bool, false, List, [], ◌∷◌, get_or, length, map, fold, if◌then◌else◌, Option, Some, None}
+use Rattle.std.specs.Int.Bits.{bit_xor}
 use Rattle.std.specs.Option.{option_map}
 use Rattle.std.specs.List.{slice_get}
 use Rattle.std.specs.Str.{bytes_eq}
@@ -22,9 +23,9 @@ first_at q (d ∷ ds) = if bytes_eq d.name q then Some 0 else option_map suc (fi
 unfoldable pub hash_of : List ℕ → ℕ
 hash_of = fold (λ n b. (n + b) % 18446744073709551616 * 11400714819323198485 % 18446744073709551616) 0
 
--- the slot of a name, one of so many, by the upper bits of the hash
+-- the slot of a name, one of so many, by the upper half of the hash and its uppermost bits
 abbrev pub slot_of : ℕ → List ℕ → ℕ
-slot_of count q = hash_of q / 4294967296 % count
+slot_of count q = bit_xor (hash_of q / 4294967296) (hash_of q / 140737488355328) % count
 
 abbrev pub is_named : List ℕ → Option CodeDefinition → Bool
 is_named q None = false

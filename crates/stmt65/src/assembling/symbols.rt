@@ -16,7 +16,10 @@ const FEWEST: usize = 16;
 
 const MOST: usize = 0x4_0000;
 
-const HASHES_OF_A_SLOT: u64 = 0x1_0000_0000;
+/// The upper half of a hash, and its uppermost bits.
+const UPPER_HALF: u64 = 0x1_0000_0000;
+
+const UPPERMOST: u64 = 0x8000_0000_0000;
 
 /// An odd number whose multiples have high bits that differ much.
 const FACTOR: u64 = 0x9E37_79B9_7F4A_7C15;
@@ -79,13 +82,15 @@ fn hash_of(name: &[u8]) -> u64
     hash
 }
 
-/// The slot of a name, one of so many.
+/// The slot of a name, one of so many. Names that differ in a digit have hashes at even distances, which the uppermost bits
+/// make uneven.
 fn slot_of(count: usize, name: &[u8]) -> usize
     requires { 0 < count }
     ensures slot { result ≡ slot_of count name.now }
     ensures within { result < count }
 {
-    (hash_of(name) / HASHES_OF_A_SLOT) as usize % count
+    let hash = hash_of(name);
+    ((hash / UPPER_HALF) ^ (hash / UPPERMOST)) as usize % count
 }
 
 /// Slots for about so many names, none of which is taken.
