@@ -82,8 +82,8 @@ fn hash_of(name: &[u8]) -> u64
     hash
 }
 
-/// The slot of a name, one of so many. Names that differ in a digit have hashes at even distances, which the uppermost bits
-/// make uneven.
+/// The slot of a name, one of so many. Names that differ in a digit have hashes at even distances, which the
+/// uppermost bits make uneven.
 fn slot_of(count: usize, name: &[u8]) -> usize
     requires { 0 < count }
     ensures slot { result ≡ slot_of count name.now }

@@ -124,7 +124,7 @@ impl<'a> Places<'a> {
         ensures from { IfSome result (λ p.
             parts self.old.language (drop p.span.from self.old.line) ≡ parts_left self.old) }
         ensures to { IfSome result (λ p. p.span.to ≡ self.new.at) }
-        /// Nothing but blanks stands before it.
+        /// The part stands whole at its place, and nothing but blanks before it.
         ensures blanks { IfSome result (λ p.
             AreBlanks self.old.line self.old.at p.span.from) }
         ensures part { IfSome result (λ p.
