@@ -83,22 +83,42 @@ def groups(kind, count):
                    for k in range(count))
 
 
-def sharing(count, factor, scale, modulus, room):
-    """That many names with a hash below `room`, so that they share a slot. A letter adds to the hash so far times the
+def sharing(count):
+    """That many names with a hash of 0 in da65, so that they share a slot. A letter adds to the hash so far times the
     factor, so the hash of a name is that of its first half times a power, and that of its second half."""
+    factor, modulus = 413293, 1 << 20
+
     def hashed(word):
-        return scale * functools.reduce(lambda value, letter: value * factor + ord(letter), word, 0) % modulus
+        return functools.reduce(lambda value, letter: value * factor + ord(letter), word, 0) % modulus
 
     words, found = ["".join(four)[::-1] for four in itertools.product("abcdefghijklmnopqrstuvwxyz", repeat=4)], []
     ends = sorted((hashed(word), word) for word in words)
     for first in words:
         low = -hashed(first) * factor**4 % modulus
         at = bisect.bisect(ends, (low, ""))
-        while at < len(ends) and ends[at][0] < low + room:
+        while at < len(ends) and ends[at][0] == low:
             found.append(first + ends[at][1])
             at += 1
         if len(found) >= count:
             return found[:count]
+
+
+# Words with the hash of `mmmmmmmmmmmmmmmmmmmm` in as65, where that is a sum of the letters, each times a power of one
+# number.
+ALIKE = """
+    nknmoqrmomjpkqjompql prkjjqhlnolqoimmnpll slkorkqknpnlkpqrlnjl lmjpjknkotrjnqrmmnlo jpkoknpllikqnlnhjfpn
+    snpqrlpkkplnkmkmrrll lnhpqlohslkklpgmmlll oromnlmjmkomjghsqomm mnnilmnkqqfmlmmjsopi pinmojqopmmjplqtjlqo
+    klimlgqorpqkmohninno jrfmokpilnpkkjmjplmh
+""".split()
+
+
+def alike(count):
+    """That many words with one hash: what these words have beyond `m` is added or taken away."""
+    words = [(0,) * len(ALIKE[0])]
+    for step in ([ord(letter) - ord("m") for letter in word] for word in ALIKE):
+        words = [tuple(a + sign * b for a, b in zip(word, step)) for word in words for sign in (-1, 0, 1)]
+        words = [word for word in words if max(map(abs, word)) <= 12]
+    return ["".join(chr(letter + ord("m")) for letter in word) for word in words[:count]]
 
 
 def information(kind, count):
@@ -107,7 +127,7 @@ def information(kind, count):
         return f'ASMINC {{ FILE "{write(f"{count}.inc", groups(kind, count))}"; }};'
     if kind == "colliding":
         return "".join(f'LABEL {{ ADDR ${k:04X}; NAME "{name}"; }};\n'
-                       for k, name in enumerate(sharing(count, 413293, 1, 1 << 20, 1)))
+                       for k, name in enumerate(sharing(count)))
     return groups(kind, count)
 
 
@@ -176,16 +196,14 @@ def test_large_information_files(da65, shows, kind, count, half, limit, kilobyte
 
 
 def files(what, kind, count):
-    """The texts of files by the ends of their names, with so many of something. Names that are `sharing` share
-    one of the 262,144 slots that as65 has for a listing of 4 MiB and more."""
+    """The texts of files by the ends of their names, with so many of something."""
     numbers = range(count)
     return {
         "bytes": lambda: {"info": information(kind, count), "bin": count * b"\xea"},
         "jumps": lambda: {"info": groups(kind, count), "bin": b"".join(
             b"\x4c" + (32768 + n * 7919 % count).to_bytes(2, "little") for n in numbers)},
         "definitions": lambda: {"s": groups("definitions", count) + " nop\n"},
-        "sharing": lambda: {"s": f"; {'':<{1 << 22}}\n nop\n" + "".join(
-            f"{name} := 0\n" for name in sharing(count, 0x9E3779B97F4A7C15, 0x9E3779B97F4A7C15, 1 << 50, 1 << 32))},
+        "sharing": lambda: {"s": " nop\n" + "".join(f"{name} := 0\n" for name in alike(count))},
         "lines": lambda: {"s": count * " .byte 0,1\n", "bin": bytes(2 * count)},
         "moved": lambda: {"s": " nop\n" + "".join(f"L{2 * n:04X}: nop\n nop\n" for n in numbers),
                           "bin": 2 * count * b"\xea"},

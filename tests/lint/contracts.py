@@ -1,5 +1,5 @@
-"""A snapshot of the public contracts: docs/contracts/CRATE.txt has every public item of a crate that has clauses, these word for word, and a
-checksum of each definition that they cite. Public is what the root of a library exports, and whatever a row of docs/PROOFS.md names; in a program,
+"""A snapshot of the public contracts: docs/contracts/CRATE.txt has every public item of a crate that has clauses, these word for word, and at its
+end a checksum of each definition that they cite. Public is what the root of a library exports, and whatever a row of docs/PROOFS.md names; in a program,
 every `pub` item."""
 
 import re
@@ -11,6 +11,7 @@ from source import ATTRIBUTE, CRATES, IMPL, ROOT, TYPES, differs, module_file, s
 SNAPSHOT = ROOT / "docs" / "contracts"
 PRELUDE = "std.Prelude"
 CLAUSE = re.compile("requires|ensures|decreases|ghost")
+CITES = "cites "
 
 
 def entry(here, head, lines, ghosts=()):
@@ -21,8 +22,8 @@ def entry(here, head, lines, ghosts=()):
         here.refuse(f"{head} names other files outside `ghost use`")
     cited = set().union(*(cited_in(line, named) for line in clauses))
     outside = {one for one in cited if isinstance(one, str)}
-    sums = sorted(f"cites {definition(one).name} {checksum(one)}" for one in cited - outside)
-    return head, [*lines, *sums, *sorted(f"cites {one}" for one in outside if not one.startswith(PRELUDE))]
+    sums = sorted(f"{CITES}{definition(one).name} {checksum(one)}" for one in cited - outside)
+    return head, [*lines, *sums, *sorted(CITES + one for one in outside if not one.startswith(PRELUDE))]
 
 
 def visible(text):
@@ -113,8 +114,15 @@ def plain_entry(here, item):
 
 
 def snapshot(crate):
-    found = sorted(one for one in entries(crate) if any(map(CLAUSE.match, one[1])))
-    return "".join(head + "\n" + "".join(f"    {line}\n" for line in lines) + "\n" for head, lines in found)
+    """The entries that have a clause, each with its `impl` in its first line, and then each definition that one of them cites, once."""
+    listed, cited = [], set()
+    for head, lines in sorted(one for one in entries(crate) if any(map(CLAUSE.match, one[1]))):
+        cited.update(line.removeprefix(CITES) for line in lines if line.startswith(CITES))
+        lines = [line for line in lines if not line.startswith(CITES)]
+        listed.append((f"{head} of {lines[0]}", lines[1:]) if lines[0].startswith("impl") else (head, lines))
+    if cited:
+        listed.append(("definitions", sorted(cited)))
+    return "".join(head + "\n" + "".join(f"    {line}\n" for line in lines) + "\n" for head, lines in listed)
 
 
 def check(write):
