@@ -13,17 +13,6 @@ use Rattle.name65.specs.declared.operands.Style.TheVariants as style
 use Rattle.name65.specs.declared.plan.NewText.{NewText}
 use Rattle.name65.specs.declared.plan.PlacedLine.{PlacedLine}
 
--- one blank more
-pub more_blank : (old out new : List ℕ) → AppendsOne AreBlanks old out → new ≡ out ++ 32 ∷ [] → AppendsOne AreBlanks old new
-more_blank old out new before e = record {
-  text = before.text ++ 32 ∷ [];
-  is_one = rw (list_all-append is_blank before.text (32 ∷ []), before.is_one) refl;
-  whole = rw (e, before.whole, append_assoc) refl;
-}
-
-pub first_blank : (old new : List ℕ) → new ≡ old ++ 32 ∷ [] → AppendsOne AreBlanks old new
-first_blank old new e = record { text = 32 ∷ []; is_one = refl; whole = e }
-
 -- operands of a list that were appended, with what stands before each, and what is left
 pub record Done (scope : Scope) (s : Style) (start at : ℕ) (all rest old out : List ℕ) : Type 0 where
   pub was : List ℕ

@@ -1,12 +1,14 @@
 -- What lines do not become.
-use Rattle.std.proofs.Common.{◌≡◌, ◌==◌, ◌&&◌, ◌+◌, ◌++◌, ◌≢◌, ℕ, Bool, true, false, List, [], ◌∷◌, None, ap, arith, codes, get_or, not, refl}
+use Rattle.std.proofs.Common.{◌≡◌, ◌==◌, ◌&&◌, ◌+◌, ◌-◌, ◌++◌, ◌≢◌, ◌≤◌, ◌∙◌, ℕ, zero, suc, Bool, true, false, List, [], ◌∷◌, None, ap, arith, codes, get_or, length, not, refl, sym, take}
 use Rattle.std.proofs.lemmas.Bool.Decides.{nat_tests}
 use Rattle.std.proofs.lemmas.List.Elements.{filter-append}
 use Rattle.std.specs.List.{filter, list_all}
 use Rattle.text65.specs.Names.{is_blank}
+use Rattle.stmt65.specs.Words.{AreBlanks, AreParts, IsPart, Part, Value, part_at, part_text, parts_after}
+use Rattle.stmt65.specs.Places.AreParts.{and_part, nothing}
 use Rattle.stmt65.specs.declared.language.Language.TheVariants.{Repair}
 use Rattle.stmt65.specs.declared.source_line.Half.TheVariants.{High, Low}
-use Rattle.name65.specs.Changes.{Becomes, IsRest, LineBecomes, Scope, are_named, as_before, by_name, comment, difference, kept, left_out, moved, rewritten, stays, untouched}
+use Rattle.name65.specs.Changes.{Becomes, IsRest, IsWhole, LineBecomes, Scope, are_named, as_before, by_name, comment, difference, kept, left_out, moved, rewritten, stays, untouched}
 use Rattle.name65.specs.declared.operands.Style.{Style}
 use Rattle.name65.specs.declared.operands.Style.TheVariants as style
 
@@ -70,3 +72,46 @@ line_stays at end line text tail (rewritten {new = new} n is) e f = some_end new
 line_stays at end line text tail (stays name n says free) e f = some_end line e
 line_stays at end line text tail (left_out name n says used) e f = cc
 line_stays at end line text tail (moved {new = new} name n distance says free is is_new value) e f = some_end new f
+
+-- ---- a number ends with its last digit
+
+abbrev noted : List ℕ
+noted = codes "$34 ; x"
+
+-- a blank and then a remark
+one_blank : (k : ℕ) → list_all is_blank (take k (codes " ; x")) ≡ true → k ≤ 1
+one_blank zero e = omega arith
+one_blank (suc zero) e = omega arith
+one_blank (suc (suc k)) e = absurd cc
+
+no_part : (from end : ℕ) (p : Part) → AreBlanks noted 3 from → IsPart Repair noted from end p → ⊥
+unfolding parts_after
+no_part zero end p blanks part = absurd (omega (arith, blanks.on))
+no_part (suc zero) end p blanks part = absurd (omega (arith, blanks.on))
+no_part (suc (suc zero)) end p blanks part = absurd (omega (arith, blanks.on))
+no_part (suc (suc (suc zero))) end p blanks part = let e = part.reads in cc
+no_part (suc (suc (suc (suc zero)))) end p blanks part = let e = part.reads in cc
+no_part (suc (suc (suc (suc (suc n))))) end p blanks part = let few = one_blank (suc (suc (suc (suc (suc n)))) - 3) blanks.blank in absurd (omega (arith, few))
+
+ends_there : (to : ℕ) → AreParts Repair noted 3 to → to ≡ 3
+ends_there to nothing = refl
+ends_there to (and_part from end p before blanks part) = absurd (no_part from end p (rw (← ends_there _ before) blanks) part)
+
+abbrev digits : List Part → ℕ
+digits [] = 0
+digits (p ∷ ps) = length (part_text p)
+
+three : (after : ℕ) → length (take after noted) ≡ 3 → after ≡ 3
+three zero e = cc
+three (suc zero) e = cc
+three (suc (suc zero)) e = cc
+three (suc (suc (suc zero))) e = refl
+three (suc (suc (suc (suc n)))) e = cc
+
+note_stays : (v : Value) → IsWhole Repair noted v → ⊥
+unfolding parts_after part_at
+note_stays v is =
+    let first : 3 ≡ length (part_text is.run.first) = ap digits is.run.is_first.reads in
+    let same : is.run.after - 0 ≡ is.run.after = omega arith in
+    let after : is.run.after ≡ 3 = sym same ∙ three (is.run.after - 0) (ap length is.run.is_first.text ∙ sym first) in
+    absurd (omega (arith, ends_there 7 (rw (← after) is.run.others)))

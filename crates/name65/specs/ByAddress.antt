@@ -1,5 +1,5 @@
 -- Values by addresses.
-use Rattle.std.specs.Prelude.{◌-◌, ◌==◌, ℕ, List, Option, Some, None, get_or, if◌then◌else◌}
+use Rattle.std.specs.Prelude.{◌-◌, ◌==◌, ℕ, List, Option, None, get_or, if◌then◌else◌}
 use Rattle.std.specs.List.{slice_get}
 
 -- the value with a number, from 1

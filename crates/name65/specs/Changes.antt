@@ -7,7 +7,7 @@
 use Rattle.std.specs.Prelude.{◌≡◌, ◌++◌, ℕ, ◌+◌, ◌-◌, Bool, true, false, List, [], ◌∷◌, codes, decimal, length, not, ◌==◌, ◌&&◌, nat_le, nat_lt, ◌||◌, if◌then◌else◌, Option, Some}
 use Rattle.std.specs.List.{list_all, list_any, range_with_len}
 use Rattle.text65.specs.Names.{has_name_form, is_blank}
-use Rattle.stmt65.specs.Words.{Assignment, NumberValue, PlaceAssignment, SourceLine, Value, begins_with, held, parts, reading_of, same, value_alone}
+use Rattle.stmt65.specs.Words.{Assignment, IsRun, NumberValue, PlaceAssignment, SourceLine, Value, begins_with, held, parts, reading_of, same, value_alone}
 use Rattle.stmt65.specs.declared.language.Language.{Language}
 use Rattle.stmt65.specs.declared.source_line.Half.{Half}
 use Rattle.stmt65.specs.declared.source_line.Half.TheVariants.{High, Low}
@@ -62,15 +62,20 @@ half_text half r = sign_of half ++ enclosed r.offset (reference_text r)
 abbrev pub IsByName : Reference → Type 0
 IsByName r = has_name_form r.name.now ≡ true
 
+-- the text is this expression, from its first byte to its last
+pub record IsWhole (language : Language) (text : List ℕ) (v : Value) : Type 0 where
+  pub reads : value_alone language (parts language text) ≡ Some v
+  pub run : IsRun language text 0 (length text)
+
 -- the text is an expression and nothing else
 pub record IsValue (language : Language) (text : List ℕ) : Type 0 where
   pub value : Value
-  pub reads : value_alone language (parts language text) ≡ Some value
+  pub is : IsWhole language text value
 
 -- the text is a number and nothing else
 pub record IsNumber (language : Language) (text : List ℕ) : Type 0 where
   pub number : ℕ
-  pub reads : value_alone language (parts language text) ≡ Some (NumberValue number)
+  pub is : IsWhole language text (NumberValue number)
 
 -- ---- lists of operands
 

@@ -1,10 +1,9 @@
 -- What is known of the names of a listing, as code keeps it.
-use Rattle.std.specs.Prelude.{◌≡◌, ◌&&◌, ℕ, Bool, true, false, not, List, Option, Some, None, if◌then◌else◌, map, option_map}
-use Rattle.info65.specs.declared.information.info.Info.{Info}
+use Rattle.std.specs.Prelude.{◌&&◌, ℕ, not, Option, Some, None, if◌then◌else◌, option_map}
 use Rattle.stmt65.specs.Words.{Definition, definition_of}
 use Rattle.stmt65.specs.declared.assembling.symbols.Definition.{Definition as ADefinition}
 use Rattle.name65.specs.ByAddress.{value_at}
-use Rattle.name65.specs.NameFor.{KnownView, are_returns, is_of}
+use Rattle.name65.specs.NameFor.{KnownView, is_of}
 use Rattle.name65.specs.declared.by_address.ByAddress.{ByAddress}
 use Rattle.name65.specs.declared.known.Known.{Known}
 

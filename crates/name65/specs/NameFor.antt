@@ -3,7 +3,7 @@
 -- Of several names of an address a label counts before a constant line, and of two of a kind the first. An address is
 -- written by its own name, or else by that of which it is one of SIZE addresses, or else by that of the next address,
 -- as return addresses are; in a table of return addresses that of the next address comes first.
-use Rattle.std.specs.Prelude.{◌≡◌, ◌==◌, ◌&&◌, ◌<◌, ◌≤◌, ◌+◌, ◌-◌, ◌*◌, ℕ, Bool, true, false, not, List, Option, Some, None, if◌then◌else◌, is_some, nat_le, nat_lt, option_and_then, option_map}
+use Rattle.std.specs.Prelude.{◌≡◌, ◌==◌, ◌&&◌, ◌<◌, ◌+◌, ◌-◌, ◌*◌, ℕ, Bool, true, false, not, List, Option, Some, None, if◌then◌else◌, is_some, nat_le, nat_lt, option_and_then, option_map}
 use Rattle.std.specs.List.{find, list_any, range_with_len, slice_get}
 use Rattle.std.specs.Option.{option_or, unwrap_or}
 use Rattle.info65.specs.Words.{NameView, covering}

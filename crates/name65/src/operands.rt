@@ -3,7 +3,8 @@
 ghost use Rattle.std.specs.Prelude.{◌≡◌, ◌+◌, IfSome, IsTrue, OnOk, true};
 ghost use Rattle.std.specs.List.{list_all};
 ghost use Rattle.map65.specs.Words.{is_marked};
-ghost use Rattle.name65.specs.Changes.{AreHalves, IsValue, are_named, count_of, directive_of, is_between, may_keep, size_of};
+ghost use Rattle.stmt65.specs.Words.{value_of};
+ghost use Rattle.name65.specs.Changes.{AreHalves, IsValue, IsWhole, are_named, count_of, directive_of, is_between, may_keep, size_of};
 ghost use Rattle.name65.specs.NameFor.{IsHalf, reference_seen};
 ghost use Rattle.name65.specs.Written.{IsNamedNumber, Replaces, scope_seen};
 
@@ -14,7 +15,7 @@ use crate::reference::{Reference, put_in_list};
 use crate::rewriting::Run;
 use crate::wishes::{Wish, Wished, Wishes};
 use map65::Marks;
-use stmt65::{Datum, Half, Language, Places, Span, Value, read_value};
+use stmt65::{Datum, Half, Language, Operand, Places, Span, Value};
 use text65::{has_name_form, is_blank};
 
 /// What the operands of a list are.
@@ -178,11 +179,24 @@ pub fn are_between(bytes: &[u8]) -> bool
     bytes.iter().all(|byte| is_between(*byte))
 }
 
+/// The expression that a text is, from its first byte to its last.
+#[tactic(auto, using(crate::proofs::PlaceLemmas::whole_text))]
+fn whole_value(language: Language, text: &[u8]) -> Option<Value<'_>>
+    ensures { IfSome result (λ v. IsWhole language text.now (value_of v)) }
+{
+    let mut places = Places::new(language, text);
+    let Operand { datum, span } = places.operand()?;
+    match datum {
+        Datum::Value(value) if span.from == 0 && span.to == text.len() => Some(value),
+        _ => None,
+    }
+}
+
 /// Whether a text is an expression.
 pub fn is_value(language: Language, text: &[u8]) -> bool
     ensures { IsTrue result → IsValue language text.now }
 {
-    match read_value(language, text) {
+    match whole_value(language, text) {
         Some(_) => true,
         None => false,
     }
@@ -204,7 +218,7 @@ fn are_named(marks: &Marks, style: Style, at: u64) -> bool
 fn is_named_number(item: &Run<'_, '_>) -> bool
     ensures { IsTrue result → IsNamedNumber item.now }
 {
-    match read_value(item.plan.language, item.text) {
+    match whole_value(item.plan.language, item.text) {
         Some(Value::Number(_) | Value::Sum(_, _)) => {
             are_named(item.plan.marks, item.style, item.at)
         }
