@@ -221,6 +221,11 @@ def files(what, kind, count):
         "branches": lambda: {"s": "".join(f"l{n}: ldx #<l{n}\n cpx #{6 * n % 256}\n bne l{n + 1}\n" for n in numbers)
                              + f"l{count}: rts\n", "info": "".join(
             f"#: HALVES {{ LOW ${0x8000 + 2 * n:04X}; HIGH ${0x8001 + 2 * n:04X}; }};\n" for n in numbers)},
+        # A group AFTER for each name after the image.
+        "after": lambda: {"bin": b"".join(b"\x8d" + (0x8000 + 4 * n).to_bytes(2, "little") for n in numbers) + b"\x60",
+                          "info": "".join(
+            f'LABEL {{ ADDR ${0x8000 + 4 * n:04X}; NAME "v{n}"; }};\n'
+            f"#: AFTER {{ START ${0x8000 + 4 * n:04X}; END ${0x8001 + 4 * n:04X}; }};\n" for n in numbers)},
         "digits": lambda: {"s": f"{kind}{0:0{count}}1\n"},
         "line": lambda: {"s": " .byte 0,1" + (count - 1) * ",0,1" + "\n", "bin": bytes(2 * count)},
     }[what]()
