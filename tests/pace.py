@@ -5,11 +5,11 @@ than 2.3 times, the line begins with GROWS. It runs by hand; what it finds belon
 Usage: python3 tests/pace.py [-n 500] [-j 4] [--seconds] FOLDER [WORD..]
 
 FOLDER has the programs, and the words are pieces of the names of cases, as in `html65 jumps`. If the status is not 0,
-the program may have refused its input, and not read the rest."""
+the program may have refused its input, and not read the rest. move65 runs no more than 100 instructions from a routine,
+so that each size comes to that limit."""
 import argparse, itertools, multiprocessing.pool, os, random, re, subprocess, tempfile
 
 UNIT = 16
-draw = random.Random(1)
 
 
 def word(value):
@@ -49,7 +49,7 @@ IMAGES = {
     "words": lambda k, n: b"".join(word(other(k + i, n)) for i in range(8)),
     "lengths": lambda k, n: unit(8 * b"\xea", word(UNIT)),
     "zeros": lambda k, n: bytes(UNIT),
-    "random": lambda k, n: draw.randbytes(UNIT),
+    "random": lambda k, n: random.Random(k).randbytes(UNIT),
 }
 LINES = {
     "definitions": "d{k} := ${k:04X}\n nop\n", "names": "l{k}: lda l{j}\n", "jumps": "l{k}: jmp l0\n",
@@ -126,7 +126,8 @@ def measured(case):
                 if subprocess.run(words, cwd=here, stderr=subprocess.DEVNULL).returncode:
                     return case, 3 * [(0, 1)], ""
                 os.replace(here + "/a.s", here + "/a.in")
-            words = ["timeout", "600", f"{there}/{program}", "-i", "a.info", "a.in"]
+            steps = ["--steps", "100"] if program == "move65" else []
+            words = ["timeout", "600", f"{there}/{program}", *steps, "-i", "a.info", "a.in"]
             made.append(taken(words, here, True) if in_seconds else taken(words[2:], here, False))
     counts = [count for count, _ in made]
     grows = counts[2] > 2.3 * counts[1] and counts[2] > (0.2 if in_seconds else 10)
