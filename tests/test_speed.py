@@ -2,7 +2,7 @@
 beside ca65 and ld65 on the same listing, trace65 and move65 alone; and seconds of move65. A row has the figure of
 docs/GATE.md, and fails if it is a twentieth above that. Twice as much takes at most 2.3 times the instructions, or as
 many times as a row says. The end of the run has the figures."""
-import bisect, functools, itertools, random, re
+import bisect, functools, itertools, os, random, re
 import pytest
 from conftest import ROOT, Program, read, same, tables, write
 
@@ -132,9 +132,12 @@ def information(kind, count):
 
 
 def instructions(program, words, status=0):
-    """How many instructions it takes, with this status."""
+    """How many instructions it takes, with this status. It has no environment but PATH, since the loader reads that: each
+    variable costs some 500 instructions."""
     words = ["--tool=callgrind", "--callgrind-out-file=/dev/null", program, *words.split()]
-    return int(re.search(rb"Collected : (\d+)", Program("valgrind")(words, status, None, None, timeout=600).err)[1])
+    ran = Program("valgrind")(words, status, None, None, before=("env", "-i", "PATH=" + os.environ["PATH"]),
+                             timeout=600)
+    return int(re.search(rb"Collected : (\d+)", ran.err)[1])
 
 
 @pytest.fixture
