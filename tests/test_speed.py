@@ -132,8 +132,8 @@ def information(kind, count):
 
 
 def instructions(program, words, status=0):
-    """How many instructions it takes, with this status. It has no environment but PATH, since the loader reads that: each
-    variable costs some 500 instructions."""
+    """How many instructions it takes, with this status. It has no environment but PATH, since the loader reads that:
+    each variable costs some 500 instructions."""
     words = ["--tool=callgrind", "--callgrind-out-file=/dev/null", program, *words.split()]
     ran = Program("valgrind")(words, status, None, None, before=("env", "-i", "PATH=" + os.environ["PATH"]),
                              timeout=600)
