@@ -5,19 +5,19 @@ from source import ROOT
 
 CRATES = ROOT / "crates"
 
-# The wrong bodies that the gate tries, by the crate whose contract refuses them: those of what da65 lists. The first edit of a crate costs a
-# second proof of it.
+# The wrong bodies that the gate tries, by the crate whose contract refuses them: those of what da65 lists, and of the map that it lists by. The
+# first edit of a crate costs a second proof of it.
 WRONG_BODIES = {
     "da65": """everything_as_bytes no_forced_absolute always_forced_absolute zero_page_by_image_name inner_label_after
         return_entry_without_minus_one dbyt_low_byte_first listing_before_refusal write_fault_without_a_fault writes_the_image
         sized_by_base_name words_joined_over_a_name drops_or_repeats_lines""",
+    "map65": "branch_wraps instruction_runs_into_data name_for_every_address write_fault_without_a_fault tries_again_after_a_fault",
 }
 
 # Those that tests/wrong_bodies tries, by hand: as long as the clauses stand that docs/contracts keeps, they stay refused. Those of run65,
 # which has no contract, are not safe.
 BY_HAND = {
-    "map65": """branch_wraps instruction_runs_into_data name_for_every_address empty_cells write_fault_without_a_fault
-        tries_again_after_a_fault failed_reader_is_at_its_end write_of_no_byte_accepted""",
+    "map65": "empty_cells failed_reader_is_at_its_end write_of_no_byte_accepted",
     "info65": "last_range_wins later_include_replaces keeps_names_of_a_refused_include out_of_memory_past_a_mebibyte",
     "stmt65": "zero_page_for_a_later_name refuses_every_text accepts_a_doubled_name sized_by_base_name",
     "da65": "no_line_at_once empty_lines_passed_over lines_after_a_failed_write",
