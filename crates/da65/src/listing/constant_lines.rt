@@ -11,7 +11,7 @@ use crate::listing::base_names::put_base;
 use crate::listing::comment_lines::comment_at;
 use crate::listing::listed_image::ListedImage;
 use crate::listing::place::ListingPlace;
-use crate::listing::statement_line::put_plain;
+use crate::listing::plain_lines::put_plain;
 use map65::{ADDRESSES, Map, NameBuf, is_skip};
 use std::alloc::Allocator;
 use stmt65::{Line, Statement};

@@ -8,11 +8,11 @@ ghost use Rattle.da65.specs.Words.{AreOperandsIn, IsGroupIn, IsGroupLine, IsGrou
 
 use crate::listing::base_names::put_base;
 use crate::listing::group::ListedGroup;
+use crate::listing::grouping::{group_len, role_inside};
 use crate::listing::heading_lines::put_heading;
-use crate::listing::line_groups::{group_len, role_inside};
 use crate::listing::listed_image::ListedImage;
 use crate::listing::place::ListingPlace;
-use crate::listing::statement_line::put_plain;
+use crate::listing::plain_lines::put_plain;
 use crate::listing::statements::{
     OperandNames, instruction_in, operand_expr, operands_of, table_statement, written_size,
 };

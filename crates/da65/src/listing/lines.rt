@@ -9,11 +9,11 @@ ghost use Rattle.da65.specs.declared.listing.place.ListingPlace.TheVariants.{Gro
 
 use crate::listing::constant_lines::{put_assignment, put_next_constant};
 use crate::listing::group_lines::{group_at, put_group_line, put_statement};
+use crate::listing::grouping::is_skipped;
 use crate::listing::heading_lines::first_heading;
-use crate::listing::line_groups::is_skipped;
 use crate::listing::listed_image::ListedImage;
 use crate::listing::place::ListingPlace;
-use crate::listing::statement_line::{put_blank, put_header_line};
+use crate::listing::plain_lines::{put_blank, put_header_line};
 use info65::Info;
 use map65::{DeviceFault, Image, Map, Sink, write_whole};
 use std::alloc::{Allocator, Global};

@@ -6,8 +6,8 @@ ghost use Rattle.info65.specs.Words.{AreNames, AreSegments};
 ghost use Rattle.map65.specs.Words.{IsPlaced};
 ghost use Rattle.da65.specs.Words.{has_marks, is_skip_range, style_of};
 
-use crate::listing::headings::has_marks;
-use crate::listing::line_groups::has_skip_range;
+use crate::listing::grouping::has_skip_range;
+use crate::listing::marks::has_marks;
 use crate::listing::style::{Style, style_of};
 use info65::Info;
 use isa65::DecodeTable;

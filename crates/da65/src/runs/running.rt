@@ -4,7 +4,7 @@ ghost use Rattle.std.specs.Prelude.{◌≡◌, ◌-◌, ◌<◌, ◌≤◌, Ok, 
 ghost use Rattle.da65.specs.Words.{InfoFault, InputCount, KeepsAt, KeepsIfRefused, MessagesCount, OfInput, OfRead, OutCount, ReadsFor, Reassembles, RefusesOrGivesUp, Tells, Took, Writes, WritesFew, done, files_seen, image_message, outcome_by, outcome_of, prepared, prepared_by, skips, warnings};
 ghost use Rattle.map65.specs.Words.{AreBytes, TakesUpTo, read_limit};
 
-use crate::listing::line_groups::has_skipped;
+use crate::listing::grouping::has_skipped;
 use crate::listing::lines::{Lines, write_lines};
 use crate::runs::files::File;
 use crate::runs::messages::{Message, image_message, warnings};

@@ -5,7 +5,7 @@ ghost use Rattle.std.specs.Bool.{OnFalse};
 ghost use Rattle.da65.specs.Words.{HasHadToo, IsAfter, IsKeyed, IsKeyedAt, IsNew, has_had, is_back, is_entered_again};
 ghost use Rattle.map65.specs.Words.{is_in_run, segment_at};
 
-use crate::listing::line_groups::{group_len, is_skipped};
+use crate::listing::grouping::{group_len, is_skipped};
 use crate::runs::key_set::KeySet;
 use map65::Map;
 use std::alloc::Allocator;

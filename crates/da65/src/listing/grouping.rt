@@ -1,4 +1,4 @@
-//! Line groups: the items that stand on one line.
+//! Which items stand on one line.
 
 ghost use Rattle.std.specs.Prelude.{◌≡◌, ◌+◌, ◌<◌, ◌≤◌, true};
 ghost use Rattle.std.specs.List.{list_any};

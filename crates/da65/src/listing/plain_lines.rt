@@ -1,4 +1,4 @@
-//! The line of a statement.
+//! The lines without a label.
 
 ghost use Rattle.std.specs.Prelude.{◌≡◌, ◌<◌};
 ghost use Rattle.stmt65.specs.Words.{IsPrintable, statement_seen};

@@ -1,7 +1,7 @@
 use Rattle.std.proofs.Common.{◌≡◌, ◌+◌, ◌≤◌}
 use Rattle.map65.specs.Words.{end_of}
 use Rattle.da65.specs.Words.{more_at}
-use Rattle.da65.proofs.listing.line_groups.more_at.Given as goal
+use Rattle.da65.proofs.listing.grouping.more_at.Given as goal
 
 abbrev pub invariant-items : goal.invariant-items
 invariant-items g l = record {
