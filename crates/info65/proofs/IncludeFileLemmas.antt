@@ -1,14 +1,15 @@
 -- The names that the lines of an include file add.
-use Rattle.std.proofs.Common.{◌≡◌, ◌+◌, ◌≤◌, ◌++◌, ℕ, Bool, List, [], ◌∷◌, ap, arith, false, inl, inr, length, refl, subst, true}
-use Rattle.std.specs.Prelude.{Err, None, Ok, Option, Result, Some, nat_lt, option_to_list}
+use Rattle.std.proofs.Common.{◌≡◌, ◌+◌, ◌≤◌, ◌++◌, ℕ, Bool, List, [], ◌∷◌, ap, arith, false, length, refl, subst, true}
+use Rattle.std.specs.Prelude.{Err, None, Ok, Option, Result, Some, nat_lt, option_map, option_to_list}
 use Rattle.std.proofs.lemmas.Bool.Decides.{nat_tests}
 use Rattle.std.proofs.lemmas.List.{append-nil}
-use Rattle.text65.specs.Names.{has_name_form}
-use Rattle.info65.specs.Words.{AreGiven, IncludeView, InfoFault, InfoFaultKind, IsName, NameView, WritesAddress, is_identifier, line_adds, line_in, name_adds, name_fault, names_with, optional_adds, unless_ignored}
-use Rattle.info65.proofs.Cases.{by_result, same_ok}
+use Rattle.std.specs.List.{list_all}
+use Rattle.text65.specs.Names.{has_name_form, is_blank}
+use Rattle.info65.specs.Words.{AreGiven, BadInclude, IncludeView, InfoFault, InfoFaultKind, IsName, NameView, address_written, after_sign, assignment_in, before_sign, is_identifier, line_adds, line_in, name_adds, name_fault, names_with, optional_adds, or_bad, plain_name, trimmed, unless_ignored, without_comment}
+use Rattle.info65.specs.Includes.{as_address}
+use Rattle.info65.proofs.Cases.{by_result, by_test, same_ok}
 use Rattle.info65.proofs.IndexLemmas.{no_fault}
 use Rattle.info65.proofs.NamesLemmas.{one_more}
-use Rattle.info65.proofs.SpellingLemmas.{lines_spelled}
 
 abbrev Added : Type 0
 Added = Result (Option NameView) InfoFaultKind
@@ -33,24 +34,57 @@ unfolding is_identifier has_name_form
 identified [] h short = absurd cc
 identified (b ∷ bs) h short = grind (arith, nat_tests)
 
-written_low : (value : List ℕ) (a : ℕ) → WritesAddress value a → a ≤ 0xFFFF
-written_low value a (inl w) = w.in_range
-written_low value a (inr (inl w)) = w.2.in_range
-written_low value a (inr (inr w)) = w.2.in_range
+-- a name that a line says: its form, its address, and that nothing else is said of it
+record IsPlain (n : NameView) : Type 0 where
+  form : is_identifier n.text ≡ true
+  low : n.address ≤ 0xFFFF
+  plain : n ≡ plain_name n.text n.address
+
+address_low : (o : Option ℕ) (a : ℕ) → as_address o ≡ Some a → a ≤ 0xFFFF
+address_low None a is = absurd cc
+address_low (Some n) a is = grind (arith, nat_tests)
+
+written_low : (value : List ℕ) (a : ℕ) → address_written value ≡ Some a → a ≤ 0xFFFF
+unfolding address_written
+written_low [] a is = absurd cc
+written_low (b ∷ bs) a is = grind (arith, address_low)
+
+addressed : (text : List ℕ) (n : NameView) (o : Option ℕ) → is_identifier text ≡ true → ((a : ℕ) → o ≡ Some a → a ≤ 0xFFFF) → option_map (plain_name text) o ≡ Some n → IsPlain n
+addressed text n None form low is = absurd cc
+addressed text n (Some a) form low is = let same : n ≡ plain_name text a = cc in rw same (record { form = form; low = low a refl; plain = refl })
+
+assigned : (text : List ℕ) (n : NameView) → or_bad (assignment_in text) ≡ Ok (Some n) → IsPlain n
+unfolding assignment_in
+assigned text n is =
+    let name = trimmed (before_sign text) in
+    let value = trimmed (after_sign text) in
+    by_test (is_identifier name)
+    (λ form. addressed name n (address_written value) form (written_low value) (not_bad (option_map (plain_name name) (address_written value)) n (rw form at is)))
+    (λ miss. let wrong : ◌≡◌ {A = Added} (Err BadInclude) (Ok (Some n)) = rw miss at is in absurd cc)
+  where
+    not_bad : (o : Option NameView) (m : NameView) → or_bad o ≡ Ok (Some m) → o ≡ Some m
+    not_bad None m e = absurd cc
+    not_bad (Some k) m e = cc
+
+said_plain : (c : ℕ) (line : List ℕ) (n : NameView) → line_in c line ≡ Ok (Some n) → IsPlain n
+unfolding line_in
+said_plain c line n is =
+    by_test (list_all is_blank (without_comment c line))
+    (λ hit. let wrong : ◌≡◌ {A = Added} (Ok None) (Ok (Some n)) = rw hit at is in absurd cc)
+    (λ miss. assigned (without_comment c line) n (rw miss at is))
 
 joins : (c : ℕ) (names : List NameView) (line : List ℕ) (n : NameView) → line_in c line ≡ Ok (Some n) → nat_lt 80 (length n.text) ≡ false → name_fault names n ≡ None → Joins names n
 joins c names line n says short fine =
-    let a = (((lines_spelled c line).gives n).0 says).assignment in
-    let low = written_low a.value n.address a.written in
-    let size = ap (λ (x : NameView). x.size) a.plain in
+    let p = said_plain c line n says in
+    let size = ap (λ (x : NameView). x.size) p.plain in
     record {
       fine = fine;
       is = record {
         sized = omega (arith, size);
-        room = omega (arith, size, low);
-        form = identified n.text a.form short;
+        room = omega (arith, size, p.low);
+        form = identified n.text p.form short;
         free = (no_fault names n fine).free;
-        comment = rw (ap (λ (x : NameView). x.comment) a.plain) tt;
+        comment = rw (ap (λ (x : NameView). x.comment) p.plain) tt;
       };
     }
 

@@ -28,7 +28,6 @@ mod SegmentCovering
 mod SegmentKeys
 mod SegmentLemmas
 mod SegmentTableLemmas
-mod SpellingLemmas
 mod StandLemmas
 mod TagLemmas
 mod TagRows

@@ -33,7 +33,7 @@ pub use Rattle.info65.specs.Groups.{AreAllFormed, AreFormed, AssignmentView, Gro
 unfoldable pub use Rattle.info65.specs.Groups.{global_given, has, has_instead, is_given, value_in}
 pub use Rattle.info65.specs.IncludeGroups.{AreIncludes, include_from, include_part}
 unfoldable pub use Rattle.info65.specs.IncludeGroups.{has_room, include_in, includes_of}
-pub use Rattle.info65.specs.IncludeLaws.{AreDigitsOf, IncludesSaid, IsAssignment, IsBlankLine, IsGivenOr, IsSpelling, IsText, LinesSpelled, SaysInclude, WritesAddress}
+pub use Rattle.info65.specs.IncludeLaws.{IncludesSaid, IsGivenOr, SaysInclude}
 pub use Rattle.info65.specs.Includes.{after_sign, before_sign, blank_include, optional_adds, or_bad, plain_name, trimmed_end, unless_ignored, with_names}
 unfoldable pub use Rattle.info65.specs.Includes.{address_written, assignment_in, included, is_identifier, line_adds, line_in, name_adds, names_included, names_with, trimmed, without_comment}
 pub use Rattle.info65.specs.Labels.{is_at, is_elsewhere, label_sized, name_part}

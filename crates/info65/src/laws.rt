@@ -1,6 +1,6 @@
 //! Laws of information files.
 
-ghost use Rattle.info65.specs.Words.{AcceptsFiles, CoversHighest, CoversOne, GivenOnce, GlobalOnce, IncludesSaid, LinesSpelled, NamesGiven, OverlapsShare, OwnAddressWins, RangesApart, RefusesFirst, SegmentsApart, SegmentsShare, TokensStand};
+ghost use Rattle.info65.specs.Words.{AcceptsFiles, CoversHighest, CoversOne, GivenOnce, GlobalOnce, IncludesSaid, NamesGiven, OverlapsShare, OwnAddressWins, RangesApart, RefusesFirst, SegmentsApart, SegmentsShare, TokensStand};
 
 pub fn accepts_files()
     /// A file is accepted exactly when its tokens are groups that meet every condition.
@@ -76,13 +76,6 @@ pub fn segments_share()
 pub fn covers_one()
     /// The segment name of an address is that of the one segment that contains it.
     ensures { CoversOne }
-{}
-
-pub fn lines_spelled()
-    /// A line of an include file gives a name exactly when it has that name and its address: `=` or `:=` between
-    /// them, a value up to $FFFF in decimal, with `$` or with `%`, blanks around each part, and a comment or a
-    /// carriage return at the end. It gives no name exactly when it is blank up to there.
-    ensures { LinesSpelled }
 {}
 
 pub fn includes_said()
