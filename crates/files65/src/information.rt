@@ -6,11 +6,8 @@ ghost use Rattle.files65.specs.Faults.{IsRefused, options_at};
 
 use crate::failure::Failure;
 use crate::named_twice::named_twice;
-use info65::{Info, InfoFaultKind, Options, Tag, read_info, read_tags};
+use info65::{Info, InfoFaultKind, MOST_BYTES, Options, Tag, read_info, read_tags};
 use std::alloc::Global;
-
-/// The most that an information file may have: 1 MiB.
-const LIMIT: usize = 1_048_576;
 
 /// What these bytes say under the options, without include files. Refuses a file that da65 refuses.
 pub fn information_of<R>(alloc: Global, options: &Options, bytes: &[u8]) -> Result<Info, Failure<R>>
@@ -49,7 +46,7 @@ pub fn information_at<R>(
 
 /// The groups of the lines `#: ..` of an information file that is not too large.
 pub fn tags_of<R>(alloc: Global, bytes: &[u8]) -> Result<Vec<Tag>, Failure<R>> {
-    if LIMIT < bytes.len() {
+    if MOST_BYTES < bytes.len() {
         return Ok(Vec::new(alloc));
     }
     Ok(read_tags(alloc, bytes)?)

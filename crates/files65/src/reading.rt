@@ -6,12 +6,13 @@ ghost use Rattle.files65.specs.Faults.{CountsMissing, IsEmpty, IsUnread};
 
 use crate::fault::FileFault;
 use crate::input::Input;
+use info65::MOST_BYTES;
 use map65::{Source, TakeFault, take_up_to};
 use std::alloc::{AllocError, Global};
 
 /// The most that is read of an information file or of an include file: one byte more than it may have, so that a longer
 /// one is refused.
-pub const INFORMATION_LIMIT: usize = 1_048_577;
+pub const INFORMATION_LIMIT: usize = MOST_BYTES + 1;
 
 /// The most that a listing may have: 64 MiB.
 const LISTING_LIMIT: usize = 67_108_864;

@@ -38,7 +38,7 @@ pub use laws::{
     tokens_stand,
 };
 pub use syntax::digits::number_of_digits;
-pub use syntax::lexer::Lexer;
+pub use syntax::lexer::{Lexer, MOST_BYTES};
 pub use syntax::names::default_name;
 pub use syntax::token::{Token, TokenKind};
 pub use tags::{Tag, TagKind, read_tags, without_numbers};

@@ -6,13 +6,10 @@ ghost use Rattle.trace65.specs.Words.{AreMerged, Explains, ExplainsGroups, Says}
 
 use crate::failure::{Failure, Refused, failure_of};
 use info65::{
-    Given, IncludeSpec, Info, Options, RangeSpec, SegmentSpec, Settings, default_name, read_info,
-    read_tags,
+    Given, IncludeSpec, Info, MOST_BYTES, Options, RangeSpec, SegmentSpec, Settings, default_name,
+    read_info, read_tags,
 };
 use std::alloc::Global;
-
-/// The most that an information file may have.
-const LIMIT: usize = 1_048_576;
 
 /// Whether two file names are the same, or neither is given.
 fn is_same_file(a: &Option<String>, b: &Option<String>) -> bool
@@ -198,7 +195,7 @@ pub fn need_groups(alloc: Global, text: &[u8]) -> Result<(), Failure>
     ensures tagged { OnOk result (IsOk (tags_of text.now)) }
     ensures fault { IfErr result (ExplainsGroups text.now) }
 {
-    if LIMIT < text.len() {
+    if MOST_BYTES < text.len() {
         return Err(Failure::Own(Refused::Other));
     }
     match read_tags(alloc, text) {

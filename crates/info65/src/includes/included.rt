@@ -10,12 +10,10 @@ use crate::information::info::Info;
 use crate::information::name::Given;
 use crate::information::pool::NamePool;
 use crate::lookup::index::Index;
+use crate::syntax::lexer::MOST_BYTES;
 use std::alloc::{Allocator, Global};
 use std::marker::Model;
 use text65::first_line;
-
-// The bytes that an include file has at most.
-const MOST_BYTES: usize = 1_048_576;
 
 // What a name counts for that is there before a file, beside the bytes of the file.
 const BYTES_OF_A_NAME: usize = 16;

@@ -17,12 +17,10 @@ use crate::information::segment::SegmentSpec;
 use crate::information::segment_table::SegmentTable;
 use crate::information::settings::Settings;
 use crate::syntax::assignment::Group;
+use crate::syntax::lexer::MOST_BYTES;
 use crate::syntax::parser::read_groups;
 use std::alloc::{Allocator, Global};
 use std::marker::Model;
-
-// The bytes that an information file has at most.
-const MOST_BYTES: usize = 1_048_576;
 
 /// An information file that was accepted, merged with the options. The bytes of all names stand in one pool.
 #[derive(Drop)]

@@ -9,6 +9,9 @@ use crate::syntax::token::Token;
 use memchr::memchr;
 use std::marker::Model;
 
+/// The most bytes that an information file or an include file may have: 1 MiB.
+pub const MOST_BYTES: usize = 1_048_576;
+
 /// What comes next: a token, or the end, on this line.
 #[derive(Clone, Copy)]
 pub(crate) enum Next<'a> {
