@@ -17,7 +17,7 @@ pub use Rattle.as65.specs.Information.{placed_at}
 pub use Rattle.as65.specs.Labels.{label_line, labels_of, source_labels}
 pub use Rattle.as65.specs.Moves.{IsMoved, bytes_text, digit, is_alike, moves_in}
 unfoldable pub use Rattle.as65.specs.Moves.{address_in_name, distance_text, label_in_line, labels_in, move_line, move_text, moves_after, what_lies}
-pub use Rattle.as65.specs.Request.{is_compare_word, is_comparing, work_of}
+pub use Rattle.as65.specs.Request.{WorkView, is_compare_word, is_comparing, work_of}
 unfoldable pub use Rattle.as65.specs.Request.{to_compare, to_write, work_in}
 pub use Rattle.as65.specs.Sizes.{HasOther}
 pub use Rattle.as65.specs.Status.{status_of}

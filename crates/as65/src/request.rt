@@ -2,18 +2,17 @@
 
 ghost use Rattle.std.specs.Prelude.{◌≡◌, map};
 ghost use Rattle.std.specs.String.{string_bytes};
-ghost use Rattle.clap.specs.Words.{found_of, rows_of};
 ghost use Rattle.usage65.specs.Requests.{Gives};
 ghost use Rattle.usage65.specs.Words.{asked, asked_of};
-ghost use Rattle.as65.specs.Words.{given_of, is_compare_word, is_comparing, this_program, to_compare, to_write, work_in, work_of};
+ghost use Rattle.as65.specs.Words.{WorkView, given_of, is_compare_word, is_comparing, this_program, to_compare, to_write, work_in, work_of};
 
 use crate::command::this_program;
 use clap::ArgMatches;
 use std::alloc::Global;
 use std::env::{Env, FillError};
 use usage65::{
-    FileNames, Request, RequestFault, UsageFault, address_of, byte_of, info_named, input_named,
-    is_set, is_taken, names_apart, output_named, text_of,
+    FileNames, FromMatches, Request, RequestFault, UsageFault, address_of, byte_of, info_named,
+    input_named, is_set, is_taken, names_apart, output_named, text_of,
 };
 
 /// The length of `--compare=`, which is the longest that is looked for in a word.
@@ -120,35 +119,37 @@ pub fn request_of(alloc: Global, words: &[String]) -> Result<Request<Work>, Requ
     ensures { Gives (asked_of work_of) result
         (asked this_program work_in (map string_bytes words.now)) }
 {
-    let matches = this_program().matches(alloc, words)?;
-    match this_program().text_asked(alloc, &matches)? {
-        Some(text) => Ok(Request::Text(text)),
-        None => Ok(Request::Run(work_in(alloc, &matches)?)),
-    }
+    this_program().request(alloc, words)
 }
 
-/// The work that the matches ask for.
-#[tactic(auto, unfolding(crate::specs::Request::work_in))]
-fn work_in(alloc: Global, matches: &ArgMatches) -> Result<Work, RequestFault>
-    ensures { Gives work_of result (work_in (rows_of (found_of matches.now))) }
-{
-    let start = address_of(matches, "start")?;
-    let fill = byte_of(matches, "fill")?;
-    let in_place = is_set(matches, "in-place");
-    let given = Given {
-        listing: input_named(text_of(matches, "listing")),
-        info: info_named(text_of(matches, "info")),
-        output: output_named(text_of(matches, "output")),
-        place: Placement {
-            start,
-            fill,
-            in_place,
-        },
-        labels: is_set(matches, "labels"),
-    };
-    match text_of(matches, "compare") {
-        Some(image) => to_compare(alloc, given, input_named(Some(image))),
-        None => to_write(alloc, given),
+impl FromMatches for Work {
+    ghost Seen = { WorkView };
+
+    ghost seen = { work_of };
+
+    ghost from_rows = { work_in };
+
+    /// The work that the matches ask for.
+    #[tactic(auto, unfolding(crate::specs::Request::work_in))]
+    fn from_matches(alloc: Global, matches: &ArgMatches) -> Result<Work, RequestFault> {
+        let start = address_of(matches, "start")?;
+        let fill = byte_of(matches, "fill")?;
+        let in_place = is_set(matches, "in-place");
+        let given = Given {
+            listing: input_named(text_of(matches, "listing")),
+            info: info_named(text_of(matches, "info")),
+            output: output_named(text_of(matches, "output")),
+            place: Placement {
+                start,
+                fill,
+                in_place,
+            },
+            labels: is_set(matches, "labels"),
+        };
+        match text_of(matches, "compare") {
+            Some(image) => to_compare(alloc, given, input_named(Some(image))),
+            None => to_write(alloc, given),
+        }
     }
 }
 

@@ -3,10 +3,10 @@
 //! [`Input::open`] opens what is read and [`Output::create`] creates what is written, by [`write_text`].
 //! [`read_information`] and [`read_listing`] read such a file up to its limit, [`contents`] any other. [`Placeholders`]
 //! stand for standard streams that are closed. [`keep_inputs`], [`keep_apart`] and [`need_plain`] refuse an output that
-//! is an input, a stream that is two inputs, and an output that is no file. [`say`] says why a program gives up, a
-//! [`Failure`], and [`end`] ends it; a [`FileFault`] is what can go wrong with a file. [`information_of`] and
-//! [`tags_of`] are what an information file says; [`layout_of`] and [`start_or_end`] say where the bytes of a listing
-//! belong. [`put_address`] and [`put_decimal`] write numbers.
+//! is an input, a stream that is two inputs, and an output that is no file. [`obey`] does what a command line asks for.
+//! [`say`] says why a program gives up, a [`Failure`], and [`end`] ends it; a [`FileFault`] is what can go wrong with a
+//! file. [`information_of`] and [`tags_of`] are what an information file says; [`layout_of`] and [`start_or_end`] say
+//! where the bytes of a listing belong. [`put_address`] and [`put_decimal`] write numbers.
 //!
 //! [`failure_of`] and [`faulty_listing`] say which line of a listing has a fault, with the line and a hint: what the
 //! assembler found it to be about, or a guess from its text (`hint`, and what it names). The hint is advice.
@@ -17,6 +17,7 @@ mod failure;
 mod fault;
 mod faulty_line;
 mod forms;
+mod frame;
 mod guess;
 mod guesses;
 mod hint;
@@ -38,6 +39,7 @@ mod words;
 pub use failure::{Failure, said_after};
 pub use fault::FileFault;
 pub use faulty_line::{failure_of, faulty_listing};
+pub use frame::obey;
 pub use information::{information_at, information_of, tags_of};
 pub use input::Input;
 pub use lines::{after_lines, first_of, line_at};

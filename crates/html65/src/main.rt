@@ -33,13 +33,12 @@ mod way;
 
 use failure::Failure;
 use files65::{
-    FileFault, Output, Placeholders, end, information_at, keep_files, keep_inputs, layout_of,
+    FileFault, Output, end, information_at, keep_files, keep_inputs, layout_of, obey,
     read_information, read_listing, repair, start_or_end, write_text,
 };
 use page::page_of;
 use request::{Showing, request_of};
 use std::process::ExitCode;
-use usage65::{Request, words_of};
 
 /// The most that a listing may have: 16 MiB, and this many lines.
 const LIMIT: usize = 16_777_216;
@@ -80,16 +79,6 @@ fn show(rt: &HostRuntime, showing: &mut Showing) -> Result<(), Failure> {
     Ok(write_text(&mut output, &text)?)
 }
 
-fn program(rt: &HostRuntime) -> Result<(), Failure> {
-    // Messages to a closed standard error must not end up in the output file.
-    let _placeholders = Placeholders::take(rt)?;
-    let words = words_of(rt)?;
-    match request_of(rt.alloc(), &words)? {
-        Request::Text(text) => Ok(write_text(&mut Output::standard(rt), &text)?),
-        Request::Run(mut showing) => show(rt, &mut showing),
-    }
-}
-
 fn main(rt: HostRuntime) -> ExitCode {
-    end(&rt, "html65", program(&rt))
+    end(&rt, "html65", obey(&rt, request_of, show))
 }

@@ -2,18 +2,17 @@
 
 ghost use Rattle.std.specs.Prelude.{map};
 ghost use Rattle.std.specs.String.{string_bytes};
-ghost use Rattle.clap.specs.Words.{found_of, rows_of};
 ghost use Rattle.usage65.specs.Requests.{Gives};
 ghost use Rattle.usage65.specs.Words.{asked, asked_of};
 ghost use Rattle.html65.specs.Command.{this_program};
-ghost use Rattle.html65.specs.Request.{shown_in, shown_of};
+ghost use Rattle.html65.specs.Request.{ShowingView, shown_in, shown_of};
 
 use crate::command::this_program;
 use clap::ArgMatches;
 use std::alloc::Global;
 use usage65::{
-    FileNames, Request, RequestFault, address_of, byte_of, info_named, input_named, names_apart,
-    output_named, text_of,
+    FileNames, FromMatches, Request, RequestFault, address_of, byte_of, info_named, input_named,
+    names_apart, output_named, text_of,
 };
 
 /// A listing is to be written as a page.
@@ -39,23 +38,25 @@ pub fn request_of(alloc: Global, words: &[String]) -> Result<Request<Showing>, R
     ensures { Gives (asked_of shown_of) result
         (asked this_program shown_in (map string_bytes words.now)) }
 {
-    let matches = this_program().matches(alloc, words)?;
-    match this_program().text_asked(alloc, &matches)? {
-        Some(text) => Ok(Request::Text(text)),
-        None => Ok(Request::Run(shown_in(alloc, &matches)?)),
-    }
+    this_program().request(alloc, words)
 }
 
-/// The page that the matches ask for.
-#[tactic(auto, unfolding(crate::specs::Request::shown_in))]
-fn shown_in(alloc: Global, matches: &ArgMatches) -> Result<Showing, RequestFault>
-    ensures { Gives shown_of result (shown_in (rows_of (found_of matches.now))) }
-{
-    let start = address_of(matches, "start")?;
-    let fill = byte_of(matches, "fill")?;
-    let listing = input_named(text_of(matches, "listing"));
-    let info = info_named(text_of(matches, "info"));
-    let output = output_named(text_of(matches, "output"));
-    let names = names_apart(alloc, listing, info, output)?;
-    Ok(Showing { names, start, fill })
+impl FromMatches for Showing {
+    ghost Seen = { ShowingView };
+
+    ghost seen = { shown_of };
+
+    ghost from_rows = { shown_in };
+
+    /// The page that the matches ask for.
+    #[tactic(auto, unfolding(crate::specs::Request::shown_in))]
+    fn from_matches(alloc: Global, matches: &ArgMatches) -> Result<Showing, RequestFault> {
+        let start = address_of(matches, "start")?;
+        let fill = byte_of(matches, "fill")?;
+        let listing = input_named(text_of(matches, "listing"));
+        let info = info_named(text_of(matches, "info"));
+        let output = output_named(text_of(matches, "output"));
+        let names = names_apart(alloc, listing, info, output)?;
+        Ok(Showing { names, start, fill })
+    }
 }

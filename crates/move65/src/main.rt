@@ -23,12 +23,11 @@ mod world;
 
 use failure::Failure;
 use files65::{
-    Output, Placeholders, keep_files, read_information, read_listing, said_after, say, write_text,
+    Output, keep_files, obey, read_information, read_listing, said_after, say, write_text,
 };
 use moving::text_of;
 use request::{Moving, request_of};
 use std::process::ExitCode;
-use usage65::{Request, words_of};
 
 /// Reads the listing, and writes what is found to an output that is created only then. Returns whether something parts.
 fn move_listing(rt: &HostRuntime, moving: &mut Moving) -> Result<bool, Failure> {
@@ -41,21 +40,8 @@ fn move_listing(rt: &HostRuntime, moving: &mut Moving) -> Result<bool, Failure> 
     Ok(moved.parts)
 }
 
-fn program(rt: &HostRuntime) -> Result<bool, Failure> {
-    // Messages to a closed standard error must not end up in the output file.
-    let _placeholders = Placeholders::take(rt)?;
-    let words = words_of(rt)?;
-    match request_of(rt.alloc(), &words)? {
-        Request::Text(text) => {
-            write_text(&mut Output::standard(rt), &text)?;
-            Ok(false)
-        }
-        Request::Run(mut moving) => move_listing(rt, &mut moving),
-    }
-}
-
 fn main(rt: HostRuntime) -> ExitCode {
-    match program(&rt) {
+    match obey(&rt, request_of, move_listing) {
         Ok(false) => ExitCode::SUCCESS,
         Ok(true) => ExitCode::from(1),
         Err(failure) => {

@@ -30,14 +30,13 @@ mod wishes;
 
 use failure::Failure;
 use files65::{
-    Output, Placeholders, end, information_at, keep_files, read_information, read_listing, tags_of,
+    Output, end, information_at, keep_files, obey, read_information, read_listing, tags_of,
     write_text,
 };
 use info65::without_numbers;
 use listing::listing_by_names;
 use request::{Naming, request_of};
 use std::process::ExitCode;
-use usage65::{Request, words_of};
 
 /// The listing of these files by names. Halves that a NUMBER takes back count for nothing.
 fn named_listing(rt: &HostRuntime, naming: &Naming) -> Result<Vec<u8>, Failure> {
@@ -56,16 +55,6 @@ fn name_listing(rt: &HostRuntime, naming: &mut Naming) -> Result<(), Failure> {
     Ok(write_text(&mut output, &text)?)
 }
 
-fn program(rt: &HostRuntime) -> Result<(), Failure> {
-    // Messages to a closed standard error must not end up in the output file.
-    let _placeholders = Placeholders::take(rt)?;
-    let words = words_of(rt)?;
-    match request_of(rt.alloc(), &words)? {
-        Request::Text(text) => Ok(write_text(&mut Output::standard(rt), &text)?),
-        Request::Run(mut naming) => name_listing(rt, &mut naming),
-    }
-}
-
 fn main(rt: HostRuntime) -> ExitCode {
-    end(&rt, "name65", program(&rt))
+    end(&rt, "name65", obey(&rt, request_of, name_listing))
 }

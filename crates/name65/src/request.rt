@@ -2,18 +2,17 @@
 
 ghost use Rattle.std.specs.Prelude.{map};
 ghost use Rattle.std.specs.String.{string_bytes};
-ghost use Rattle.clap.specs.Words.{found_of, rows_of};
 ghost use Rattle.usage65.specs.Requests.{Gives};
 ghost use Rattle.usage65.specs.Words.{asked, asked_of};
 ghost use Rattle.name65.specs.Command.{this_program};
-ghost use Rattle.name65.specs.Request.{naming_in, naming_of};
+ghost use Rattle.name65.specs.Request.{NamingView, naming_in, naming_of};
 
 use crate::command::this_program;
 use clap::ArgMatches;
 use std::alloc::Global;
 use usage65::{
-    FileNames, Request, RequestFault, address_of, byte_of, info_named, input_named, is_set,
-    names_apart, output_named, text_of,
+    FileNames, FromMatches, Request, RequestFault, address_of, byte_of, info_named, input_named,
+    is_set, names_apart, output_named, text_of,
 };
 
 /// A listing is to be written by names.
@@ -43,29 +42,31 @@ pub fn request_of(alloc: Global, words: &[String]) -> Result<Request<Naming>, Re
     ensures { Gives (asked_of naming_of) result
         (asked this_program naming_in (map string_bytes words.now)) }
 {
-    let matches = this_program().matches(alloc, words)?;
-    match this_program().text_asked(alloc, &matches)? {
-        Some(text) => Ok(Request::Text(text)),
-        None => Ok(Request::Run(naming_in(alloc, &matches)?)),
-    }
+    this_program().request(alloc, words)
 }
 
-/// The listing by names that the matches ask for.
-#[tactic(auto, unfolding(crate::specs::Request::naming_in))]
-fn naming_in(alloc: Global, matches: &ArgMatches) -> Result<Naming, RequestFault>
-    ensures { Gives naming_of result (naming_in (rows_of (found_of matches.now))) }
-{
-    let start = address_of(matches, "start")?;
-    let fill = byte_of(matches, "fill")?;
-    let listing = input_named(text_of(matches, "listing"));
-    let info = info_named(text_of(matches, "info"));
-    let output = output_named(text_of(matches, "output"));
-    let names = names_apart(alloc, listing, info, output)?;
-    Ok(Naming {
-        names,
-        start,
-        fill,
-        used: is_set(matches, "used"),
-        labels_first: is_set(matches, "labels-first"),
-    })
+impl FromMatches for Naming {
+    ghost Seen = { NamingView };
+
+    ghost seen = { naming_of };
+
+    ghost from_rows = { naming_in };
+
+    /// The listing by names that the matches ask for.
+    #[tactic(auto, unfolding(crate::specs::Request::naming_in))]
+    fn from_matches(alloc: Global, matches: &ArgMatches) -> Result<Naming, RequestFault> {
+        let start = address_of(matches, "start")?;
+        let fill = byte_of(matches, "fill")?;
+        let listing = input_named(text_of(matches, "listing"));
+        let info = info_named(text_of(matches, "info"));
+        let output = output_named(text_of(matches, "output"));
+        let names = names_apart(alloc, listing, info, output)?;
+        Ok(Naming {
+            names,
+            start,
+            fill,
+            used: is_set(matches, "used"),
+            labels_first: is_set(matches, "labels-first"),
+        })
+    }
 }

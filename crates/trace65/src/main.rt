@@ -21,14 +21,13 @@ mod unshown;
 
 use calls::lines_of;
 use failure::Failure;
-use files65::{Output, Placeholders, end, information_of, read_information, tags_of, write_text};
+use files65::{Output, end, information_of, obey, read_information, tags_of, write_text};
 use info65::{Info, Options, Tag};
 use information::{image, information};
 use map65::{Image, Map};
 use report::{InfoFile, report_of};
 use request::{Tracing, request_of};
 use std::process::ExitCode;
-use usage65::{Request, words_of};
 
 /// What is read of an image: an information file, what it says with its include files, and its groups `#: ..`.
 #[derive(Drop)]
@@ -123,16 +122,6 @@ fn trace(rt: &HostRuntime, tracing: &mut Tracing) -> Result<(), Failure> {
     Ok(write_text(&mut output, &text)?)
 }
 
-fn program(rt: &HostRuntime) -> Result<(), Failure> {
-    // Messages to a closed standard error must not end up in the output file.
-    let _placeholders = Placeholders::take(rt)?;
-    let words = words_of(rt)?;
-    match request_of(rt.alloc(), &words)? {
-        Request::Text(text) => Ok(write_text(&mut Output::standard(rt), &text)?),
-        Request::Run(mut tracing) => trace(rt, &mut tracing),
-    }
-}
-
 fn main(rt: HostRuntime) -> ExitCode {
-    end(&rt, "trace65", program(&rt))
+    end(&rt, "trace65", obey(&rt, request_of, trace))
 }

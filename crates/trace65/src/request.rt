@@ -1,18 +1,17 @@
 //! What a command line asks for.
 
 ghost use Rattle.std.specs.Prelude.{◌≡◌};
-ghost use Rattle.clap.specs.Words.{found_of, rows_of};
 ghost use Rattle.usage65.specs.Requests.{Gives};
 ghost use Rattle.usage65.specs.Words.{asked, asked_of, texts_seen};
-ghost use Rattle.trace65.specs.Words.{this_program, traced_in, tracing_of};
+ghost use Rattle.trace65.specs.Words.{TracingView, this_program, traced_in, tracing_of};
 
 use crate::command::this_program;
 use clap::ArgMatches;
 use info65::Options;
 use std::alloc::Global;
 use usage65::{
-    Request, RequestFault, address_of, addresses_of, cpu_of, info_named, is_set, is_taken,
-    output_named, owned, text_of,
+    FromMatches, Request, RequestFault, address_of, addresses_of, cpu_of, info_named, is_set,
+    is_taken, output_named, owned, text_of,
 };
 
 /// What is reached is to be written.
@@ -44,38 +43,40 @@ pub fn request_of(alloc: Global, words: &[String]) -> Result<Request<Tracing>, R
     ensures { Gives (asked_of tracing_of) result
         (asked this_program traced_in (texts_seen words.now)) }
 {
-    let matches = this_program().matches(alloc, words)?;
-    match this_program().text_asked(alloc, &matches)? {
-        Some(text) => Ok(Request::Text(text)),
-        None => Ok(Request::Run(traced_in(alloc, &matches)?)),
-    }
+    this_program().request(alloc, words)
 }
 
-/// The image that is to be traced.
-#[tactic(auto, unfolding(crate::specs::Request::traced_in))]
-fn traced_in(alloc: Global, matches: &ArgMatches) -> Result<Tracing, RequestFault>
-    ensures { Gives tracing_of result (traced_in (rows_of (found_of matches.now))) }
-{
-    let start = address_of(matches, "start")?;
-    let cpu = cpu_of(matches, "cpu")?;
-    let entries = addresses_of(alloc, matches, "entry")?;
-    let info = info_named(text_of(matches, "info"));
-    let image = info_named(text_of(matches, "image"));
-    if let Some(image) = image
-        && is_taken(info, image)
-    {
-        return Err(RequestFault::StandardTwice);
+impl FromMatches for Tracing {
+    ghost Seen = { TracingView };
+
+    ghost seen = { tracing_of };
+
+    ghost from_rows = { traced_in };
+
+    /// The image that is to be traced.
+    #[tactic(auto, unfolding(crate::specs::Request::traced_in))]
+    fn from_matches(alloc: Global, matches: &ArgMatches) -> Result<Tracing, RequestFault> {
+        let start = address_of(matches, "start")?;
+        let cpu = cpu_of(matches, "cpu")?;
+        let entries = addresses_of(alloc, matches, "entry")?;
+        let info = info_named(text_of(matches, "info"));
+        let image = info_named(text_of(matches, "image"));
+        if let Some(image) = image
+            && is_taken(info, image)
+        {
+            return Err(RequestFault::StandardTwice);
+        }
+        let mut options = Options::none();
+        options.info = owned(alloc, info)?;
+        options.input = owned(alloc, image)?;
+        options.start = start;
+        options.cpu = cpu;
+        Ok(Tracing {
+            options,
+            entries,
+            plain: is_set(matches, "plain"),
+            whole: is_set(matches, "whole"),
+            output: owned(alloc, output_named(text_of(matches, "output")))?,
+        })
     }
-    let mut options = Options::none();
-    options.info = owned(alloc, info)?;
-    options.input = owned(alloc, image)?;
-    options.start = start;
-    options.cpu = cpu;
-    Ok(Tracing {
-        options,
-        entries,
-        plain: is_set(matches, "plain"),
-        whole: is_set(matches, "whole"),
-        output: owned(alloc, output_named(text_of(matches, "output")))?,
-    })
 }

@@ -3,11 +3,14 @@
 ghost use Rattle.std.specs.Prelude.{IfOk, OnOk, map, option_map, ◌≡◌, ◌++◌};
 ghost use Rattle.std.specs.List.{flat_map};
 ghost use Rattle.clap.specs.Words.{FailsBy, app_of, fault_of, found_of, matches_of, rows_of};
-ghost use Rattle.usage65.specs.Words.{IsPlain, accepted, bare, choice_of, command_of, help_line, help_of, program_of, text_asked, texts_seen, version_of, with_choices};
+ghost use Rattle.usage65.specs.Requests.{Gives as Asks};
+ghost use Rattle.usage65.specs.Words.{IsPlain, accepted, asked, asked_of, bare, choice_of, command_of, help_line, help_of, program_of, text_asked, texts_seen, version_of, with_choices};
 ghost use Rattle.usage65.specs.Values.{Gives};
 
 use crate::choice::Choice;
 use crate::fault::UsageFault;
+use crate::request::{FromMatches, Request};
+use crate::request_fault::RequestFault;
 use crate::value::is_set;
 use clap::error::ErrorKind;
 use clap::{Arg, ArgMatches, Command, Error};
@@ -90,6 +93,27 @@ impl<'a> Program<'a> {
             return Ok(Some(self.version_text(alloc)?));
         }
         Ok(None)
+    }
+
+    /// Returns what the words ask for. The first word is the program's name. Help comes first, then the version, both
+    /// before any value is read.
+    pub fn request<R: FromMatches>(
+        &self,
+        alloc: Global,
+        words: &'a [String],
+    ) -> Result<Request<R>, RequestFault>
+        requires { IsPlain (command_of (program_of self.now)) }
+        /// For all words the request is that of the definition, by the table of the options: the help text, else the
+        /// version, else what the program's definition makes of the matches. The first refusal counts; or out of
+        /// memory.
+        ensures { Asks (asked_of R.seen) result
+            (asked (program_of self.now) R.from_rows (texts_seen words.entry.now)) }
+    {
+        let matches = self.matches(alloc, words)?;
+        match self.text_asked(alloc, &matches)? {
+            Some(text) => Ok(Request::Text(text)),
+            None => Ok(Request::Run(R::from_matches(alloc, &matches)?)),
+        }
     }
 }
 
