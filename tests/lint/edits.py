@@ -24,11 +24,11 @@ BY_HAND = {
     "da65_cli": "failure_made_up flush_leaves_bytes message_after_a_failed_flush",
     "as65": """bytes_of_a_faulty_listing failed_write_called_a_difference image_cut_short listing_without_bytes_passed_on
         taken_out_and_not_shown write_fault_passed_over""",
-    "files65": "syntax_called_another_fault",
+    "files65": "fault_of_a_later_line syntax_called_another_fault",
     "reach65": "no_target_followed range_with_a_taken_byte goes_on_before_its_text",
     "trace65": "setting_not_compared proposals_left_out longer_item_passed_over hidden_instruction_not_reached",
     "html65": """unescaped_text_read_as_text lost_line_passed_over other_text_passed_over link_to_no_element
-        link_to_another_line page_despite_its_fault fault_of_a_later_line""",
+        link_to_another_line page_despite_its_fault""",
     "name65": """comments_left_out fill_moves_nothing groups_do_nothing names_stay_above_labels next_name_comes_first
         number_kept_in_a_list used_constants_left_out""",
     "run65": "program_counter_overflows decimal_difference_overflows",

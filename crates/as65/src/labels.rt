@@ -4,11 +4,10 @@ ghost use Rattle.std.specs.Prelude.{◌≡◌, ◌++◌, IfErr, IfOk, IsOk, OnOk
 ghost use Rattle.stmt65.specs.Words.{definition_of, source_meaning};
 ghost use Rattle.as65.specs.Words.{Reports, label_line, labels_of, source_labels};
 
-use crate::assembled::Assembled;
 use crate::failure::Failure;
-use files65::{failure_of, put_address};
+use files65::{assembled, put_address};
 use std::alloc::{AllocError, Global};
-use stmt65::{About, Definition, Explained, Source, assemble_lines};
+use stmt65::{Definition, Source};
 
 /// Appends the line of a name whose value is an address.
 fn put_label(out: &mut Vec<u8>, name: Definition<'_>) -> Result<(), AllocError>
@@ -44,12 +43,6 @@ pub fn names_in(alloc: Global, source: &Source<'_, '_, '_>, name: &str) -> Resul
     ensures whole { OnOk result (IsOk (source_meaning source.now)) }
     ensures fault { IfErr result (Reports name.now source.now) }
 {
-    match assemble_lines(&alloc, source) {
-        Ok(assembly) => Ok(label_lines(alloc, assembly.names.definitions())?),
-        Err(fault) => {
-            Assembled::new(alloc, source, name)?;
-            let about = About::Line;
-            Err(failure_of(alloc, Explained { fault, about }, name, source))
-        }
-    }
+    let assembly = assembled(&alloc, name, source)?;
+    Ok(label_lines(alloc, assembly.names.definitions())?)
 }

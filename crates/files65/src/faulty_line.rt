@@ -1,6 +1,7 @@
-//! The line of a listing that has a fault.
+//! What a listing means, or the line of it that has a fault.
 
-ghost use Rattle.std.specs.Prelude.{◌≡◌, ◌++◌, IfOk, OnOk};
+ghost use Rattle.std.specs.Prelude.{◌≡◌, ◌++◌, IfErr, IfOk, Ok, OnOk};
+ghost use Rattle.stmt65.specs.Words.{held_definitions, source_addresses, source_definitions, source_meaning};
 ghost use Rattle.files65.specs.FaultyLine.{FailsWith, MayReport, Reports, about, hint_text};
 
 use crate::failure::Failure;
@@ -8,7 +9,7 @@ use crate::hint::hint;
 use crate::lines::line_at;
 use crate::shown::{put_shown, trimmed};
 use std::alloc::{AllocError, Global};
-use stmt65::{About, AsmFault, AsmFaultKind, Explained, Source, assemble_explained};
+use stmt65::{AsmFault, AsmFaultKind, Assembly, Explained, Source, assemble_lines};
 
 /// Appends what a fault is about, if the line does not say it.
 fn put_hint(out: &mut Vec<u8>, hint: &[u8]) -> Result<(), AllocError>
@@ -68,24 +69,23 @@ pub fn failure_of<R>(
     }
 }
 
-/// The failure of the listing of this name, which has this fault. What the fault is about is found by assembling the
-/// listing once more.
-pub fn faulty_listing<R>(
-    alloc: Global,
-    fault: AsmFault,
+/// What the listing of this name means, line by line. Fails with its first fault.
+pub fn assembled<'t, 'b, R>(
+    alloc: &'b Global,
     name: &str,
-    source: &Source<'_, '_, '_>,
-) -> Failure<R>
-    requires { FailsWith fault source.now }
-    /// As by `failure_of`, for a program that has the fault alone.
-    ensures reports { Reports name.now source.now result }
-    ensures so { MayReport name.now source.now result }
+    source: &Source<'t, '_, '_>,
+) -> Result<Assembly<'t, 'b, Global>, Failure<R>>
+    /// For a text that assembles, returns its bytes, the address after each line and the definitions, from one reading.
+    ensures bytes { IfOk result (λ a. source_meaning source.now ≡ Ok a.bytes.items) }
+    ensures ends { IfOk result (λ a. a.ends ≡ source_addresses source.now) }
+    ensures names { IfOk result (λ a. a.names
+        ≡ held_definitions (source_definitions source.now)) }
+    /// For any other text, its fault as by `failure_of`.
+    ensures reports { IfErr result (Reports name.now source.now) }
+    ensures so { IfErr result (MayReport name.now source.now) }
 {
-    match assemble_explained(alloc, source) {
-        Ok(_) => {
-            let about = About::Line;
-            failure_of(alloc, Explained { fault, about }, name, source)
-        }
-        Err(explained) => failure_of(alloc, explained, name, source),
+    match assemble_lines(alloc, source) {
+        Ok(assembly) => Ok(assembly),
+        Err(explained) => Err(failure_of(*alloc, explained, name, source)),
     }
 }

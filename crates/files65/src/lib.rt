@@ -8,8 +8,8 @@
 //! file. [`information_of`] and [`tags_of`] are what an information file says; [`layout_of`] and [`start_or_end`] say
 //! where the bytes of a listing belong. [`put_address`] and [`put_decimal`] write numbers.
 //!
-//! [`failure_of`] and [`faulty_listing`] say which line of a listing has a fault, with the line and a hint: what the
-//! assembler found it to be about, or a guess from its text (`hint`, and what it names). The hint is advice.
+//! [`assembled`] is what a listing means. [`failure_of`] says which line of it has a fault, with the line and a hint:
+//! what the assembler found it to be about, or a guess from its text (`hint`, and what it names). The hint is advice.
 #![tactic(auto)]
 
 mod definitions;
@@ -38,7 +38,7 @@ mod words;
 
 pub use failure::{Failure, said_after};
 pub use fault::FileFault;
-pub use faulty_line::{failure_of, faulty_listing};
+pub use faulty_line::{assembled, failure_of};
 pub use frame::obey;
 pub use information::{information_at, information_of, tags_of};
 pub use input::Input;

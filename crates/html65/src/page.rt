@@ -1,7 +1,6 @@
 //! The page of a listing.
 
-ghost use Rattle.std.specs.Prelude.{◌≡◌, IfErr, IfOk, Ok};
-ghost use Rattle.stmt65.specs.Words.{source_meaning};
+ghost use Rattle.std.specs.Prelude.{◌≡◌, IfErr, IfOk};
 ghost use Rattle.files65.specs.FaultyLine.{MayReport};
 ghost use Rattle.html65.specs.Links.{AreLinksWhole};
 ghost use Rattle.html65.specs.Operands.{AreOperandsLed};
@@ -15,24 +14,9 @@ use crate::listing::put_listing;
 use crate::map::{put_map, put_pages};
 use crate::survey::Survey;
 use crate::tables::{LINKS, put_groups, put_lists};
-use files65::{FileFault, faulty_listing};
+use files65::{FileFault, assembled};
 use std::alloc::{AllocError, Global};
-use stmt65::{Assembly, Source, assemble_lines};
-
-/// What the listing of this name means.
-fn assembled<'t, 'b>(
-    alloc: &'b Global,
-    name: &str,
-    source: &Source<'t, '_, '_>,
-) -> Result<Assembly<'t, 'b, Global>, Failure>
-    ensures bytes { IfOk result (λ a. source_meaning source.now ≡ Ok a.bytes.items) }
-    ensures fault { IfErr result (MayReport name.now source.now) }
-{
-    match assemble_lines(alloc, source) {
-        Ok(assembly) => Ok(assembly),
-        Err(fault) => Err(faulty_listing(*alloc, fault, name, source)),
-    }
-}
+use stmt65::{Assembly, Source};
 
 /// A page with this survey. Few have more than a hundred bytes for each byte of the image.
 fn written(alloc: Global, name: &str, survey: &Survey<'_, '_>) -> Result<Vec<u8>, AllocError> {

@@ -15,12 +15,12 @@ use crate::runs::{Both, run_all};
 use crate::scene::Scene;
 use crate::variables::{limit_of, move_found, move_variables, take_defined};
 use crate::world::World;
-use files65::{faulty_listing, information_of, layout_of, repair, start_or_end, tags_of};
+use files65::{assembled, information_of, layout_of, repair, start_or_end, tags_of};
 use info65::{Info, Tag, TagKind, without_numbers};
 use map65::Marks;
 use run65::{Machine, Registers};
 use std::alloc::{AllocError, Global};
-use stmt65::{AsmFault, AsmFaultKind, Assembly, Source, assemble_lines, assemble_source};
+use stmt65::{AsmFault, AsmFaultKind, Source, assemble_source};
 
 /// How often what is found is moved, and both images run again.
 const ROUNDS: usize = 8;
@@ -124,18 +124,6 @@ fn entries_of(alloc: Global, setup: &Setup<'_>, scene: &Scene) -> Result<Vec<u16
         }
     }
     Ok(found)
-}
-
-/// What the listing of this name means.
-fn assembled<'t, 'b>(
-    alloc: &'b Global,
-    name: &str,
-    source: &Source<'t, '_, '_>,
-) -> Result<Assembly<'t, 'b, Global>, Failure> {
-    match assemble_lines(alloc, source) {
-        Ok(assembly) => Ok(assembly),
-        Err(fault) => Err(faulty_listing(*alloc, fault, name, source)),
-    }
 }
 
 /// Runs both images, and judges what is seen. Returns whether another round may find more.

@@ -14,8 +14,8 @@ ghost use Rattle.name65.specs.Reordered.{AreReordered, IsCutAt, Settles, TakesLi
 use crate::complaint::Refusal;
 use crate::constant_line::put_kept;
 use crate::failure::{Failure, Refused};
-use crate::named_text::assembled;
 use crate::rewriting::cut_at;
+use files65::assembled;
 use std::alloc::{AllocError, Global};
 use stmt65::{AsmFaultKind, Language, Operation, Source, SourceLine, assemble_source, read_line};
 use text65::{first_line, is_blank};

@@ -1,34 +1,16 @@
 //! The listing by names.
 
 ghost use Rattle.std.specs.Prelude.{◌≡◌, IfErr, IfOk, IsTrue, Ok};
-ghost use Rattle.stmt65.specs.Words.{held_definitions, meaning_in, source_addresses, source_definitions, source_meaning};
+ghost use Rattle.stmt65.specs.Words.{meaning_in, source_meaning};
 ghost use Rattle.files65.specs.FaultyLine.{MayReport};
 ghost use Rattle.name65.specs.NamedText.{IsNamed, MeansTheSame, listing_of};
 
 use crate::changes::changed_text;
 use crate::failure::{Failure, Refused};
-use files65::faulty_listing;
+use files65::assembled;
 use info65::{Info, Tag};
 use std::alloc::{AllocError, Global};
-use stmt65::{Assembly, Source, Symbols, assemble_known, assemble_lines};
-
-/// What the listing of this name means.
-pub(crate) fn assembled<'t, 'b>(
-    alloc: &'b Global,
-    name: &str,
-    source: &Source<'t, '_, '_>,
-) -> Result<Assembly<'t, 'b, Global>, Failure>
-    ensures bytes { IfOk result (λ a. source_meaning source.now ≡ Ok a.bytes.items) }
-    ensures ends { IfOk result (λ a. a.ends ≡ source_addresses source.now) }
-    ensures names { IfOk result (λ a. a.names
-        ≡ held_definitions (source_definitions source.now)) }
-    ensures fault { IfErr result (MayReport name.now source.now) }
-{
-    match assemble_lines(alloc, source) {
-        Ok(assembly) => Ok(assembly),
-        Err(fault) => Err(faulty_listing(*alloc, fault, name, source)),
-    }
-}
+use stmt65::{Source, Symbols, assemble_known};
 
 /// Whether a text in the place of that of the source, which defines these names, means these bytes, as that does.
 fn means(

@@ -3,8 +3,8 @@
 ghost use Rattle.std.specs.Prelude.{◌≡◌, ◌⊎◌, Err, IfErr, IfOk, Ok, map};
 ghost use Rattle.stmt65.specs.Words.{held, held_definitions, out_of_memory, source_addresses, source_definitions, source_meaning};
 
+use crate::assembling::about::Explained;
 use crate::assembling::assembler::{Pass, Source, first_pass, second_pass};
-use crate::assembling::fault::AsmFault;
 use crate::assembling::line_ends::LineEnds;
 use crate::assembling::symbols::Symbols;
 use std::alloc::{AllocError, Allocator};
@@ -38,15 +38,16 @@ pub struct Assembly<'a, 'b, A: Allocator> {
 }
 
 /// The bytes that a text means, as [`assemble_source`](crate::assemble_source) answers them, with the address after
-/// each line and what the lines define; all of one reading.
+/// each line and what the lines define; all of one reading. Or its fault, with what that is about.
 pub fn assemble_lines<'a, 'b, L: Allocator + Clone, A: Allocator>(
     alloc: &'b A,
     source: &Source<'a, '_, '_, L>,
-) -> Result<Assembly<'a, 'b, A>, AsmFault>
+) -> Result<Assembly<'a, 'b, A>, Explained<'a>>
     /// For a text that assembles, returns its bytes, the address after each line and the definitions, from one
     /// reading. For any other text, its fault; or out of memory.
     ensures bytes { IfOk result (λ a. source_meaning source.now ≡ Ok a.bytes.items) }
-    ensures fault { IfErr result (λ e. (source_meaning source.now ≡ Err e) ⊎ (e ≡ out_of_memory)) }
+    ensures fault { IfErr result
+        (λ e. (source_meaning source.now ≡ Err e.fault) ⊎ (e.fault ≡ out_of_memory)) }
     ensures ends { IfOk result (λ a. a.ends ≡ source_addresses source.now) }
     ensures names { IfOk result (λ a. a.names ≡ held_definitions (source_definitions source.now)) }
 {
