@@ -16,7 +16,7 @@ const MOST: usize = 16;
 const WAY: usize = 1024;
 
 /// The table of a range, whose words are so much less than the addresses.
-fn table_of(range: RangeSpec, less: u16) -> Split {
+fn table_of(range: RangeSpec, less: u8) -> Split {
     Split {
         table: Table::of_code(range.first, range.first.saturating_add(1), less),
         count: usize::from(range.last.saturating_sub(range.first)).saturating_add(1) / 2,

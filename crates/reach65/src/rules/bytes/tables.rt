@@ -60,7 +60,7 @@ pub fn mark_tables(
         if table.has_words() {
             for index in 0..count {
                 let (at, _) = table.places(index);
-                ground.put_words(table.less, at, at.saturating_add(2));
+                ground.put_words(u16::from(table.less), at, at.saturating_add(2));
             }
         } else if 1 < count {
             ground.put_numbers(low, low_end);

@@ -197,7 +197,8 @@ impl Search<'_> {
         self.read_tables()?;
         let tables = Vec::from_slice(steps.alloc(), &self.tables)?;
         for &table in &tables {
-            if table.is_code && known.binary_search(&table).is_err() {
+            let place = known.binary_search_by_key(&table.number(), |known| known.number());
+            if table.is_code && place.is_err() {
                 self.join_table(table)?;
             }
         }

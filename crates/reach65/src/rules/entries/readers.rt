@@ -10,13 +10,13 @@ use map65::{ADDRESSES, Image, Marks, is_inside};
 use std::alloc::{AllocError, Global};
 
 /// The most entries of a table that an index of a byte reaches.
-const MOST: usize = 256;
+const MOST: u16 = 256;
 
 /// How many entries before the first one the operands may lie, in data: an index often begins at 1.
-const BEFORE: usize = 4;
+const BEFORE: u8 = 4;
 
 /// How far apart the words of records may stand.
-const APART: usize = 8;
+const APART: u8 = 8;
 
 /// How many bytes may be copied to where jumps lead through.
 const COPIED: u16 = 64;
@@ -30,23 +30,23 @@ pub const PATIENCE: usize = 0x1_0000;
 
 /// A table of addresses that reached code reads: where its low and its high bytes begin, how much less they are than
 /// the addresses, and whether code begins there.
-#[derive(Clone, Copy, PartialEq, Eq, PartialOrd, Ord)]
+#[derive(Clone, Copy, PartialEq, Eq)]
 pub struct Table {
     pub low: u16,
     pub high: u16,
-    pub less: u16,
+    pub less: u8,
     pub is_code: bool,
     /// How many entries before these the operands lie.
-    pub before: usize,
+    before: u8,
     /// How far apart two words of it stand: other bytes of a record may stand between them.
-    pub apart: usize,
+    apart: u8,
     /// How many entries it has at most.
-    pub limit: usize,
+    limit: u16,
 }
 
 impl Table {
     /// Returns the table of addresses of code, less so much.
-    pub fn of_code(low: u16, high: u16, less: u16) -> Table {
+    pub fn of_code(low: u16, high: u16, less: u8) -> Table {
         Table {
             low,
             high,
@@ -58,6 +58,14 @@ impl Table {
         }
     }
 
+    /// Returns its fields as one number, by which tables are in order.
+    pub fn number(&self) -> u64 {
+        let places = u64::from(self.low) << 16 | u64::from(self.high);
+        let kind = u64::from(self.less) << 1 | u64::from(self.is_code);
+        let entries = u64::from(self.before) << 4 | u64::from(self.apart);
+        places << 32 | kind << 24 | entries << 16 | u64::from(self.limit)
+    }
+
     /// Returns whether the low and the high bytes stand in words, and not in two tables.
     pub fn has_words(&self) -> bool {
         usize::from(self.high) == usize::from(self.low) + 1
@@ -65,7 +73,11 @@ impl Table {
 
     /// How far one entry is behind the one before it.
     fn step(&self) -> usize {
-        if self.has_words() { self.apart } else { 1 }
+        if self.has_words() {
+            usize::from(self.apart)
+        } else {
+            1
+        }
     }
 
     /// Returns the places of the low and the high byte of an entry.
@@ -81,15 +93,17 @@ impl Table {
     pub fn entry(&self, image: &Image, index: usize) -> Option<u16> {
         let (low, high) = self.places(index);
         let word = u16::from_le_bytes([byte(image, low)?, byte(image, high)?]);
-        word.checked_add(self.less)
+        word.checked_add(u16::from(self.less))
     }
 
     /// Returns how many entries it may have: the two tables of halves do not meet.
     pub fn most(&self) -> usize {
-        if self.has_words() {
-            return self.limit;
-        }
-        usize::from(self.low.abs_diff(self.high)).min(self.limit)
+        let most = if self.has_words() {
+            self.limit
+        } else {
+            self.low.abs_diff(self.high).min(self.limit)
+        };
+        usize::from(most)
     }
 
     /// Returns whether one of two tables of halves begins right behind the other: three quarters of the entries up to
@@ -124,7 +138,7 @@ impl Table {
             return self;
         }
         for before in 1..=BEFORE {
-            let (low, high) = self.places(before);
+            let (low, high) = self.places(usize::from(before));
             let (Some(low), Some(high)) = (address(low), address(high)) else {
                 return self;
             };
@@ -167,14 +181,14 @@ impl Table {
     /// Returns whether the operand of an instruction that reads the table is at the address.
     pub fn is_read_at(&self, at: usize) -> bool {
         let (low, high) = self.places(0);
-        let at = at.saturating_add(self.before.saturating_mul(self.step()));
+        let at = at.saturating_add(usize::from(self.before).saturating_mul(self.step()));
         at == low || at == high
     }
 
     /// Returns the tables of halves without the entries that code has, if it has the first one: an index
     /// may begin at another number than 0.
     fn behind(self, code: &Marks, left: &mut usize) -> Table {
-        for index in 0..MOST.min(left.saturating_add(1)) {
+        for index in 0..usize::from(MOST).min(left.saturating_add(1)) {
             *left = left.saturating_sub(index.min(1));
             let (low, high) = self.places(index);
             if !code.get_at(low)
@@ -375,7 +389,7 @@ impl Readers {
             }
         }
         self.put_copied(alloc, &mut read, &copies)?;
-        read.sort()?;
+        read.sort_by_cached_key(|table| table.number())?;
         read.dedup();
         let mut found = Vec::new(alloc);
         for &table in &read {
@@ -384,7 +398,7 @@ impl Readers {
             let table = if is_better { behind } else { table };
             found.push(table.from_first(steps).of_records(steps))?;
         }
-        found.sort()?;
+        found.sort_by_cached_key(|table| table.number())?;
         found.dedup();
         Ok(found)
     }
