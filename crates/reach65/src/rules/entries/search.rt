@@ -137,27 +137,41 @@ impl<'a> Search<'a> {
         Ok(search)
     }
 
-    /// Marks an address that is to be looked at, unless there is none or it is marked.
-    fn put(&mut self, address: Option<u16>) -> Result<(), AllocError> {
+    /// Marks an address, if there is one. Returns it if it is to be looked at: it was not marked.
+    fn put(&mut self, address: Option<u16>) -> Result<Option<u16>, AllocError> {
         let Some(address) = address else {
-            return Ok(());
+            return Ok(None);
         };
         if self.marks.get(address) {
             self.meets = self.meets || !self.fresh.get(address);
-            return Ok(());
+            return Ok(None);
         }
         self.marks.set(address);
         self.fresh.set(address);
-        self.todo.push(address)?;
         self.added.push(address)?;
-        Ok(())
+        Ok(Some(address))
+    }
+
+    /// Marks two addresses, if there are any. Returns the one that is to be looked at next: the second, if it was not
+    /// marked.
+    fn put_two(&mut self, next: Option<u16>, goal: Option<u16>) -> Result<Option<u16>, AllocError> {
+        let next = self.put(next)?;
+        match (next, self.put(goal)?) {
+            (Some(next), Some(goal)) => {
+                self.todo.push(next)?;
+                Ok(Some(goal))
+            }
+            (next, goal) => Ok(goal.or(next)),
+        }
     }
 
     /// Adds an address to the entries, and marks it if it lies in the image.
     fn put_entry(&mut self, address: u16) -> Result<(), AllocError> {
         self.entries.push(address)?;
-        if is_inside(self.steps.image(), usize::from(address)) {
-            self.put(Some(address))?;
+        if is_inside(self.steps.image(), usize::from(address))
+            && let Some(address) = self.put(Some(address))?
+        {
+            self.todo.push(address)?;
         }
         Ok(())
     }
@@ -165,20 +179,20 @@ impl<'a> Search<'a> {
     /// Marks all that is reached. If each instruction is to be fine, it stops at the first that is not, and
     /// returns where code cannot go on.
     fn run(&mut self, fine: bool) -> Result<Option<u16>, AllocError> {
+        let mut following = None;
         for _ in 0..ADDRESSES + 1 {
-            let Some(address) = self.todo.pop() else {
+            let Some(address) = following.or_else(|| self.todo.pop()) else {
                 break;
             };
             let steps = self.steps;
-            match steps.at(address) {
+            following = match steps.at(address) {
                 Some(step) if !fine || is_fine(steps, &self.stored, step) => {
-                    self.put(step.next)?;
-                    self.put(step.goal)?;
+                    self.put_two(step.next, step.goal)?
                 }
                 None if fine && is_passed(steps, address) => self.put(address.checked_add(1))?,
                 _ if fine => return Ok(Some(obstacle_of(steps, address))),
-                _ => {}
-            }
+                _ => None,
+            };
         }
         Ok(None)
     }
