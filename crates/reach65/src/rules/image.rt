@@ -14,9 +14,11 @@ pub fn byte(image: &Image, at: usize) -> Option<u8> {
 
 /// Returns the word at the address, low byte first, if both of its bytes lie in the image.
 pub fn word(image: &Image, at: usize) -> Option<u16> {
-    let low = byte(image, at)?;
-    let high = byte(image, at.checked_add(1)?)?;
-    Some(u16::from_le_bytes([low, high]))
+    let index = at.checked_sub(usize::from(image.start()))?;
+    match image.bytes().get(index..)? {
+        &[low, high, ..] => Some(u16::from_le_bytes([low, high])),
+        _ => None,
+    }
 }
 
 /// Returns the bytes of the image from an address of it on, so many at most.

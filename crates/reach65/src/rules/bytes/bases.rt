@@ -37,16 +37,20 @@ fn given(steps: &Steps<'_>) -> Result<Marks, AllocError> {
     Ok(marks)
 }
 
-/// The addresses of the image that no code has, in order.
-fn open_places(survey: &Survey<'_>) -> Result<Vec<u16>, AllocError> {
+/// Where code ends in the image: the addresses right behind it that no code has, in order.
+fn code_ends(survey: &Survey<'_>) -> Result<Vec<u16>, AllocError> {
     let (start, end) = ends(survey.steps.image());
     let mut found = Vec::new(survey.steps.alloc());
+    let mut was_code = false;
     for at in start..end {
-        if !survey.code.get_at(at)
+        let is_code = survey.code.get_at(at);
+        if was_code
+            && !is_code
             && let Some(place) = address(at)
         {
             found.push(place)?;
         }
+        was_code = is_code;
     }
     Ok(found)
 }
@@ -70,10 +74,10 @@ pub fn bases_of(survey: &Survey<'_>) -> Result<Vec<Base>, AllocError> {
     if found.is_empty() {
         return Ok(found);
     }
-    let (given, open) = (given(steps)?, open_places(survey)?);
+    let (given, code_ends) = (given(steps)?, code_ends(survey)?);
     for base in found.as_mut_slice() {
-        let index = open.partition_point(|place| *place < base.operand);
-        if let Some(&table) = open.get(index)
+        let index = code_ends.partition_point(|place| *place < base.operand);
+        if let Some(&table) = code_ends.get(index)
             && table.saturating_sub(base.operand) < FAR
         {
             base.table = table;

@@ -84,12 +84,15 @@ pub fn words_of(ground: &Ground<'_>, survey: &Survey<'_>) -> Result<Words, Alloc
         let (&[low, high], Some(here)) = (bytes, address(at)) else {
             continue;
         };
+        if !ground.is_plain(at) {
+            continue;
+        }
         let word = u16::from_le_bytes([low, high]);
         let to = usize::from(word);
         let (is_named, is_near) = (named.get(word), word.abs_diff(here) <= FAR);
         let is_code = survey.reached.get(word) || survey.reached.get_at(to + 1);
         // Most words are none of this.
-        if !is_code && !is_named && !is_near || ground.word(at).is_none() {
+        if !is_code && !is_named && !is_near || !ground.is_plain(at.saturating_add(1)) {
             continue;
         }
         if is_named || survey.is_routine(to) || survey.is_routine(to + 1) {

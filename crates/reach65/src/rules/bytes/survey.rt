@@ -91,8 +91,11 @@ impl<'a> Survey<'a> {
         };
         let (start, end) = ends(steps.image());
         for at in start..end {
-            if let Some(placed) = steps.marked(reached, at as u16) {
-                survey.put(placed)?;
+            let at = at as u16;
+            if reached.get(at)
+                && let Some(step) = steps.at(at)
+            {
+                survey.put(Placed { at, step })?;
             }
         }
         Ok(survey)

@@ -450,7 +450,7 @@ fn is_sure(survey: &Survey<'_>, items: &Marks, pair: Pair) -> bool {
 
 /// Whether the address may be meant: no reached instruction has it, or a routine begins there.
 fn is_address(survey: &Survey<'_>, pair: Pair) -> bool {
-    pair.less == 0 && survey.is_likely(pair.address) || survey.is_routine(pair.meant())
+    pair.less == 0 && !survey.code.get(pair.address) || survey.is_routine(pair.meant())
 }
 
 /// Whether reached code stores to the address, or to one of the two before it.
