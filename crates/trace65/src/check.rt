@@ -72,30 +72,14 @@ fn is_default(name: Given<'_>, address: u16) -> bool
         && name.text == default_name(address).as_slice()
 }
 
-/// Whether the ranges are the same.
-fn are_same_ranges(a: &[RangeSpec], b: &[RangeSpec]) -> bool
-    ensures { IsTrue result → a.now ≡ b.now }
-{
-    if a.len() != b.len() {
-        return false;
-    }
-    'pairs: for index in 0..a.len() {
-        if a[index] != b[index] {
-            return false;
-        }
-    }
-    true
-}
-
 /// Whether the ranges are those of the base, and then these.
 fn are_ranges(new: &[RangeSpec], base: &[RangeSpec], found: &[RangeSpec]) -> bool
     ensures { IsTrue result → new.now ≡ base.now ++ found.now }
 {
-    if new.len() < base.len() {
-        return false;
+    match new.strip_prefix(base) {
+        Some(after) => after == found,
+        None => false,
     }
-    let (before, after) = new.split_at(base.len());
-    are_same_ranges(before, base) && are_same_ranges(after, found)
 }
 
 /// Whether the segments are the same.
