@@ -8,10 +8,10 @@ use crate::moves::{labels_in, moves_in, put_moves};
 use crate::origins::Reached;
 use crate::shown::changes;
 use crate::stretches::{Stretch, next_stretch};
-use files65::{at_most, put_address, put_decimal, put_dots, put_shown};
+use files65::{at_most, put_dots, put_shown};
 use map65::Image;
 use std::alloc::{AllocError, Global};
-use text65::hex_digit;
+use text65::{hex_digit, put_address, put_decimal};
 
 /// How many bytes of a stretch are shown.
 const SHOWN_BYTES: usize = 8;

@@ -5,9 +5,10 @@ ghost use Rattle.stmt65.specs.Words.{definition_of, source_meaning};
 ghost use Rattle.as65.specs.Words.{Reports, label_line, labels_of, source_labels};
 
 use crate::failure::Failure;
-use files65::{assembled, put_address};
+use files65::assembled;
 use std::alloc::{AllocError, Global};
 use stmt65::{Definition, Source};
+use text65::put_address;
 
 /// Appends the line of a name whose value is an address.
 fn put_label(out: &mut Vec<u8>, name: Definition<'_>) -> Result<(), AllocError>

@@ -6,10 +6,9 @@ ghost use Rattle.as65.specs.Words.{IsBy, IsMoved, address_in_name, bytes_text, d
 
 use crate::assembled::Assembled;
 use crate::failure::{Failure, Refused};
-use files65::{put_address, put_decimal};
 use std::alloc::{AllocError, Global};
 use stmt65::{Source, SourceLine, read_line};
-use text65::first_line;
+use text65::{first_line, put_address, put_decimal};
 
 /// A label `LXXXX`: the number of its line, from 1, the address in its name, and the address at which it lies.
 #[derive(Clone, Copy)]

@@ -13,7 +13,7 @@ ghost use Rattle.as65.specs.Words.{AreMoved, AreSources, GaveBefore, GaveBy, Had
 
 use crate::assembled::Assembled;
 use crate::moves::{IN_PLACE, Label, address_in_name, is_alike};
-use files65::{put_decimal, repair};
+use files65::repair;
 use map65::{Image, Marks};
 use std::alloc::{AllocError, Global};
 use std::marker::Model;
@@ -21,7 +21,7 @@ use stmt65::{
     AsmFaultKind, Assembly, Definition, Source, SourceLine, Symbols, assemble_lines,
     assemble_source, names_in, read_line,
 };
-use text65::first_line;
+use text65::{first_line, put_decimal};
 
 /// A line that gives bytes: how many lines are above it, the address of its first byte, and that after its last one.
 #[derive(Clone, Copy)]

@@ -2,12 +2,11 @@
 
 use crate::guess::put_guess;
 use crate::lines::line_at;
-use crate::numbers::put_decimal;
 use crate::shown::{put_shown, trimmed};
 use crate::words::{after_blanks, first_word};
 use std::alloc::{AllocError, Global};
 use stmt65::{Source, read_line};
-use text65::first_line;
+use text65::{first_line, put_decimal};
 
 /// A line that gives a value to a name: its number, from 1, the name and the line.
 #[derive(Clone, Copy)]

@@ -6,7 +6,7 @@
 //! is an input, a stream that is two inputs, and an output that is no file. [`obey`] does what a command line asks for.
 //! [`say`] says why a program gives up, a [`Failure`], and [`end`] ends it; a [`FileFault`] is what can go wrong with a
 //! file. [`information_of`] and [`tags_of`] are what an information file says; [`layout_of`] and [`start_or_end`] say
-//! where the bytes of a listing belong. [`put_address`] and [`put_decimal`] write numbers.
+//! where the bytes of a listing belong.
 //!
 //! [`assembled`] is what a listing means. [`failure_of`] says which line of it has a fault, with the line and a hint:
 //! what the assembler found it to be about, or a guess from its text (`hint`, and what it names). The hint is advice.
@@ -27,7 +27,6 @@ mod limits;
 mod lines;
 mod message;
 mod named_twice;
-mod numbers;
 mod output;
 mod place;
 mod placeholders;
@@ -44,7 +43,6 @@ pub use information::{information_at, information_of, tags_of};
 pub use input::Input;
 pub use lines::{after_lines, first_of, line_at};
 pub use message::{end, say};
-pub use numbers::{put_address, put_decimal};
 pub use output::{Output, write_text};
 pub use place::{layout_of, repair, start_or_end};
 pub use placeholders::Placeholders;

@@ -1,9 +1,8 @@
 //! What a page is written with: markup, texts of the listing, numbers and links.
 
-use files65::{put_address, put_decimal};
 use std::alloc::AllocError;
 use std::simd::prelude::{SimdPartialEq, u8x16};
-use text65::hex_digit;
+use text65::{hex_digit, put_address, put_decimal};
 
 /// Appends parts to a page, one after the other.
 macro_rules! put {

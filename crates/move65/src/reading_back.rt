@@ -5,11 +5,8 @@ ghost use Rattle.info65.specs.Words.{information, tags_of};
 ghost use Rattle.move65.specs.Accepted.{IsAccepted};
 
 use crate::failure::{Failure, Refused};
-use info65::{Info, InfoFault, InfoFaultKind, Options, Tag, read_info, read_tags};
+use info65::{Info, InfoFault, InfoFaultKind, MOST_BYTES, Options, Tag, read_info, read_tags};
 use std::alloc::Global;
-
-/// The most that an information file may have.
-const LIMIT: usize = 1_048_576;
 
 /// The failure for a fault of the file with what is found.
 fn refused(fault: InfoFault) -> Failure {
@@ -33,7 +30,7 @@ fn info_in(alloc: Global, options: &Options, bytes: &[u8]) -> Result<Info, Failu
 fn groups_in(alloc: Global, bytes: &[u8]) -> Result<Vec<Tag>, Failure>
     ensures { IfOk result (λ tags. tags_of bytes.now ≡ Ok tags.items) }
 {
-    if LIMIT < bytes.len() {
+    if MOST_BYTES < bytes.len() {
         return Err(refused(InfoFault {
             line: 1,
             kind: InfoFaultKind::TooLarge,

@@ -9,9 +9,9 @@ use crate::complaint::{Refusal, need};
 use crate::constants::{Fate, fate_of};
 use crate::plan::{NewText, PlacedLine, Plan};
 use crate::rewriting::{cut_at, has_no_comment, put_rest};
-use files65::put_decimal;
 use std::alloc::AllocError;
 use stmt65::{Language, Numeral, Places, SourceLine, Span, read_line};
+use text65::put_decimal;
 
 /// Appends a line as it was.
 pub fn put_kept(out: &mut Vec<u8>, line: &[u8]) -> Result<(), AllocError>

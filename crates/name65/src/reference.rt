@@ -4,9 +4,9 @@ ghost use Rattle.std.specs.Prelude.{◌≡◌, ◌++◌, OnOk};
 ghost use Rattle.name65.specs.Changes.{address_text, reference_text, sign_of};
 
 use crate::operands::Style;
-use files65::put_decimal;
 use std::alloc::AllocError;
 use stmt65::Half;
+use text65::put_decimal;
 
 /// How far an address is from the value of a name.
 #[derive(Clone, Copy, PartialEq, Eq)]

@@ -36,12 +36,12 @@ impl<'a> Text<'a> {
 
     /// Adds these bytes, and the address in hexadecimal.
     fn put_address(&mut self, text: &[u8], address: u16) -> Result<(), AllocError> {
-        files65::put_address(&mut self.out, text, usize::from(address))
+        text65::put_address(&mut self.out, text, usize::from(address))
     }
 
     /// Adds these bytes, and the number in decimal.
     fn put_decimal(&mut self, text: &[u8], number: usize) -> Result<(), AllocError> {
-        files65::put_decimal(&mut self.out, text, number)
+        text65::put_decimal(&mut self.out, text, number)
     }
 
     /// Adds the name of an address, if it has one, and how far the address lies after that of its name.

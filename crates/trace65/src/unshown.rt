@@ -4,10 +4,10 @@ ghost use Rattle.std.specs.Prelude.{◌≡◌, IfOk};
 ghost use Rattle.info65.specs.Words.{Adds};
 ghost use Rattle.trace65.specs.Words.{is_unshown, unshown_in, unshown_items, unshown_lines};
 
-use files65::put_address;
 use map65::{Map, Marks};
 use reach65::Steps;
 use std::alloc::{AllocError, Global};
+use text65::put_address;
 
 /// Whether an instruction is reached that begins at the address, and no item of the map begins there that is as long.
 #[tactic(auto, unfolding(crate::specs::Unshown::is_unshown))]

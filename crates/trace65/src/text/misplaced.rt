@@ -2,12 +2,12 @@
 //! an entry inside a reached instruction; and for vectors that lead out of it.
 
 use crate::text::Text;
-use files65::put_address;
 use info65::TagKind;
 use map65::{ADDRESSES, is_inside};
 use reach65::rules::entries::starts::has_vectors;
 use reach65::rules::image::{ends, word};
 use std::alloc::AllocError;
+use text65::put_address;
 
 /// How near to the image an address in halves may lie.
 const NEAR: usize = 256;

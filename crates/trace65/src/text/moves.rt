@@ -1,10 +1,10 @@
 //! The lines of labels, and the lines `#: ..`: for addresses that code loads in halves, and what lies after the image.
 
 use crate::text::Text;
-use files65::put_address;
 use info65::TagKind;
 use reach65::rules::image::ends;
 use std::alloc::AllocError;
+use text65::put_address;
 
 /// How many instructions that have far operands are told.
 const TOLD: usize = 256;

@@ -1,10 +1,10 @@
 //! A picture of an image: a character for 64 bytes, and the counts of its bytes; and what helps where little is known.
 
 use crate::text::Text;
-use files65::put_address;
 use map65::Marks;
 use reach65::rules::image::ends;
 use std::alloc::AllocError;
+use text65::put_address;
 
 /// How many bytes a character stands for.
 const CELL: usize = 64;

@@ -3,9 +3,9 @@
 ghost use Rattle.std.specs.Prelude.{◌≡◌, ◌++◌, OnOk, decimal};
 ghost use Rattle.text65.specs.Digits.{digits4};
 
+use crate::digits::hex_digit;
 use itoa::Buffer;
 use std::alloc::AllocError;
-use text65::hex_digit;
 
 /// Appends a text, and an address in four hex digits.
 pub fn put_address(out: &mut Vec<u8>, before: &[u8], address: usize) -> Result<(), AllocError>
