@@ -1,11 +1,12 @@
-//! Public functions that allocate nothing, each called once. Proofs hold what they return to worked values,
-//! in the files `Rows` of their crates.
+//! Public functions that need no memory but what they are given, each called once. Proofs hold what they return to
+//! worked values, in the files `Rows` of their crates.
 
 use crate::tests::asserts::{assert_equal, assert_that};
 use isa65::{Cpu, DecodeTable, EncodeTable, Mnemonic, Mode, Op, OpcodeSet};
 use stmt65::{Column, Columns, LabelBreak, Level, LimitError, Line, Remarks, Statement, put_line};
 use text65::{
     are_word_bytes, first_line, has_name_form, hex_digit, is_blank, is_reserved_word, is_word_byte,
+    put_address, put_decimal,
 };
 
 /// `stx` with a zero-page operand that is indexed by Y, and the absolute one that is written like it.
@@ -47,6 +48,14 @@ fn texts(rt: HostRuntime) {
     assert_that(&rt, are_word_bytes(b"1aZ_") && is_word_byte(b'_'));
     assert_that(&rt, is_blank(b'\t') && !is_blank(b'\n'));
     assert_equal(&rt, &hex_digit(10), &b'A');
+}
+
+#[test]
+fn digits(rt: HostRuntime) {
+    let mut out = Vec::new(rt.alloc());
+    put_address(&mut out, b"$", 0x10FFA).expect(&rt, "room");
+    put_decimal(&mut out, b", ", 1020).expect(&rt, "room");
+    assert_equal(&rt, &out.as_slice(), &b"$0FFA, 1020".as_slice());
 }
 
 #[test]
