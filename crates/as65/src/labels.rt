@@ -5,9 +5,9 @@ ghost use Rattle.stmt65.specs.Words.{definition_of, source_meaning};
 ghost use Rattle.as65.specs.Words.{Reports, label_line, labels_of, source_labels};
 
 use crate::failure::Failure;
-use files65::assembled;
+use files65::failure_of;
 use std::alloc::{AllocError, Global};
-use stmt65::{Definition, Source};
+use stmt65::{Definition, Source, assemble_lines};
 use text65::put_address;
 
 /// Appends the line of a name whose value is an address.
@@ -44,6 +44,8 @@ pub fn names_in(alloc: Global, source: &Source<'_, '_, '_>, name: &str) -> Resul
     ensures whole { OnOk result (IsOk (source_meaning source.now)) }
     ensures fault { IfErr result (Reports name.now source.now) }
 {
-    let assembly = assembled(&alloc, name, source)?;
-    Ok(label_lines(alloc, assembly.names.definitions())?)
+    match assemble_lines(&alloc, source) {
+        Ok(assembly) => Ok(label_lines(alloc, assembly.names.definitions())?),
+        Err(explained) => Err(failure_of(alloc, explained, name, source)),
+    }
 }
