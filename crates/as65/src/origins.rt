@@ -6,13 +6,6 @@ ghost use Rattle.as65.specs.Words.{IsReached, ended};
 
 use files65::{after_lines, first_of, trimmed};
 
-/// A line of a listing, and its number, from 1.
-#[derive(Clone, Copy)]
-pub struct Origin<'a> {
-    pub number: usize,
-    pub line: &'a [u8],
-}
-
 /// The line that a pass over a text has reached.
 #[derive(Clone, Copy)]
 pub struct Reached<'a> {
