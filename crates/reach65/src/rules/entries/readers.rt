@@ -391,13 +391,20 @@ impl Readers {
         self.put_copied(alloc, &mut read, &copies)?;
         read.sort_by_cached_key(|table| table.number())?;
         read.dedup();
-        let mut found = Vec::new(alloc);
+        let (mut found, mut moved) = (Vec::new(alloc), Vec::new(alloc));
         for &table in &read {
             let behind = table.behind(code, left);
             let is_better = behind.low != table.low && behind.is_whole(steps, left);
-            let table = if is_better { behind } else { table };
-            found.push(table.from_first(steps).of_records(steps))?;
+            let best = if is_better { behind } else { table };
+            let best = best.from_first(steps).of_records(steps);
+            if best == table {
+                found.push(best)?;
+            } else {
+                moved.push(best)?;
+            }
         }
+        // Those before are in order already, which makes this quick.
+        found.extend_from_slice(&moved)?;
         found.sort_by_cached_key(|table| table.number())?;
         found.dedup();
         Ok(found)
