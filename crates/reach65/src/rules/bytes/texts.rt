@@ -36,10 +36,15 @@ impl Alphabet {
         }
     }
 
+    /// Returns whether the first five bytes are characters, or all if there are fewer.
+    pub fn may_begin(self, bytes: &[u8]) -> bool {
+        bytes.iter().take(LEAST).all(|byte| self.is_char(*byte))
+    }
+
     /// Returns how many characters the bytes begin with, if they are a text, else 0.
     pub fn text_len(self, bytes: &[u8]) -> usize {
         // Most bytes of code end here.
-        if bytes.iter().take(LEAST).any(|byte| !self.is_char(*byte)) {
+        if !self.may_begin(bytes) {
             return 0;
         }
         let mut chars = Chars::none();

@@ -228,6 +228,10 @@ impl<'a> Search<'a> {
     fn is_text(&self, address: u16) -> bool {
         let image = self.steps.image();
         let mut at = usize::from(address);
+        let first = bytes_at(image, at, MARGIN);
+        if !ALPHABETS.iter().any(|alphabet| alphabet.may_begin(first)) {
+            return false;
+        }
         for _ in 0..ADDRESSES {
             match u16::try_from(at) {
                 Ok(here) if self.fresh.get(here) => at = at.saturating_add(self.steps.len_at(here)),
