@@ -2,7 +2,8 @@
 use Rattle.std.specs.Prelude.{◌==◌, ◌||◌, ℕ, List, Option, Result, Ok, Err, codes, if◌then◌else◌, unwrap_or}
 use Rattle.clap.specs.Words.{Row, first_of}
 use Rattle.info65.specs.Words.{OptionsView, no_options}
-use Rattle.usage65.specs.Words.{BadUsage, FileNamesView, OutOfRange, Refusal, address_in, addresses_given, cpu_in, given, info_named, input_named, names_apart, names_seen, or_refused, output_named, ◌>>=◌}
+use Rattle.usage65.specs.Words.{BadUsage, FileNamesView, Refusal, address_in, addresses_given, cpu_in, given, info_named, input_named, names_apart, names_seen, or_refused, output_named, ◌>>=◌}
+use Rattle.usage65.specs.declared.fault.UsageFault.TheVariants.{OutOfRange}
 use Rattle.move65.specs.declared.request.Moving.{Moving}
 use Rattle.move65.specs.declared.request.TheConstants.{BY}
 use Rattle.move65.specs.declared.runs.TheConstants.{LONG}
