@@ -50,7 +50,7 @@ use stmt65::Source;
 use usage65::{FileNames, Request, RequestFault, words_of};
 
 /// The image that the information file has by its INPUTNAME. The listing may not be the same stream.
-fn listed(rt: &HostRuntime, listing: &str, info: &Info) -> Result<Option<Image>, Failure> {
+fn named_image(rt: &HostRuntime, listing: &str, info: &Info) -> Result<Option<Image>, Failure> {
     let Some(name) = info.settings().input.as_deref() else {
         return Ok(None);
     };
@@ -63,7 +63,7 @@ fn start_in(rt: &HostRuntime, names: &FileNames, info: &Info) -> Result<u16, Fai
     if let Some(start) = placed_at(info.settings()) {
         return Ok(start);
     }
-    if let Some(image) = listed(rt, names.listing.as_str(), info)? {
+    if let Some(image) = named_image(rt, names.listing.as_str(), info)? {
         return Ok(image.start());
     }
     match names.info.as_deref() {
@@ -79,7 +79,7 @@ fn start_in(rt: &HostRuntime, names: &FileNames, info: &Info) -> Result<u16, Fai
 fn len_in(rt: &HostRuntime, listing: &str, info: &Info) -> Result<Option<usize>, Failure> {
     match info.settings().size {
         Some(size) => Ok(Some(size as usize)),
-        None => Ok(listed(rt, listing, info)?.map(|image| image.bytes().len())),
+        None => Ok(named_image(rt, listing, info)?.map(|image| image.bytes().len())),
     }
 }
 
@@ -104,7 +104,7 @@ fn assembled_in<'s, 't, 'l, 'n>(
 
 /// Reads the listing, and writes its bytes or its names. The output may not be the input of the information file
 /// either, and is created once they are there.
-fn write_under(rt: &HostRuntime, writing: &mut Writing, info: &Info) -> Result<Ended, Failure> {
+fn write_listing(rt: &HostRuntime, writing: &mut Writing, info: &Info) -> Result<Ended, Failure> {
     let names = &mut writing.names;
     let inputs = [info.settings().input.as_deref()];
     keep_inputs(rt, names.output.as_deref(), &inputs)?;
@@ -131,7 +131,7 @@ fn write_image(rt: &HostRuntime, writing: &mut Writing) -> Result<Ended, Failure
     keep_inputs(rt, names.output.as_deref(), &inputs)?;
     keep_apart(rt, &inputs)?;
     let info = information(rt, names.info.as_deref(), writing.place.start)?;
-    write_under(rt, writing, &info)
+    write_listing(rt, writing, &info)
 }
 
 /// Reads the image and the listing, and writes on standard output where their bytes differ.

@@ -55,7 +55,7 @@ fn devices(
 }
 
 /// Opens the input and the output, and lists.
-fn list_with(
+fn list_image(
     rt: &HostRuntime,
     read: Result<Info, InfoFault>,
     contents: &[Content],
@@ -75,7 +75,7 @@ fn list_with(
 }
 
 /// Reads the information file and its include files, and lists under them.
-fn list_under(rt: &HostRuntime, options: &Options) -> Result<Status, Failure> {
+fn list_by_options(rt: &HostRuntime, options: &Options) -> Result<Status, Failure> {
     let read = read_info(
         rt.alloc(),
         options,
@@ -83,7 +83,7 @@ fn list_under(rt: &HostRuntime, options: &Options) -> Result<Status, Failure> {
     );
     let needs = needs_read(rt.alloc(), &read)?;
     let contents = include_files(rt, needs.includes)?;
-    list_with(rt, read, &contents, needs.input, needs.output)
+    list_image(rt, read, &contents, needs.input, needs.output)
 }
 
 /// Does what the options ask for.
@@ -94,7 +94,7 @@ fn obey(rt: &HostRuntime, options: &Options) -> Result<Status, Failure> {
     if options.version {
         return tell(rt, &this_program().version_text(rt.alloc())?);
     }
-    list_under(rt, options)
+    list_by_options(rt, options)
 }
 
 fn program(rt: &HostRuntime) -> Result<Status, Failure> {

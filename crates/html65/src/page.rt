@@ -19,7 +19,7 @@ use std::alloc::{AllocError, Global};
 use stmt65::{Assembly, Source};
 
 /// A page with this survey. Few have more than a hundred bytes for each byte of the image.
-fn written(alloc: Global, name: &str, survey: &Survey<'_, '_>) -> Result<Vec<u8>, AllocError> {
+fn page_with(alloc: Global, name: &str, survey: &Survey<'_, '_>) -> Result<Vec<u8>, AllocError> {
     let room = survey.bytes.len().saturating_mul(100);
     let mut out = Vec::with_capacity(alloc, room.saturating_add(survey.text.len()))?;
     put_head(&mut out, name.as_bytes(), survey)?;
@@ -36,25 +36,29 @@ fn written(alloc: Global, name: &str, survey: &Survey<'_, '_>) -> Result<Vec<u8>
 }
 
 /// A page of the listing of this name, which means these bytes. What it was made of is not kept.
-fn written_of<'t>(
+fn page_from<'t>(
     alloc: Global,
     name: &str,
     source: &Source<'t, '_, '_>,
     assembly: &Assembly<'t, '_, Global>,
 ) -> Result<Vec<u8>, AllocError> {
     let survey = Survey::of(alloc, source, assembly)?;
-    written(alloc, name, &survey)
+    page_with(alloc, name, &survey)
 }
 
-/// A page of the listing of this name, as it is hoped for.
-fn hoped_for(alloc: Global, name: &str, source: &Source<'_, '_, '_>) -> Result<Vec<u8>, Failure>
+/// A page of the listing of this name, of which nothing is checked yet.
+fn unchecked_page(
+    alloc: Global,
+    name: &str,
+    source: &Source<'_, '_, '_>,
+) -> Result<Vec<u8>, Failure>
     ensures { IfErr result (MayReport name.now source.now) }
 {
     let assembly = assembled(&alloc, name, source)?;
     if assembly.bytes.is_empty() {
         return Err(Failure::File(FileFault::Empty(String::from_str(alloc, name)?)));
     }
-    Ok(written_of(alloc, name, source, &assembly)?)
+    Ok(page_from(alloc, name, source, &assembly)?)
 }
 
 /// Returns the page of the listing of this name. Fails with the first fault of the listing, and if it has no byte.
@@ -74,7 +78,7 @@ pub fn page_of(alloc: Global, name: &str, source: &Source<'_, '_, '_>) -> Result
     /// none, and the beginning of the line, as as65 reports it.
     ensures fault { IfErr result (MayReport name.now source.now) }
 {
-    let page = hoped_for(alloc, name, source)?;
+    let page = unchecked_page(alloc, name, source)?;
     match fault_in(alloc, &page, source.text)? {
         None => Ok(page),
         Some(Fault::Text) => Err(Failure::Own(Refused::Text(String::from_str(alloc, name)?))),

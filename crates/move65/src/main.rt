@@ -25,7 +25,7 @@ use failure::Failure;
 use files65::{
     Output, keep_files, obey, read_information, read_listing, said_after, say, write_text,
 };
-use moving::text_of;
+use moving::report_of;
 use request::{Moving, request_of};
 use std::process::ExitCode;
 
@@ -34,7 +34,7 @@ fn move_listing(rt: &HostRuntime, moving: &mut Moving) -> Result<bool, Failure> 
     keep_files(rt, &moving.names)?;
     let bytes = read_information(rt, moving.names.info.as_deref())?;
     let text = read_listing(rt, moving.names.listing.as_str())?;
-    let moved = text_of(rt, moving, &bytes, &text)?;
+    let moved = report_of(rt, moving, &bytes, &text)?;
     let mut output = Output::create_new(rt, moving.names.output.take())?;
     write_text(&mut output, moved.text.as_bytes())?;
     Ok(moved.parts)

@@ -162,7 +162,7 @@ fn run_rounds(
 }
 
 /// Runs both images until nothing more is found, and returns what is written of them.
-fn moved(
+fn report_of_runs(
     rt: &HostRuntime,
     setup: &Setup<'_>,
     lines: &Lines,
@@ -182,7 +182,7 @@ fn moved(
 }
 
 /// What is written of a listing that has its start.
-fn written(
+fn report_of_source(
     rt: &HostRuntime,
     setup: &Setup<'_>,
     source: &Source<'_, '_, '_>,
@@ -193,18 +193,18 @@ fn written(
     take_defined(&mut scene, assembly.names.definitions());
     scene.limit = limit_of(&scene, assembly.names.definitions(), setup.info);
     let lines = Lines::of(alloc, &scene, source.text, &assembly, setup.info)?;
-    Ok(moved(rt, setup, &lines, scene)?)
+    Ok(report_of_runs(rt, setup, &lines, scene)?)
 }
 
 /// What is written of a listing.
-fn listed(rt: &HostRuntime, setup: &Setup<'_>, text: &[u8]) -> Result<Moved, Failure> {
+fn report_of_text(rt: &HostRuntime, setup: &Setup<'_>, text: &[u8]) -> Result<Moved, Failure> {
     let layout = layout_of(rt.alloc(), &[], None)?;
     let start = start_or_end(rt.alloc(), setup.info.settings().start, &layout, text)?;
-    written(rt, setup, &repair(&layout, start, text))
+    report_of_source(rt, setup, &repair(&layout, start, text))
 }
 
 /// What is written of a listing, and of the information file of these bytes.
-pub fn text_of(
+pub fn report_of(
     rt: &HostRuntime,
     moving: &Moving,
     bytes: &[u8],
@@ -223,7 +223,7 @@ pub fn text_of(
         info: &info,
         tags: &tags,
     };
-    let moved = listed(rt, &setup, text)?;
+    let moved = report_of_text(rt, &setup, text)?;
     read_back(rt.alloc(), &moving.options, bytes, moved.text.as_bytes())?;
     Ok(moved)
 }
