@@ -67,7 +67,7 @@ def given_out(crate):
         root.refuse(f"nothing in the tree is {'::'.join(steps)}")
     own = {item.name: here.path for here, item in found.values() if here.crate == crate}
     for here, item in found.values():
-        if item.kind == "type" and (target := types_in(here).get(re.match(r"type \w+ = (\w+)", item.text)[1])):
+        if item.kind == "type" and (target := types_in(here).get(re.match(r"type \w+(?:<[^>]*>)? = (\w+)", item.text)[1])):
             own[target[3]] = target[2]
     return own, ["::".join(steps) for steps, (here, _) in found.items() if here.crate != crate]
 

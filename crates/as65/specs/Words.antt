@@ -5,7 +5,7 @@ pub use Rattle.as65.specs.Before.{GaveBefore, Had, HadValue, IsBefore, IsBeside,
 pub use Rattle.as65.specs.Changes.{AreChanges, GaveBy, HasMoved, IsChange, IsDifferences, IsMovedByte, IsReplaced, IsShown, IsSource, change_line, line_begin, place_of}
 pub use Rattle.as65.specs.Code.{AreComplete, AreKnown, AreMoved, AreSources, IsPlaced, IsReached, given_of}
 unfoldable pub use Rattle.as65.specs.Code.{ended}
-pub use Rattle.as65.specs.Command.{app, this_program}
+pub use Rattle.as65.specs.Command.{this_program}
 pub use Rattle.as65.specs.Comparison.{Compares, CountsWrites}
 pub use Rattle.files65.specs.FaultyLine.{Reports}
 pub use Rattle.as65.specs.Compared.{Compared, compared}

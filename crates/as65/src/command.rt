@@ -42,8 +42,8 @@ static CHOICES: [Choice<'static>; 9] = [
 
 /// The program: its options, and an optional listing. What listings are stands above the usage line.
 pub fn this_program() -> Program<'static>
-    /// The table of the options is that of the definition. So the help text has a line for each option of the
-    /// command and no other, and the version is `as65 profile 1` and a line feed (`usage65`).
+    /// The options are those of the table, which the definition cites. So the help text has a line for each
+    /// option of the command and no other, and the version is `as65 profile 1` and a line feed (`usage65`).
     ensures { program_of result ≡ this_program }
 {
     Program {

@@ -1,5 +1,5 @@
 -- The words of clauses and proofs, here and in the crates above, from one place.
-pub use Rattle.trace65.specs.Command.{app, this_program}
+pub use Rattle.trace65.specs.Command.{this_program}
 pub use Rattle.trace65.specs.Request.{TracingView, tracing_of}
 unfoldable pub use Rattle.trace65.specs.Request.{traced_in}
 pub use Rattle.trace65.specs.Check.{AreMerged, Explains, ExplainsGroups, Says}

@@ -11,20 +11,24 @@ use std::alloc::{AllocError, Global};
 const COLUMNS: usize = 25;
 
 /// An option of a command line. One without a value is a flag.
+pub type Choice<'a> = ChoiceOf<&'a str>;
+
+/// An option of a command line, with texts of this type. A table of them can be named in definitions, so that it stands
+/// in the code alone.
 #[derive(Clone, Copy, Debug)]
-pub struct Choice<'a> {
+pub struct ChoiceOf<T> {
     /// What finds its value in the matches.
-    pub id: &'a str,
+    pub id: T,
     /// Its letter, in ASCII.
     pub short: Option<u8>,
-    pub long: Option<&'a str>,
+    pub long: Option<T>,
     /// What its value is called.
-    pub value: Option<&'a str>,
+    pub value: Option<T>,
     /// What it is for.
-    pub purpose: &'a str,
+    pub purpose: T,
 }
 
-impl<'a> Choice<'a> {
+impl<'a> ChoiceOf<&'a str> {
     /// The option as `clap` takes it.
     pub fn arg(&self, alloc: Global) -> Arg<'a>
         /// Returns the option as an argument of clap, with its letter, its long name, and a value unless it is a

@@ -18,7 +18,7 @@ mod value;
 mod words;
 
 pub use addresses::addresses_of;
-pub use choice::Choice;
+pub use choice::{Choice, ChoiceOf};
 pub use choices::{CPU, ENTRY, FILL, HELP, INFO, NEW_OUTPUT, OUTPUT, START, VERSION};
 pub use fault::UsageFault;
 pub use file_names::{info_named, input_named, is_taken, output_named};
