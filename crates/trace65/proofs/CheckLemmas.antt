@@ -1,9 +1,9 @@
 -- Of the comparison of two informations.
-use Rattle.std.proofs.Common.{◌≡◌, ◌∙◌, ◌<◌, ◌+◌, ℕ, List, [], ◌∷◌, ◌++◌, get_or, length, take, ap, subst, sym, refl, arith, rules}
-use Rattle.std.proofs.lemmas.List.{append-nil, take_more}
-use Rattle.info65.specs.Words.{InfoView, NameView, blank_name, default_label, name_at}
+use Rattle.std.proofs.Common.{◌≡◌, ◌<◌, ◌+◌, ℕ, List, [], ◌∷◌, ◌++◌, get_or, length, take, subst, sym}
+use Rattle.std.proofs.lemmas.List.{take_more}
+use Rattle.info65.specs.Words.{NameView, blank_name, default_label, name_at}
 use Rattle.trace65.specs.Check.{given, label, none}
-use Rattle.trace65.specs.Words.{AreMerged, Says}
+use Rattle.trace65.specs.Words.{AreMerged}
 
 -- one name more, which the base gives
 pub given_last : (n : NameView) {names : List NameView} {labels : List ℕ} {all : List NameView}
@@ -36,16 +36,3 @@ label_next names all labels k i within there same merged =
     let Q : List ℕ → Type 0 = λ l. AreMerged names l (take i all ++ name_at all i ∷ []) in
     let R : NameView → Type 0 = λ n. AreMerged names (take k labels ++ get_or labels k 0 ∷ []) (take i all ++ n ∷ []) in
     subst P (sym (take_more all i blank_name there)) (subst Q (sym (take_more labels k 0 within)) (subst R (sym same) (label_last (get_or labels k 0) merged)))
-
--- without labels all names are those of the base
-no_labels : {names all : List NameView} (labels : List ℕ) → labels ≡ [] → AreMerged names labels all → all ≡ names
-no_labels labels none_left none = refl
-no_labels labels none_left (given n names ls all rest) = ap (λ l. n ∷ l) (no_labels ls none_left rest)
-no_labels labels none_left (label a names ls all rest) = cc
-
-same_info : {a b : InfoView} → a.settings ≡ b.settings → a.ranges ≡ b.ranges → a.segments ≡ b.segments → a.names ≡ b.names → a.includes ≡ b.includes → a ≡ b
-same_info settings ranges segments names includes = first_of (cc, grind arith, search rules)
-
--- without more ranges and labels all is as before
-pub says_same : {base new : InfoView} → Says base [] [] new → new ≡ base
-says_same says = same_info says.settings (says.ranges ∙ append-nil _) says.segments (no_labels [] refl says.names) says.includes

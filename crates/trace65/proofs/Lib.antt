@@ -4,3 +4,4 @@ pub mod UnshownLemmas
 mod UnshownRows
 pub mod ReportLemmas
 pub mod SkipsLemmas
+mod TailLemmas

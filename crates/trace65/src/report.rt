@@ -1,24 +1,30 @@
 //! What is found of an image, as text of an information file that is read back before it is written.
 
 ghost use Rattle.std.specs.Prelude.{◌≡◌, ◌++◌, ℕ, List, IfOk, Ok, OnOk};
-ghost use Rattle.info65.specs.Words.{Adds, information};
+ghost use Rattle.info65.specs.Words.{Adds, InfoView, OptionsView, information};
 ghost use Rattle.map65.specs.Words.{is_marked};
 ghost use Rattle.reach65.specs.Words.{AreInOrder, HaveAllFree, LieIn};
 ghost use Rattle.trace65.specs.Words.{AreFindings, AreSkips, Begins, HasGroups, HaveTheRest, IsAccepted, IsReadBack, IsWritten, after_file, flow_of, proposals, proposed_ranges, unshown_lines};
 
 use crate::advice::{Advice, Reach, followed, given_entries};
 use crate::check::{need_groups, read_back};
-use crate::failure::Failure;
+use crate::failure::{Failure, Refused};
 use crate::request::Tracing;
 use crate::skips::skips_of;
 use crate::text::text_of;
 use crate::unshown::{put_unshown, unshown_of};
-use info65::{Info, Options, RangeSpec, Tag};
+use info65::{Info, InfoFault, InfoFaultKind, MOST_BYTES, Options, RangeSpec, Tag, accepts_files};
 use map65::{Map, Marks};
 use reach65::rules::bytes::pieces::Pieces;
 use reach65::rules::entries::growth::Followed;
 use reach65::{Steps, code_of, ranges_of, reached, taken_of};
 use std::alloc::{AllocError, Global};
+
+/// The fault of an information file of too many bytes.
+const TOO_LARGE: InfoFault = InfoFault {
+    line: 1,
+    kind: InfoFaultKind::TooLarge,
+};
 
 /// An information file, and what it says without its include files.
 #[derive(Clone, Copy)]
@@ -153,24 +159,24 @@ fn find(alloc: Global, steps: &Steps<'_, '_>, tracing: &Tracing) -> Result<Findi
     })
 }
 
-/// Adds a comment for each of these addresses to an information file that says this, and reads it back.
-#[tactic(auto, using(crate::proofs::CheckLemmas::says_same))]
-fn add_unshown(
-    text: &mut Vec<u8>,
-    alloc: Global,
-    options: &Options,
-    info: &Info,
-    addresses: &[u16],
-) -> Result<(), Failure>
-    requires { information options.now text.old.items ≡ Ok info.now }
+/// Adds a comment on these addresses to an information file whose last line ends: what it says is as before. Fails if the
+/// file is too large then.
+fn add_unshown(text: &mut Vec<u8>, addresses: &[u16]) -> Result<(), Failure>
     ensures added { Adds result text.old text.new (unshown_lines addresses.now) }
-    ensures accepted { OnOk result (information options.now text.new.items ≡ Ok info.now) }
+    ensures accepted { (o : OptionsView) (i : InfoView) → information o text.old.items ≡ Ok i
+        → OnOk result (information o text.new.items ≡ Ok i) }
 {
     if addresses.is_empty() {
         return Ok(());
     }
+    let Some((b'\n', _)) = text.split_last() else {
+        return Err(Failure::Own(Refused::Other));
+    };
     put_unshown(text, addresses)?;
-    read_back(alloc, options, info, text, &[], &[])?;
+    if MOST_BYTES < text.len() {
+        return Err(Failure::Own(Refused::Text(TOO_LARGE)));
+    }
+    accepts_files();
     Ok(())
 }
 
@@ -204,7 +210,7 @@ fn unshown_with(
     let info = read_back(alloc, options, file.info, &text, &ranges, labels)?;
     let map = Map::build(alloc, &info, steps.image())?;
     let unshown = unshown_of(alloc, &map, steps, &found.reached)?;
-    add_unshown(&mut text, alloc, options, &info, &unshown)?;
+    add_unshown(&mut text, &unshown)?;
     Ok((unshown, text))
 }
 

@@ -1,9 +1,8 @@
-use Rattle.std.proofs.Common.{◌∙◌, Ok, ap, sym}
-use Rattle.info65.specs.Words.{information}
-use Rattle.trace65.proofs.CheckLemmas.{says_same}
+use Rattle.std.proofs.Common.{arith}
+use Rattle.trace65.proofs.TailLemmas.{says_with_comment}
 use Rattle.trace65.proofs.report.add_unshown.Goals as goal
 
 pub returns-clause-accepted : goal.returns-clause-accepted
-returns-clause-accepted c =
-    let read = c.in_ok-read_back.ensures in
-    ap (information c.args.options.now) (sym c.deref.ensures.value) ∙ read.accepted ∙ ap Ok (says_same read.says)
+returns-clause-accepted c o i before =
+    says_with_comment c.accepts_files.ensures o c.in-Some-eq10-default.field-0-1.now c.args.text.now.items c.put_unshown.new.out.items _ i
+    (grind arith) c.in_ok-put_unshown.ensures (grind arith) before

@@ -6,7 +6,7 @@ pub returns-clause-read : goal.returns-clause-read
 returns-clause-read c =
     let more = c.in_ok-add_unshown.ensures in
     accepted _ _ _ _ c.in_ok-info.info c.extend_from_slice.new.self.items _ c.in_ok-unshown.unshown.items _ _ _ c.in_ok-map.map
-    (grind arith) c.deref-5.ensures.value more.added more.accepted (c.deref-3.ensures.value ∙ c.in_ok-ranges.ensures) c.deref-4.ensures.value c.in_ok-info.ensures.says
+    (grind arith) c.deref-5.ensures.value more.added (more.accepted c.args.options.now c.in_ok-info.info (grind arith)) (c.deref-3.ensures.value ∙ c.in_ok-ranges.ensures) c.deref-4.ensures.value c.in_ok-info.ensures.says
     (grind arith) c.in_ok-unshown.ensures
 
 pub returns-clause-text : goal.returns-clause-text
