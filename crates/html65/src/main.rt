@@ -36,6 +36,7 @@ use files65::{
     FileFault, Output, end, information_at, keep_files, keep_inputs, layout_of, obey,
     read_information, read_listing, repair, start_or_end, write_text,
 };
+use info65::Info;
 use page::page_of;
 use request::{Showing, request_of};
 use std::process::ExitCode;
@@ -51,17 +52,21 @@ fn has_too_many_lines(text: &[u8]) -> bool {
     LINES < text.len() && LINES < feeds.count()
 }
 
-/// The page of these files. The output may not be the input of the information file either.
-fn page_for(rt: &HostRuntime, showing: &Showing) -> Result<Vec<u8>, Failure> {
-    let names = &showing.names;
-    let bytes = read_information(rt, names.info.as_deref())?;
-    let info = information_at(rt.alloc(), showing.start, &bytes)?;
-    let inputs = [info.settings().input.as_deref()];
-    keep_inputs(rt, names.output.as_deref(), &inputs)?;
-    let text = read_listing(rt, names.listing.as_str())?;
+/// The listing of this name. It may be no longer than a page can show.
+fn listing_in(rt: &HostRuntime, name: &str) -> Result<Vec<u8>, Failure> {
+    let text = read_listing(rt, name)?;
     if LIMIT < text.len() || has_too_many_lines(&text) {
         return Err(Failure::File(FileFault::TooLarge));
     }
+    Ok(text)
+}
+
+/// The page of the listing, whose information file says this. The output may not be the input of that file either.
+fn page_under(rt: &HostRuntime, showing: &Showing, info: &Info) -> Result<Vec<u8>, Failure> {
+    let names = &showing.names;
+    let inputs = [info.settings().input.as_deref()];
+    keep_inputs(rt, names.output.as_deref(), &inputs)?;
+    let text = listing_in(rt, names.listing.as_str())?;
     let layout = layout_of(rt.alloc(), info.segments(), showing.fill)?;
     let start = start_or_end(rt.alloc(), info.settings().start, &layout, &text)?;
     page_of(
@@ -69,6 +74,13 @@ fn page_for(rt: &HostRuntime, showing: &Showing) -> Result<Vec<u8>, Failure> {
         names.listing.as_str(),
         &repair(&layout, start, &text),
     )
+}
+
+/// The page of these files.
+fn page_for(rt: &HostRuntime, showing: &Showing) -> Result<Vec<u8>, Failure> {
+    let bytes = read_information(rt, showing.names.info.as_deref())?;
+    let info = information_at(rt.alloc(), showing.start, &bytes)?;
+    page_under(rt, showing, &info)
 }
 
 /// Reads the listing, and writes its page. The output is created once that is there.
