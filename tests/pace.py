@@ -1,6 +1,7 @@
 """Looks for what grows faster than its input: each kind of image or line with each kind of group, n, 2n and 4n of them.
 Counts millions of instructions by callgrind, or with --seconds the time of a processor. Where twice as much takes more
-than 2.3 times, the line begins with GROWS. It runs by hand; what it finds belongs into tests/rows/speed.txt.
+than 2.3 times, the line begins with GROWS. It runs by hand; what it finds belongs into tests/rows/speed.txt. All cases
+take hours, so they come in random order: an hour shows something of each kind.
 
 Usage: python3 tests/pace.py [-n 500] [-j 4] [--seconds] FOLDER [WORD..]
 
@@ -146,6 +147,7 @@ def main():
              for program in READS_IMAGES + READS_LISTINGS
              for kind, group in itertools.product([*IMAGES, *(LINES if program in READS_LISTINGS else ())], GROUPS)
              if all(piece in f"{program} {kind} {group}" for piece in given.words)]
+    random.shuffle(cases)
     with multiprocessing.pool.ThreadPool(given.j) as pool:
         for (*_, program, kind, group), made, said in pool.imap_unordered(measured, cases):
             figures = " ".join(f"{count:9.2f}" for count, _ in made)

@@ -93,6 +93,32 @@ fn ranges_by(
     )
 }
 
+/// What is proposed of an image of which this is reached. Fails only if an allocation failed.
+fn proposals_of<'a>(
+    steps: &'a Steps<'a, 'a>,
+    given: &[u16],
+    reach: Reach<'a>,
+    advice: &Advice<'a>,
+) -> Result<Proposals, AllocError>
+    ensures cover { IfOk result (λ p.
+        HaveAllFree steps.entry.now.map.image (is_marked reach.entry.taken.now) p.ranges.items) }
+    ensures inside { IfOk result (λ p. LieIn steps.entry.now.map.image p.ranges.items) }
+    ensures apart { IfOk result (λ p. AreInOrder p.ranges.items) }
+    ensures skips { IfOk result (λ p.
+        AreSkips steps.entry.now.map reach.entry.reached.now p.skips.items) }
+{
+    let pieces = Pieces::of(steps.alloc(), &advice.data.ground)?;
+    let ranges = ranges_by(steps, reach.taken, &pieces)?;
+    let skips = skips_of(steps.alloc(), steps, reach.reached, &advice.survey.skips)?;
+    let text = text_of(advice, given, &ranges, &skips)?;
+    Ok(Proposals {
+        ranges,
+        skips,
+        labels: Vec::from_slice(steps.alloc(), &advice.labels)?,
+        text,
+    })
+}
+
 /// Looks at an image of which this is reached. Fails only if an allocation failed.
 fn propose_from<'a>(
     steps: &'a Steps<'a, 'a>,
@@ -107,16 +133,7 @@ fn propose_from<'a>(
         AreSkips steps.entry.now.map reach.entry.reached.now p.skips.items) }
 {
     let advice = Advice::of(steps, reach)?;
-    let pieces = Pieces::of(steps.alloc(), &advice.data.ground)?;
-    let ranges = ranges_by(steps, reach.taken, &pieces)?;
-    let skips = skips_of(steps.alloc(), steps, reach.reached, &advice.survey.skips)?;
-    let text = text_of(&advice, given, &ranges, &skips)?;
-    Ok(Proposals {
-        ranges,
-        skips,
-        labels: Vec::from_slice(steps.alloc(), &advice.labels)?,
-        text,
-    })
+    proposals_of(steps, given, reach, &advice)
 }
 
 /// Looks at an image of which these instructions are reached. Fails only if an allocation failed.
