@@ -7,14 +7,13 @@ use Rattle.std.proofs.lemmas.Bool.Decides.{nat_tests}
 use Rattle.std.proofs.lemmas.List.{length-append, take-append-le}
 use Rattle.std.proofs.lemmas.List.Sums.{prefix_len-le-length}
 use Rattle.text65.specs.Digits.{hex_digit}
-use Rattle.info65.specs.Grammar.{Accepts}
-use Rattle.info65.specs.Lexemes.{LexemeView, character_at, in_class, lexeme_at, number_at, string_at, word_at}
-use Rattle.info65.specs.Tokens.{Stream, TokenView, found, is_blank, opens_comment, tokens_after, tokens_of}
-use Rattle.info65.specs.Words.{AcceptsFiles, InfoView, OptionsView, information}
+use Rattle.info65.specs.Lexemes.{number_at}
+use Rattle.info65.specs.Words.{Accepts, AcceptsFiles, InfoView, LexemeView, OptionsView, Stream, TokenView, character_at, found, in_class, information, is_blank, lexeme_at, opens_comment, string_at, tokens_after, tokens_of, word_at}
 use Rattle.info65.specs.declared.fault.InfoFault.{InfoFault}
 use Rattle.info65.specs.declared.syntax.lexeme.Class.{Class}
 use Rattle.info65.specs.declared.syntax.lexeme.Class.TheVariants as class
-use Rattle.trace65.specs.Unshown.{unshown_item, unshown_items, unshown_lines}
+use Rattle.trace65.specs.Unshown.{unshown_item}
+use Rattle.trace65.specs.Words.{unshown_items, unshown_lines}
 
 by_test : {P : Type 0} (b : Bool) → (b ≡ true → P) → (b ≡ false → P) → P
 by_test true f g = f refl

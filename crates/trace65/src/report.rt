@@ -176,8 +176,8 @@ fn find(alloc: Global, steps: &Steps<'_, '_>, tracing: &Tracing) -> Result<Findi
     })
 }
 
-/// Adds a comment on these addresses to an information file whose last line ends. What the file says is as before, so it
-/// is not read back again. Fails if it is too large then.
+/// Adds a comment on these addresses to an information file whose last line ends. What the file says is as before, so
+/// it is not read back again. Fails if it is too large then.
 fn add_unshown(text: &mut Vec<u8>, addresses: &[u16]) -> Result<(), Failure>
     ensures added { Adds result text.old text.new (unshown_lines addresses.now) }
     ensures accepted { (o : OptionsView) (i : InfoView) → information o text.old.items ≡ Ok i
