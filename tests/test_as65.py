@@ -37,6 +37,7 @@ def refuses(as65, text, line, cause, words="-S 0x1000"):
 
 
 def test_refuses(as65, text, line, cause):
+    """The message ends with the line, which is no part of the cause."""
     refuses(as65, text, line, f"{cause}: {text.splitlines()[line - 1].strip()}")
 
 
