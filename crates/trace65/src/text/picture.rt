@@ -1,7 +1,6 @@
 //! A picture of an image: a character for 64 bytes, and the counts of its bytes; and what helps where little is known.
 
 use crate::text::Text;
-use map65::Marks;
 use reach65::rules::image::ends;
 use std::alloc::AllocError;
 use text65::put_address;
@@ -29,11 +28,6 @@ fn character(len: usize, code: usize, both: usize) -> u8 {
     }
 }
 
-/// How many of the addresses from one to before another are marked.
-fn count(marks: &Marks, from: usize, to: usize) -> usize {
-    (from..to).filter(|at| marks.get_at(*at)).count()
-}
-
 impl Text<'_> {
     /// Adds a picture of the image, with what its characters stand for, and the counts of its bytes; and what usually
     /// helps, in the order that helped, if code and ranges have less than half of the image
@@ -49,14 +43,16 @@ impl Text<'_> {
             self.put(b" ")?;
             for cell in (row..end.min(row.saturating_add(ROW))).step_by(CELL) {
                 let next = end.min(cell.saturating_add(CELL));
-                let len = next.saturating_sub(cell);
-                let code = count(advice.reach.code, cell, next);
-                let taken = if code == len {
-                    len
-                } else {
-                    count(advice.reach.taken, cell, next)
-                };
-                self.out.push(character(len, code, taken))?;
+                let (mut code, mut taken) = (0usize, 0usize);
+                for at in cell..next {
+                    if advice.reach.taken.get(at as u16) {
+                        taken = taken.saturating_add(1);
+                        let is_code = advice.reach.code.get(at as u16);
+                        code = code.saturating_add(usize::from(is_code));
+                    }
+                }
+                self.out
+                    .push(character(next.saturating_sub(cell), code, taken))?;
                 reached = reached.saturating_add(code);
                 both = both.saturating_add(taken);
             }
