@@ -3,7 +3,7 @@ use Rattle.std.proofs.Common.{◌≡◌, ℕ, Bool, true, false, ltb, ◌+◌, �
 use Rattle.std.specs.Prelude.{◌||◌, Result, Ok, Err, is_some}
 use Rattle.std.proofs.Math.Seq.{take-append_seam, take-length}
 use Rattle.std.proofs.lemmas.List.{append-nil, drop-append-le, drop_all, drop_more, length-drop, take-append-le, take_all}
-use Rattle.stmt65.specs.Words.{AreFirstOf, AsmFault, AsmFaultKind, Codes, Definition, Fit, GoesOn, IsFaulty, IsIdle, IsLeft, IsOf, IsPassed, IsSound, Late, Layout, Pass, Place, PutsAll, Settles, Source, SourceLine, State, Takes, Work, bytes_at, coded_late, fault_at, fault_by, fronts, held_after, held_coded, held_definitions, held_final, late_line, line_in, line_then, parts, reading_of, readings, said_of, source_definitions, source_meaning, source_state, state_in, with_front, with_here, work_of}
+use Rattle.stmt65.specs.Words.{AreFirstOf, AsmFault, AsmFaultKind, Codes, Definition, Fit, GoesOn, IsFaulty, IsIdle, IsLeft, IsOf, IsPassed, IsSound, Late, Layout, Pass, Place, PutsAll, Settled, Settles, Source, SourceLine, State, Takes, Work, bytes_at, coded_late, fault_at, fault_by, fronts, held_after, held_coded, held_definitions, held_final, late_line, line_in, line_then, parts, reading_of, readings, said_of, source_definitions, source_meaning, source_state, state_in, with_front, with_here, work_of}
 use Rattle.text65.specs.Lines.{text_lines}
 use Rattle.stmt65.proofs.Cases.{by_test}
 use Rattle.stmt65.proofs.CodingLemmas.{front_kept}
@@ -71,41 +71,37 @@ unfolding fault_at bytes_at
 codes all p fit None old new puts e = record { finds = rw (← puts.fits.known, ← puts.fits.room) e; adds = rw (none_fits fit p e).1 at puts.adds }
 codes all p fit (Some kind) old new puts e = record { finds = rw (← puts.fits.known, ← puts.fits.room) e; adds = tt }
 
-pub settles_over : {A : Type 0} (p : Work A) (above : List Definition) (line : Option Place) → p.is_over ≡ true → Settles p p above line None
-settles_over p above line e = record { takes = λ n layout. record { sound = λ h. h; same = λ h all rest first. rw e refl }; leaves = tt; faulty = tt }
+pub settles_over : {A : Type 0} (p : Work A) (above : List Definition) (line : Option Place) → p.is_over ≡ true → Settles p p above line Settled
+unfolding Settles
+settles_over p above line e = λ n layout. record { sound = λ h. h; same = λ h all rest first. rw e refl }
 
 takes_bytes : {A : Type 0} (p q : Work A) (n : ℕ) (layout : Layout) (above : List Definition) (line : Option Place) (bytes : List ℕ) → p.is_over ≡ false → q.late ≡ p.late → q.mark ≡ p.mark → q.is_over ≡ p.is_over → q.settled.items ≡ p.settled.items ++ bytes
     → ((all : List Definition) → AreFirstOf above all → fault_at all line ≡ None) → ((all : List Definition) → AreFirstOf above all → bytes_at all line ≡ bytes) → Takes p q n layout above line
 takes_bytes p q n layout above line bytes e late mark over put h k = grind (arith, length-append, late_more)
 
 pub settles_now : {A : Type 0} (p q : Work A) (place : Place) (fit : Fit) (above : List Definition) → p.is_over ≡ false → q.late ≡ p.late → q.mark ≡ p.mark → q.is_over ≡ p.is_over
-    → PutsAll fit (with_here place.here above) place.next place.fragments p.settled.items q.settled.items → None ≡ fault_by fit place → Settles p q above (Some place) None
+    → PutsAll fit (with_here place.here above) place.next place.fragments p.settled.items q.settled.items → None ≡ fault_by fit place → Settles p q above (Some place) Settled
+unfolding Settles
 settles_now p q place fit above e late mark over puts none =
     let known : knows above place ≡ true = sym puts.fits.known ∙ (none_fits fit place none).0 in
     let coded = codes above place fit None p.settled.items q.settled.items puts none in
-    record {
-      takes = λ n layout. takes_bytes p q n layout above (Some place) (bytes_at above (Some place)) e late mark over coded.adds
-          (λ all first. fault_alike above all place (first_agree above all first) known ∙ sym coded.finds) (λ all first. bytes_alike above all place (first_agree above all first) known);
-      leaves = tt;
-      faulty = tt;
-    }
+    λ n layout. takes_bytes p q n layout above (Some place) (bytes_at above (Some place)) e late mark over coded.adds
+    (λ all first. fault_alike above all place (first_agree above all first) known ∙ sym coded.finds) (λ all first. bytes_alike above all place (first_agree above all first) known)
 
 -- a line that ends past $10000 has a fault by whatever names
 past_end : (all : List Definition) (p : Place) → ltb 65536 p.next ≡ true → is_some (fault_at all (Some p)) ≡ true
 unfolding fault_at
 past_end all p past = grind arith
 
-pub settles_later : {A : Type 0} (p q : Work A) (place : Place) (fit : Fit) (above : List Definition) (mid : List ℕ) (is_faulty : Bool) → p.is_over ≡ false → q.late ≡ p.late → q.mark ≡ p.mark → q.is_over ≡ p.is_over
-    → PutsAll fit (with_here place.here above) place.next place.fragments p.settled.items mid → q.settled.items ≡ take (length p.settled.items) mid → is_some (fault_by fit place) ≡ true → is_faulty ≡ (fit.is_known || ltb 65536 place.next)
-    → Settles p q above (Some place) (Some is_faulty)
+pub is_left : {A : Type 0} (p q : Work A) (place : Place) (fit : Fit) (above : List Definition) (mid : List ℕ) → p.is_over ≡ false → q.late ≡ p.late → q.mark ≡ p.mark → q.is_over ≡ p.is_over
+    → PutsAll fit (with_here place.here above) place.next place.fragments p.settled.items mid → q.settled.items ≡ take (length p.settled.items) mid → IsLeft p q
+is_left p q place fit above mid e late mark over puts cut = record { settled = cut ∙ puts.keeps; late = late; mark = mark; before = e; over = over ∙ e }
+
+pub is_faulty : (place : Place) (fit : Fit) (above : List Definition) (old mid : List ℕ) → PutsAll fit (with_here place.here above) place.next place.fragments old mid → is_some (fault_by fit place) ≡ true → true ≡ (fit.is_known || ltb 65536 place.next) → IsFaulty above (Some place)
 unfolding fault_at
-settles_later p q place fit above mid is_faulty e late mark over puts cut some f = record {
-  takes = tt;
-  leaves = record { settled = cut ∙ puts.keeps; late = late; mark = mark; before = e; over = over ∙ e };
-  faulty = λ faulty all first. by_test fit.is_known
-      (λ known. ap is_some (fault_alike above all place (first_agree above all first) (sym puts.fits.known ∙ known)) ∙ rw (← puts.fits.known, ← puts.fits.room) some)
-      (λ unknown. past_end all place (sym (rw unknown at f) ∙ faulty));
-}
+is_faulty place fit above old mid puts some faulty = λ all first. by_test fit.is_known
+    (λ known. ap is_some (fault_alike above all place (first_agree above all first) (sym puts.fits.known ∙ known)) ∙ rw (← puts.fits.known, ← puts.fits.room) some)
+    (λ unknown. past_end all place (sym (rw unknown at faulty)))
 
 pub left_takes : {A : Type 0} (p left q : Work A) (n : ℕ) (layout : Layout) (above : List Definition) (line : Option Place) → IsLeft p left → Takes left q n layout above line → Takes p q n layout above line
 left_takes p left q n layout above line is takes = grind arith

@@ -8,6 +8,8 @@ pub use Rattle.stmt65.specs.declared.assembling.fault.AsmFault.{AsmFault}
 pub use Rattle.stmt65.specs.declared.assembling.fault.AsmFaultKind.{AsmFaultKind}
 pub use Rattle.stmt65.specs.declared.assembling.fault.AsmFaultKind.TheVariants.{DefinedTwice, Memory, NoSuchForm, OutOfRange, PastEnd, PastStart, Syntax, Undefined, UnknownCpu}
 pub use Rattle.stmt65.specs.declared.assembling.late.Late.{Late}
+pub use Rattle.stmt65.specs.declared.assembling.late.Outcome.{Outcome}
+pub use Rattle.stmt65.specs.declared.assembling.late.Outcome.TheVariants.{Faulty, Settled, Waiting}
 pub use Rattle.stmt65.specs.declared.assembling.late.Work.{Work}
 pub use Rattle.stmt65.specs.declared.assembling.placed.Placed.{Placed}
 pub use Rattle.stmt65.specs.declared.directive.Directive.{Directive}

@@ -1,12 +1,12 @@
 -- The words of clauses and proofs, here and in the crates above, from one place.
-pub use Rattle.stmt65.specs.Types.{ALL, Abs, Absindx, AbsoluteX, AbsoluteY, Absx, Absy, Acc, Addr, AddressSize, All, AllDigits, Asl, AsmFault, AsmFaultKind, Automatic, BigEndian, ByteOrder, Coded, Columns, Cpu, Dbyt, Decides, DefinedTwice, Direct, DirectX, DirectY, Directive, Dword, Err, Extends, Fit, High, IfSome, Imm, Immediate, Imp, Inc, Ind, Indirect, IndirectX, IndirectY, Indx, Indy, IsSome, Language, Late, List, Listing, LittleEndian, Low, M6502, MatchOption, Memory, Minus, Mnemonic, Mode, NoSuchForm, None, Ok, OperandKind, Option, OutOfRange, PastEnd, PastStart, Plain, Rel, Repair, Result, Ror, Row, Some, Syntax, Undefined, UnknownCpu, Work, Zero, Zp, Zpind, Zprel, Zpx, Zpy, [], array_vec_len, bytes_eq, codes, cpu_text, decimal, digit_value, digits4, digits_value, digits_value_after, drop, encoded, false, filter, flat_map, get_or, hex_digit, is_ascii_alphabetic, is_ascii_digit, is_ascii_hexdigit, is_blank, is_some, is_word_byte, len_of, length, list_all, list_any, map, max, min, nat_lt, not, option_copied, option_map, prefix_len, replicate, reverse, row_of, row_text, slice_get, str_to_ascii_lowercase, table_of, take, text_of, true, written, zero_page_of, zero_page_row}
+pub use Rattle.stmt65.specs.Types.{ALL, Abs, Absindx, AbsoluteX, AbsoluteY, Absx, Absy, Acc, Addr, AddressSize, All, AllDigits, Asl, AsmFault, AsmFaultKind, Automatic, BigEndian, ByteOrder, Coded, Columns, Cpu, Dbyt, Decides, DefinedTwice, Direct, DirectX, DirectY, Directive, Dword, Err, Extends, Fit, High, IfSome, Imm, Immediate, Imp, Inc, Ind, Indirect, IndirectX, IndirectY, Indx, Indy, IsSome, Language, Late, List, Listing, LittleEndian, Low, M6502, MatchOption, Memory, Minus, Mnemonic, Mode, NoSuchForm, None, Ok, OperandKind, Option, OutOfRange, PastEnd, PastStart, Plain, Rel, Repair, Result, Ror, Row, Settled, Some, Syntax, Undefined, UnknownCpu, Work, Zero, Zp, Zpind, Zprel, Zpx, Zpy, [], array_vec_len, bytes_eq, codes, cpu_text, decimal, digit_value, digits4, digits_value, digits_value_after, drop, encoded, false, filter, flat_map, get_or, hex_digit, is_ascii_alphabetic, is_ascii_digit, is_ascii_hexdigit, is_blank, is_some, is_word_byte, len_of, length, list_all, list_any, map, max, min, nat_lt, not, option_copied, option_map, prefix_len, replicate, reverse, row_of, row_text, slice_get, str_to_ascii_lowercase, table_of, take, text_of, true, written, zero_page_of, zero_page_row}
 unfoldable pub use Rattle.stmt65.specs.Types.{cpu_named, has_name_form, is_reserved_word, mnemonic_named, text_lines}
 pub use Rattle.stmt65.specs.Answer.{Assembles, IsExplained, out_of_memory}
 pub use Rattle.stmt65.specs.Code.CodingViews.{Adds, AddsOne, Emits, IsFirstOf, IsFirstWay, Puts, PutsAll, coded_of, data_fragments, entry_fragments, fragment_of, instruction_of, operand_of}
 pub use Rattle.stmt65.specs.Code.Found.{Eats, Gives, GivesIfOk, Reads}
 pub use Rattle.stmt65.specs.Code.Held.{capped, held}
-pub use Rattle.stmt65.specs.Code.LateViews.{AreFirstOf, Codes, Follows, GoesOn, IsFaulty, IsIdle, IsLeft, IsOf, IsPassed, IsSound, Keeps, PassesOver, Settles, Takes, late_line, said_of, state_in, work_end, work_of}
-unfoldable pub use Rattle.stmt65.specs.Code.LateViews.{coded_late, fronts}
+pub use Rattle.stmt65.specs.Code.LateViews.{AreFirstOf, Codes, Follows, GoesOn, IsFaulty, IsIdle, IsLeft, IsOf, IsPassed, IsSound, Keeps, PassesOver, Takes, late_line, said_of, state_in, work_end, work_of}
+unfoldable pub use Rattle.stmt65.specs.Code.LateViews.{Settles, coded_late, fronts}
 pub use Rattle.stmt65.specs.Code.LineEnds.{ends_left}
 pub use Rattle.stmt65.specs.Code.LineViews.{Appends, Lists, Prints, len_with}
 pub use Rattle.stmt65.specs.Code.MeaningViews.{IsCoding, Place, below_place, definitions_in, fault_by, fault_with, fragments_in, held_definition, held_definitions, is_named_in, line_in, line_operation, line_then, place_of, state_of}

@@ -1,9 +1,9 @@
 -- What the work on lines stands for: those that are coded at once, and those that wait until all names are known.
-use Rattle.std.specs.Prelude.{◌≡◌, ℕ, Bool, true, false, ◌+◌, ◌≤◌, ◌++◌, List, [], ◌∷◌, length, take, drop, if◌then◌else◌, Option, Some, None, is_some, IfNone, IfSome, Result, Ok}
+use Rattle.std.specs.Prelude.{◌≡◌, ℕ, Bool, true, false, ◌+◌, ◌≤◌, ◌++◌, List, [], ◌∷◌, length, take, drop, if◌then◌else◌, Option, Some, None, is_some, IfNone, Result, Ok}
 use Rattle.std.specs.Option.{option_map}
 use Rattle.stmt65.specs.declared.assembling.assembler.Pass.{Pass}
 use Rattle.stmt65.specs.declared.assembling.assembler.Source.{Source}
-use Rattle.stmt65.specs.Types.{AsmFault, AsmFaultKind, Late, Work}
+use Rattle.stmt65.specs.Types.{AsmFault, AsmFaultKind, Faulty, Late, Outcome, Settled, Waiting, Work}
 use Rattle.stmt65.specs.SourceLine.{SourceLine}
 use Rattle.stmt65.specs.Symbols.{Definition}
 use Rattle.stmt65.specs.Layout.{Layout}
@@ -99,11 +99,11 @@ pub record IsLeft {A : Type 0} (p q : Work A) : Type 0 where
   pub before : p.is_over ≡ false
   pub over : q.is_over ≡ false
 
--- a line is added, or it is to be kept, and it is said whether it has a fault whatever stands below it
-pub record Settles {A : Type 0} (p q : Work A) (above : List Definition) (line : Option Place) (kept : Option Bool) : Type 0 where
-  pub takes : IfNone kept ((n : ℕ) (layout : Layout) → Takes p q n layout above line)
-  pub leaves : IfSome kept (λ _. IsLeft p q)
-  pub faulty : IfSome kept (λ is_faulty. is_faulty ≡ true → IsFaulty above line)
+-- a line is added to the work, or it is to be kept and the work is as before
+unfoldable pub Settles : {A : Type 0} → Work A → Work A → List Definition → Option Place → Outcome → Type 0
+Settles p q above line Settled = (n : ℕ) (layout : Layout) → Takes p q n layout above line
+Settles p q above line Waiting = IsLeft p q
+Settles p q above line Faulty = IsLeft p q × IsFaulty above line
 
 -- ---- passes
 
@@ -112,9 +112,9 @@ abbrev pub state_in : {A L : Type 0} → Pass A L → State
 state_in p = state_of p.state p.names
 
 -- the state is that below the line, which is added to the work or is to be kept
-pub record PassesOver {A L : Type 0} (p q : Pass A L) (line : Option SourceLine) (kept : Option Bool) : Type 0 where
+pub record PassesOver {A L : Type 0} (p q : Pass A L) (line : Option SourceLine) (outcome : Outcome) : Type 0 where
   pub state : state_in q ≡ held_after (state_in p) line
-  pub work : Settles p.work q.work p.names (line_in (state_in p) line) kept
+  pub work : Settles p.work q.work p.names (line_in (state_in p) line) outcome
 
 -- the pass has gone on below line n
 pub record GoesOn {A L : Type 0} (p q : Pass A L) (n : ℕ) (line : Option SourceLine) : Type 0 where

@@ -5,7 +5,7 @@ ghost use Rattle.stmt65.specs.Words.{Assembles, GoesOn, IsExplained, IsIdle, IsO
 
 use crate::assembling::about::Explained;
 use crate::assembling::fault::AsmFault;
-use crate::assembling::late::{Late, Work, code_late, cut, idle, keep, settle};
+use crate::assembling::late::{Late, Outcome, Work, code_late, cut, idle, keep, settle};
 use crate::assembling::layout::Layout;
 use crate::assembling::line_ends::LineEnds;
 use crate::assembling::placed::place;
@@ -49,20 +49,20 @@ fn define<'a, A: Allocator + Clone>(
     }
 }
 
-/// Goes on below a line, which is coded if it can be. If not, returns whether it has a fault whatever stands below it.
+/// Goes on below a line, which is coded if it can be.
 #[tactic(auto, unfolding(crate::specs::Code::MeaningViews::held_after))]
 fn pass_over<'a, L: Allocator + Clone, A: Allocator + Clone, B: Allocator>(
     pass: &mut Pass<'a, '_, '_, A, L>,
     source: &SourceLine<'a, B>,
-) -> Result<Option<bool>, AllocError>
+) -> Result<Outcome, AllocError>
     ensures { IfOk result (PassesOver pass.old pass.new (Some (source_of source.now))) }
 {
     let above = pass.names.all();
     let placed = place(&pass.state, &above, source);
-    let kept = settle(&mut pass.work, &above, &placed)?;
+    let outcome = settle(&mut pass.work, &above, &placed)?;
     define(&mut pass.names, placed.definition)?;
     advance(&mut pass.state, source, placed.next);
-    Ok(kept)
+    Ok(outcome)
 }
 
 /// Goes on below a line, which is coded or kept for later.
@@ -75,8 +75,10 @@ fn pass_source<'a, L: Allocator + Clone, A: Allocator + Clone>(
     ensures { OnOk result (GoesOn pass.old pass.new late.entry.number
         (Some (source_of source.entry))) }
 {
-    let Some(is_faulty) = pass_over(pass, &source)? else {
-        return Ok(());
+    let is_faulty = match pass_over(pass, &source)? {
+        Outcome::Settled => return Ok(()),
+        Outcome::Waiting => false,
+        Outcome::Faulty => true,
     };
     let mut late = late;
     late.source = Some(source);

@@ -42,6 +42,17 @@ pub struct Work<'a, A: Allocator> {
     pub is_over: bool,
 }
 
+/// What comes of a line by the names above it.
+#[derive(Clone, Copy)]
+pub enum Outcome {
+    /// It is coded, or it does not count, below a line that has a fault.
+    Settled,
+    /// It is to wait for the names below it.
+    Waiting,
+    /// It has a fault whatever stands below it.
+    Faulty,
+}
+
 /// No line so far.
 pub fn idle<'a, 'b, A: Allocator>(alloc: &'b A) -> Result<Work<'a, &'b A>, AllocError>
     ensures { IfOk result IsIdle }
@@ -102,27 +113,29 @@ fn is_faulty(placed: &Placed, fit: Fit) -> bool
     fit.is_known || placed.next > 65536
 }
 
-/// Codes a line if its names all stand above it and it has no fault. If not, returns whether it
-/// has a fault whatever stands below it.
+/// Codes a line if its names all stand above it and it has no fault.
 #[tactic(auto, using(crate::proofs::PassLaws::settles_over))]
 pub fn settle<'a, A: Allocator + Clone>(
     work: &mut Work<'a, A>,
     above: &KnownNames<'_, 'a, A>,
     placed: &Placed,
-) -> Result<Option<bool>, AllocError>
-    ensures { IfOk result (λ kept.
-        Settles work.old work.new above.now (Some (place_of above.now placed.now)) kept) }
+) -> Result<Outcome, AllocError>
+    ensures { IfOk result
+        (Settles work.old work.new above.now (Some (place_of above.now placed.now))) }
 {
     if work.is_over {
-        return Ok(None);
+        return Ok(Outcome::Settled);
     }
     let len = work.settled.len();
     let fit = put_placed(&mut work.settled, above, placed)?;
     if is_faultless(above, placed, fit) {
-        return Ok(None);
+        return Ok(Outcome::Settled);
     }
     work.settled.truncate(len);
-    Ok(Some(is_faulty(placed, fit)))
+    if is_faulty(placed, fit) {
+        return Ok(Outcome::Faulty);
+    }
+    Ok(Outcome::Waiting)
 }
 
 /// Keeps a line for later. Below one that has a fault whatever stands there no line counts, so none is kept.

@@ -6,4 +6,4 @@ pub returns : goal.returns
 unfolding held_after
 returns g c =
     let place = rw c.all-above.ensures.names at c.place-placed.ensures in
-    record { state = grind arith; work = rw (← place) (rw c.all-above.ensures.names at c.in_ok-kept.ensures) }
+    record { state = grind arith; work = rw (← place) (rw c.all-above.ensures.names at c.in_ok-outcome.ensures) }
