@@ -34,6 +34,7 @@ pub fn first_of(text: &[u8]) -> &[u8]
 
 /// The line of this number, from 1; empty if there is none.
 pub fn line_at(text: &[u8], number: usize) -> &[u8]
+    /// Returns the line of this number, counted from 1, and nothing if there is none.
     ensures { result.now ≡ line_at number text.now }
 {
     first_of(after_lines(text, number.saturating_sub(1)))

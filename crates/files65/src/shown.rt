@@ -55,6 +55,8 @@ pub fn trimmed(line: &[u8]) -> &[u8]
 /// Appends the first characters.
 #[tactic(auto, unfolding(crate::specs::Shown::shown))]
 pub fn put_shown(out: &mut Vec<u8>, line: &[u8]) -> Result<(), AllocError>
+    /// Shows the first 80 characters of a line, with `?` for each that a terminal may take for a command, and two dots
+    /// if there are more.
     ensures { OnOk result (out.new.items ≡ out.old.items ++ shown line.now) }
 {
     put_characters(out, at_most(line, SHOWN_CHARACTERS))?;
