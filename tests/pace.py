@@ -3,7 +3,7 @@ Counts millions of instructions by callgrind, or with --seconds the time of a pr
 than 2.3 times, the line begins with GROWS. It runs by hand; what it finds belongs into tests/rows/speed.txt. All cases
 take hours, so they come in random order: an hour shows something of each kind.
 
-Usage: python3 tests/pace.py [-n 500] [-j 4] [--seconds] FOLDER [WORD..]
+Usage: python3 tests/pace.py [-n 400] [-j 4] [--seconds] FOLDER [WORD..]
 
 FOLDER has the programs, and the words are pieces of the names of cases, as in `html65 jumps`. If the status is not 0,
 the program may have refused its input, and not read the rest. move65 runs no more than 100 instructions from a routine,
@@ -11,6 +11,8 @@ so that each size comes to that limit."""
 import argparse, itertools, multiprocessing.pool, os, random, re, subprocess, tempfile
 
 UNIT = 16
+# Where images and listings begin. Words of texts lie before it, whatever the size.
+START = 0x8000
 
 
 def word(value):
@@ -22,9 +24,14 @@ def unit(*parts):
     return b"".join(parts).ljust(UNIT, b"\xea")
 
 
+def place(k):
+    """The address of a unit."""
+    return START + UNIT * k
+
+
 def other(k, n):
     """The address of another unit."""
-    return UNIT * (k * 7919 % n)
+    return place(k * 7919 % n)
 
 
 def low(k, n):
@@ -41,10 +48,10 @@ IMAGES = {
     "halves": lambda k, n: unit(b"\xa9", low(k, n), b"\xa2", high(k, n)),
     "pointers": lambda k, n: unit(b"\xa9", low(k, n), b"\x85\x20\xa9", high(k, n), b"\x85\x21\xb1\x20"),
     "readers": lambda k, n: unit(b"\xbd", word(other(k, n)), b"\x48\xb9", word(other(k, n) + 8), b"\x48"),
-    "equal readers": lambda k, n: unit(b"\xbd\x08\x00\x48\xb9\x00\x00\x85\x20"),
+    "equal readers": lambda k, n: unit(b"\xbd\x08\x80\x48\xb9\x00\x80\x85\x20"),
     "calls": lambda k, n: unit(b"\x20", word(other(k, n)), b"\x20", word(other(k + 1, n))),
-    "routines": lambda k, n: unit(b"\x20", word(UNIT * (k + 1)), b"\x4c", word(other(k, n))),
-    "calls of one": lambda k, n: unit(b"\x20\x00\x00\x20\x00\x00\x4c\x00\x00"),
+    "routines": lambda k, n: unit(b"\x20", word(place(k + 1)), b"\x4c", word(other(k, n))),
+    "calls of one": lambda k, n: unit(b"\x20\x00\x80\x20\x00\x80\x4c\x00\x80"),
     "branches": lambda k, n: unit(b"\xd0\x04\xf0\x02\x90\x00\xb0\xf8"),
     "texts": lambda k, n: bytes(65 + (k + i) % 26 for i in range(15)) + b"\0",
     "words": lambda k, n: b"".join(word(other(k + i, n)) for i in range(8)),
@@ -65,7 +72,7 @@ LABEL = 'LABEL {{ ADDR {a}; NAME "n{k}"; }};'
 GROUPS = {
     "": "", "LABEL": LABEL,
     "LABEL with SIZE": 'LABEL {{ ADDR {a}; NAME "n{k}"; SIZE 9; }};',
-    "LABEL in LABEL": 'LABEL {{ ADDR {k}; NAME "n{k}"; SIZE {nested}; }};',
+    "LABEL in LABEL": 'LABEL {{ ADDR {inner}; NAME "n{k}"; SIZE {nested}; }};',
     "SEGMENT": 'SEGMENT {{ START {a}; END {end}; NAME "s{k}"; }};', "include": "",
     **{kind: f"RANGE {{{{ START {{middle}}; SIZE 8; TYPE {kind}; }}}};" for kind in KINDS},
     "HALVES": LABEL + "\n#: HALVES {{ LOW {low}; HIGH {high}; }};",
@@ -84,16 +91,16 @@ READS_LISTINGS = ("as65", "name65", "html65", "move65")
 
 def information(folder, kind, n):
     """An information file, with the include file that it names."""
-    text = "GLOBAL { STARTADDR 0; };\n"
+    text = f"GLOBAL {{ STARTADDR {START}; }};\n"
     if kind == "include":
         text += 'ASMINC { FILE "names.inc"; };\n'
         with open(folder + "/names.inc", "w") as file:
-            file.write("".join(f"i{k} = {UNIT * k}\n" for k in range(n)))
+            file.write("".join(f"i{k} = {place(k)}\n" for k in range(n)))
     for k in range(n):
-        at = UNIT * k
+        at = place(k)
         text += GROUPS[kind].format(
             k=k, a=at, low=at + 1, high=at + 3, middle=at + 8, end=at + UNIT - 1, next=at + UNIT, far=other(k, n) + 3,
-            nested=2 * (n - k), after=UNIT * n + k) + "\n"
+            inner=START + k, nested=2 * (n - k), after=place(n) + k) + "\n"
     return text
 
 
@@ -139,7 +146,7 @@ def main():
     parser = argparse.ArgumentParser()
     parser.add_argument("folder")
     parser.add_argument("words", nargs="*")
-    parser.add_argument("-n", type=int, default=500)
+    parser.add_argument("-n", type=int, default=400)
     parser.add_argument("-j", type=int, default=4)
     parser.add_argument("--seconds", action="store_true")
     given = parser.parse_args()
