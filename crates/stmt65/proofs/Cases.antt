@@ -1,7 +1,7 @@
 -- Going by what a test, an option or a list turns out to be; what stands in front; words in any case.
-use Rattle.std.specs.Prelude.{◌∷◌, ◌≡◌}
+use Rattle.std.specs.Prelude.{◌∷◌, ◌≡◌, codes}
 use Rattle.stmt65.proofs.Lemmas.{Bool, List, None, Option, Some, [], and_parts, ap, arith, bytes_eq-Decides, drop, eqb-true, false, find-passes, lowercase-text_of, mnemonic_named-is, not-true, or_parts, refl, sym, true, ℕ, ◌∙◌}
-use Rattle.stmt65.specs.Words.{ALL, Define, Directive, Mark, Mnemonic, Number, Part, Word, codes, directive_named, directive_text, is_define, is_mark, is_name, is_number_here, is_reserved_word, is_word_here, mnemonic_named, number_in, same, text_of}
+use Rattle.stmt65.specs.Words.{ALL, Define, Directive, Mark, Mnemonic, Number, Part, Word, directive_named, directive_text, is_define, is_mark, is_name, is_number_here, is_reserved_word, is_word_here, mnemonic_named, number_in, same, text_of}
 use Rattle.stmt65.specs.Parts.{number_of}
 
 pub by_test : {P : Type 0} (b : Bool) → (b ≡ true → P) → (b ≡ false → P) → P

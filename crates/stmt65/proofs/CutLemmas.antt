@@ -1,7 +1,8 @@
 -- The cutting of a text: from the front on, and to its bytes and no others.
 use Rattle.std.specs.Prelude.{◌++◌, ◌+◌, ◌∷◌, ◌≡◌, ◌≤◌}
 use Rattle.stmt65.proofs.Lemmas.{Bool, List, [], and_parts, ap, arith, drop, false, length, refl, suc, true, ℕ, ◌∙◌}
-use Rattle.stmt65.specs.Words.{CutsTexts, Datum, EndsStretch, IsCut, NumberDatum, StringDatum, cut_text, datum_bytes, flat_map, is_plain, list_all, onto_stretch, prefix_len}
+use Rattle.std.specs.List.{flat_map, list_all, prefix_len}
+use Rattle.stmt65.specs.Words.{CutsTexts, Datum, EndsStretch, IsCut, NumberDatum, StringDatum, cut_text, datum_bytes, is_plain, onto_stretch}
 use Rattle.stmt65.proofs.Cases.{by_test}
 use Rattle.stmt65.proofs.Lexed.{begins}
 

@@ -1,7 +1,8 @@
 -- The last of the addresses after lines.
-use Rattle.std.specs.Prelude.{◌++◌, ◌-◌, ◌∷◌, ◌≡◌}
+use Rattle.std.specs.Prelude.{◌++◌, ◌-◌, ◌∷◌, ◌≡◌, replicate}
 use Rattle.stmt65.proofs.Lemmas.{List, Option, [], ap, append-nil, arith, length, length-append, refl, suc, sym, zero, ℕ, ◌∙◌}
-use Rattle.stmt65.specs.Words.{option_map, replicate, slice_get}
+use Rattle.std.specs.Option.{option_map}
+use Rattle.std.specs.List.{slice_get}
 use Rattle.stmt65.specs.Code.LineEnds.{ends_at, ends_of}
 use Rattle.stmt65.specs.declared.assembling.line_ends.Step.{Step}
 

@@ -1,7 +1,8 @@
 -- What holds of the entries of tables.
 use Rattle.std.specs.Prelude.{◌*◌, ◌+◌, ◌/◌, ◌<◌, ◌∷◌, ◌≡◌, ◌≤◌}
 use Rattle.stmt65.proofs.Lemmas.{List, [], arith, drop, length, length-drop, length-reverse, refl, take, ℕ}
-use Rattle.stmt65.specs.Words.{Addr, All, BigEndian, ByteOrder, Dbyt, Directive, Dword, LittleEndian, entries, entry_bytes, entry_len, entry_limit, entry_number, in_order, low, low_number, pieces}
+use Rattle.std.specs.List.{All}
+use Rattle.stmt65.specs.Words.{Addr, BigEndian, ByteOrder, Dbyt, Directive, Dword, LittleEndian, entries, entry_bytes, entry_len, entry_limit, entry_number, in_order, low, low_number, pieces}
 use Rattle.stmt65.specs.declared.directive.Directive.TheVariants.{Word}
 
 -- ---- the order of bytes

@@ -1,11 +1,12 @@
 -- What the code holds of a text is enough for its meaning.
 use Rattle.std.proofs.Common.{◌≡◌, ℕ, Bool, false, ltb, ◌+◌, ◌<◌, List, [], ◌∷◌, Option, Some, None, refl, sym, ap, ◌∙◌, arith}
-use Rattle.std.specs.Prelude.{◌≤◌, Result, is_none, unwrap_or, is_some, ◌||◌}
+use Rattle.std.specs.Prelude.{◌≤◌, Result, is_none, unwrap_or, is_some, ◌||◌, IfSome}
 use Rattle.std.specs.List.{list_any}
 use Rattle.std.proofs.lemmas.List.{map-append}
 use Rattle.std.proofs.lemmas.Bool.{ltb-false, ltb-true}
 use Rattle.std.proofs.lemmas.Bool.Decides.{nat_tests}
-use Rattle.stmt65.specs.Words.{AsmFault, Assignment, Coded, Data, Definition, DifferenceValue, Distance, Form, Fragment, Instr, IsCoding, Language, Layout, LessValue, NameValue, NumberValue, One, Operation, PlaceAssignment, Segment, SourceLine, State, Statement, Two, Value, Values, address_of, after, below, below_place, bytes_at, bytes_of, coded, coding, coding_len, defined_by, definitions_of, fault_at, fault_of, final, find_name, fragment_fits, fragments_in, fragments_of, gap, IfSome, has_large, has_no_form, has_zero_page_size, held, held_after, held_coded, held_definitions, held_final, here_in, here_offset, initial, is_before, is_named_in, is_near, is_out_of_range, is_past_end, is_past_start, is_short, is_twice, is_undefined, line_in, line_then, meaning_in, meaning_of, names_for, next_of, operation_in, option_map, place_in, readings, unless, value_in, with_front, with_here, word_in}
+use Rattle.std.specs.Option.{option_map}
+use Rattle.stmt65.specs.Words.{AsmFault, Assignment, Coded, Data, Definition, DifferenceValue, Distance, Form, Fragment, Instr, IsCoding, Language, Layout, LessValue, NameValue, NumberValue, One, Operation, PlaceAssignment, Segment, SourceLine, State, Statement, Two, Value, Values, address_of, after, below, below_place, bytes_at, bytes_of, coded, coding, coding_len, defined_by, definitions_of, fault_at, fault_of, final, find_name, fragment_fits, fragments_in, fragments_of, gap, has_large, has_no_form, has_zero_page_size, held, held_after, held_coded, held_definitions, held_final, here_in, here_offset, initial, is_before, is_named_in, is_near, is_out_of_range, is_past_end, is_past_start, is_short, is_twice, is_undefined, line_in, line_then, meaning_in, meaning_of, names_for, next_of, operation_in, place_in, readings, unless, value_in, with_front, with_here, word_in}
 use Rattle.stmt65.proofs.Cases.{by_option, by_test}
 use Rattle.stmt65.proofs.NameLemmas.{address-held, constant-held, find_name-held, held_here, here_held, line_then-held, number-held, same_fault, small_capped, some-held}
 

@@ -1,7 +1,11 @@
 -- The parts of a text that is printed, where what follows it ends its last word.
-use Rattle.std.specs.Prelude.{◌%◌, ◌++◌, ◌+◌, ◌/◌, ◌<◌, ◌==◌, ◌∷◌, ◌≡◌, ◌≤◌}
+use Rattle.std.specs.Prelude.{◌%◌, ◌++◌, ◌+◌, ◌/◌, ◌<◌, ◌==◌, ◌∷◌, ◌≡◌, ◌≤◌, codes, not}
 use Rattle.stmt65.proofs.Lemmas.{Bool, List, [], and_parts, ap, append_assoc, arith, decimal_is_IsNumeral, decimal_nonempty, digit_from_value, drop, drop-drop, drop_at, eqb, false, length, list_all-append, ltb, ltb-true, min, nat_tests, refl, replicate, suc, sym, take_at, true, zero, ℕ, ◌∙◌}
-use Rattle.stmt65.specs.Words.{AllDigits, Define, IsItem, Item, Listing, Mark, Number, Part, Spells, Text, Word, begins_with, codes, decimal, define, digit_value, digits2, digits4, digits_value, distance_text, hex2, hex4, hex_digit, is_ascii_digit, is_ascii_hexdigit, is_blank, is_text_byte, is_word_byte, is_word_start, list_all, mark, not, offset_text, part_at, parts, prefix_len, quoted}
+use Rattle.std.specs.Str.Parse.{AllDigits, digits_value}
+use Rattle.std.specs.Fmt.{decimal}
+use Rattle.std.specs.Char.{digit_value, is_ascii_digit, is_ascii_hexdigit}
+use Rattle.std.specs.List.{list_all, prefix_len}
+use Rattle.stmt65.specs.Words.{Define, IsItem, Item, Listing, Mark, Number, Part, Spells, Text, Word, begins_with, define, digits2, digits4, distance_text, hex2, hex4, hex_digit, is_blank, is_text_byte, is_word_byte, is_word_start, mark, offset_text, part_at, parts, quoted}
 use Rattle.stmt65.specs.Spelling.{IsNumber}
 use Rattle.stmt65.specs.Parts.{number_of}
 use Rattle.stmt65.proofs.Cases.{by_test}

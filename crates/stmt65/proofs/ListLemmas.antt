@@ -1,7 +1,7 @@
 -- Lists joined by commas, one after the other as a loop reads them.
-use Rattle.std.specs.Prelude.{◌++◌, ◌+◌, ◌-◌, ◌<◌, ◌∷◌, ◌≡◌, ◌≤◌}
+use Rattle.std.specs.Prelude.{◌++◌, ◌+◌, ◌-◌, ◌<◌, ◌∷◌, ◌≡◌, ◌≤◌, map}
 use Rattle.stmt65.proofs.Lemmas.{List, None, Option, Some, [], ap, append_assoc, arith, drop, false, length, map-append, refl, suc, sym, true, ◌∙◌, length-append}
-use Rattle.stmt65.specs.Words.{◌>>=◌, Part, is_mark, is_nil, joined, list_of, map}
+use Rattle.stmt65.specs.Words.{◌>>=◌, Part, is_mark, is_nil, joined, list_of}
 use Rattle.stmt65.proofs.Cases.{by_list, mark_is}
 
 -- the list, and others before it

@@ -1,7 +1,10 @@
 -- The ways of a form are its modes, and which of them is taken.
-use Rattle.std.specs.Prelude.{if◌then◌else◌, ◌&&◌, ◌||◌, ◌∷◌, ◌≡◌}
+use Rattle.std.specs.Prelude.{if◌then◌else◌, ◌&&◌, ◌||◌, ◌∷◌, ◌≡◌, is_some, not}
 use Rattle.stmt65.proofs.Lemmas.{Bool, Decides-and, List, None, Option, Some, [], ap, arith, bytes_eq-Decides, false, map, refl, same_true, sameb, suc, sym, true, ℕ, ◌∙◌}
-use Rattle.stmt65.specs.Words.{Abs, Absindx, Absx, Absy, Acc, Cpu, Decides, Direct, EachWay, Fixed, Form, Fragment, HasMode, Imm, Imp, Ind, Indx, Indy, IsModeOf, IsWay, LacksForm, Mnemonic, Mode, ModesAreWays, NeedsMode, One, Plain, Rel, TakesMode, TakesModes, Way, WaysAreModes, Zp, Zpind, Zprel, Zpx, Zpy, bytes_eq, coding, coding_len, encoded, first_way, form_text, has_prefix, is_short, is_some, is_way, len_of, list_any, mode_fragments, not, table_of, ways, written, zero_page_of}
+use Rattle.std.specs.Bool.{Decides}
+use Rattle.std.specs.Str.{bytes_eq}
+use Rattle.std.specs.List.{list_any}
+use Rattle.stmt65.specs.Words.{Abs, Absindx, Absx, Absy, Acc, Cpu, Direct, EachWay, Fixed, Form, Fragment, HasMode, Imm, Imp, Ind, Indx, Indy, IsModeOf, IsWay, LacksForm, Mnemonic, Mode, ModesAreWays, NeedsMode, One, Plain, Rel, TakesMode, TakesModes, Way, WaysAreModes, Zp, Zpind, Zprel, Zpx, Zpy, coding, coding_len, encoded, first_way, form_text, has_prefix, is_short, is_way, len_of, mode_fragments, table_of, ways, written, zero_page_of}
 use Rattle.isa65.specs.contracts.mode.Mode as mode
 use Rattle.stmt65.proofs.Cases.{by_option, by_test}
 

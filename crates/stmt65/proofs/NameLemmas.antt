@@ -1,8 +1,11 @@
 -- What a line means by some definitions it means by all that agree with them on its names.
-use Rattle.std.specs.Prelude.{◌≡◌, ◌+◌, ◌≤◌, ◌∷◌, ℕ, Bool, false, option_and_then}
+use Rattle.std.specs.Prelude.{◌≡◌, ◌+◌, ◌≤◌, ◌∷◌, ℕ, Bool, false, option_and_then, List, None, Option, Result, Some, [], is_some, length, take, true}
 use Rattle.stmt65.proofs.Lemmas.{and_parts, ap, arith, nat_tests, refl, sym, ◌∙◌}
 use Rattle.std.proofs.lemmas.Bool.{cases_lt}
-use Rattle.stmt65.specs.Words.{AreFirstOf, AsmFault, AsmFaultKind, Definition, DifferenceValue, Directive, Entry, Fill, Fixed, Fragment, LessValue, List, Minus, NameValue, None, NumberValue, Option, Oversized, Place, Result, Some, Value, [], address_of, apart, below, bytes_at, bytes_eq, capped, entry_in, entry_limit, fault_at, fault_with, find_name, flat_map, fragment_bytes, fragment_fits, held, held_definition, held_definitions, here, is_constant, is_fragment_known, is_known, is_small, is_some, length, line_then, list_all, lowered, option_map, take, true, unless, value_in, with_here, word_in}
+use Rattle.std.specs.Str.{bytes_eq}
+use Rattle.std.specs.List.{flat_map, list_all}
+use Rattle.std.specs.Option.{option_map}
+use Rattle.stmt65.specs.Words.{AreFirstOf, AsmFault, AsmFaultKind, Definition, DifferenceValue, Directive, Entry, Fill, Fixed, Fragment, LessValue, Minus, NameValue, NumberValue, Oversized, Place, Value, address_of, apart, below, bytes_at, capped, entry_in, entry_limit, fault_at, fault_with, find_name, fragment_bytes, fragment_fits, held, held_definition, held_definitions, here, is_constant, is_fragment_known, is_known, is_small, line_then, lowered, unless, value_in, with_here, word_in}
 use Rattle.stmt65.specs.declared.directive.Directive.TheVariants.{Word}
 use Rattle.stmt65.proofs.Cases.{by_test}
 

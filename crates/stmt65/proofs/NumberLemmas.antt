@@ -1,7 +1,8 @@
 -- A number that is read digit by digit, and stops at the greatest number of 64 bits.
 use Rattle.std.specs.Prelude.{◌*◌, ◌++◌, ◌+◌, ◌<◌, ◌∷◌, ◌≡◌}
 use Rattle.stmt65.proofs.Lemmas.{List, [], ap, arith, get_or, length, min, refl, take, take_more, ℕ, ◌∙◌}
-use Rattle.stmt65.specs.Words.{digit_value, digits_value, digits_value_after}
+use Rattle.std.specs.Char.{digit_value}
+use Rattle.std.specs.Str.Parse.{digits_value, digits_value_after}
 
 digits_value_after-push : (r n : ℕ) (xs : List ℕ) (d : ℕ) → digits_value_after r n (xs ++ d ∷ []) ≡ digits_value_after r n xs * r + digit_value d
 digits_value_after-push r n [] d = refl

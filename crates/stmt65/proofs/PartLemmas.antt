@@ -1,7 +1,9 @@
 -- The parts of a line, step by step, and where they stand.
-use Rattle.std.specs.Prelude.{◌&&◌, ◌++◌, ◌+◌, ◌-◌, ◌<◌, ◌==◌, ◌∷◌, ◌≡◌, ◌≢◌, ◌≤◌}
+use Rattle.std.specs.Prelude.{◌&&◌, ◌++◌, ◌+◌, ◌-◌, ◌<◌, ◌==◌, ◌∷◌, ◌≡◌, ◌≢◌, ◌≤◌, nat_lt}
 use Rattle.stmt65.proofs.Lemmas.{Bool, List, [], add-one, and_parts, ap, arith, drop, drop-drop, eqb, eqb-true, false, get_or, length, length-drop, lt-ltb, ne_eqb, refl, suc, sym, take, take_rest, true, zero, ℕ, ◌∙◌}
-use Rattle.stmt65.specs.Words.{AreBlanks, AreParts, Datum, GoesOver, IsPart, IsWholeOperand, Language, Listing, Number, Part, Repair, StringDatum, Text, Word, alone_at, begins_operand, begins_with, from_operand, goes_on, hex_len, is_ascii_digit, is_blank, is_text_byte, is_word_byte, is_word_start, list_all, nat_lt, part_at, part_text, parts, parts_after, parts_left, prefix_len}
+use Rattle.std.specs.Char.{is_ascii_digit}
+use Rattle.std.specs.List.{list_all, prefix_len}
+use Rattle.stmt65.specs.Words.{AreBlanks, AreParts, Datum, GoesOver, IsPart, IsWholeOperand, Language, Listing, Number, Part, Repair, StringDatum, Text, Word, alone_at, begins_operand, begins_with, from_operand, goes_on, hex_len, is_blank, is_text_byte, is_word_byte, is_word_start, part_at, part_text, parts, parts_after, parts_left}
 use Rattle.stmt65.specs.Places.{EndsBefore, PlacesView}
 use Rattle.stmt65.specs.Places.AreParts.{and_part, nothing}
 use Rattle.stmt65.specs.declared.reading.places.Span.{Span}

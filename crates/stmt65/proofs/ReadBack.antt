@@ -1,7 +1,10 @@
 -- The text of a statement is one line and a spelling of that statement, so it reads as it.
-use Rattle.std.specs.Prelude.{◌%◌, ◌++◌, ◌-◌, ◌/◌, ◌<◌, ◌||◌, ◌∷◌, ◌≡◌}
+use Rattle.std.specs.Prelude.{◌%◌, ◌++◌, ◌-◌, ◌/◌, ◌<◌, ◌||◌, ◌∷◌, ◌≡◌, IsSome, Some, codes, map}
 use Rattle.stmt65.proofs.Lemmas.{Bool, List, None, Option, [], and_parts, ap, append-nil, append_assoc, arith, bytes_eq-Decides, cpu_name, eqb, eqb-true, false, inl, inr, length, length-append, ltb, ltb-true, nat_tests, ne_eqb, refl, replicate, suc, sym, true, zero, ℕ, ◌∙◌}
-use Rattle.stmt65.specs.Words.{Adc, AreOperands, AreWordWide, Automatic, Code, Columns, Directive, Empty, ExprView, HasLabelName, HasName, HasNames, HasNamesIn, Imp, Instr, IsInWidth, IsItem, IsLong, IsOperand, IsPlus, IsPrintable, IsSome, IsValue, IsWordWide, IsWrittenIn, Item, Listing, Mark, MayBeForced, MayBeLabelled, Mnemonic, Mode, NameValue, Number, NumberDatum, NumberValue, OperandKind, OperandsView, Operation, Part, PrintsAs, RemarksView, Row, Segment, SetCpu, Some, SourceLine, Spells, Statement, StatementView, TargetView, Value, Word, Zero, alone, begins_with, bytes_text, character, codes, cpu_text, cut_text, data_list, data_text, definition_fields, digits4, directive_text, distance_text, entries, entry_value, fields_of, filled, flat_map, form_items, has_bytes, has_name_form, hex4, hex_digit, instr_fields, is_ascii_alphabetic, is_name, is_text_byte, is_word_byte, is_word_start, kind_text, label_fields, level_fields, line_items, line_of, list_all, long_text, map, mark, named_text, number, numbers_text, offset_text, operand_text, operation_items, parts, plain_line, prefix_items, prefix_text, quoted, quoted_name, remark_fields, return_text, row_form, row_of, row_operands, source_form, source_line, source_value, spaced_byte, str_to_ascii_lowercase, string, text_of, value, value_list, with_fields, with_label, with_operands, word, zero_page_row}
+use Rattle.std.specs.List.{flat_map, list_all}
+use Rattle.std.specs.Char.{is_ascii_alphabetic}
+use Rattle.std.specs.Str.{str_to_ascii_lowercase}
+use Rattle.stmt65.specs.Words.{Adc, AreOperands, AreWordWide, Automatic, Code, Columns, Directive, Empty, ExprView, HasLabelName, HasName, HasNames, HasNamesIn, Imp, Instr, IsInWidth, IsItem, IsLong, IsOperand, IsPlus, IsPrintable, IsValue, IsWordWide, IsWrittenIn, Item, Listing, Mark, MayBeForced, MayBeLabelled, Mnemonic, Mode, NameValue, Number, NumberDatum, NumberValue, OperandKind, OperandsView, Operation, Part, PrintsAs, RemarksView, Row, Segment, SetCpu, SourceLine, Spells, Statement, StatementView, TargetView, Value, Word, Zero, alone, begins_with, bytes_text, character, cpu_text, cut_text, data_list, data_text, definition_fields, digits4, directive_text, distance_text, entries, entry_value, fields_of, filled, form_items, has_bytes, has_name_form, hex4, hex_digit, instr_fields, is_name, is_text_byte, is_word_byte, is_word_start, kind_text, label_fields, level_fields, line_items, line_of, long_text, mark, named_text, number, numbers_text, offset_text, operand_text, operation_items, parts, plain_line, prefix_items, prefix_text, quoted, quoted_name, remark_fields, return_text, row_form, row_of, row_operands, source_form, source_line, source_value, spaced_byte, string, text_of, value, value_list, with_fields, with_label, with_operands, word, zero_page_row}
 use Rattle.isa65.specs.declared.row.OperandKind.TheVariants as kind
 use Rattle.isa65.specs.declared.row.Pattern.TheVariants as pattern
 use Rattle.isa65.specs.declared.row.Row.TheVariants as row

@@ -1,7 +1,7 @@
 -- What is read is spelled so.
-use Rattle.std.specs.Prelude.{◌++◌, ◌∷◌, ◌≡◌}
+use Rattle.std.specs.Prelude.{◌++◌, ◌∷◌, ◌≡◌, IfSome, codes}
 use Rattle.stmt65.proofs.Lemmas.{Bool, List, None, Option, Some, [], ap, append-nil, append_assoc, arith, cond, drop, false, inl, inr, length, refl, suc, sym, true, zero, ℕ, ◌∙◌}
-use Rattle.stmt65.specs.Words.{Automatic, Define, Directive, IfSome, IsDatum, IsItem, IsList, IsMinus, IsPlus, IsSpelling, IsValue, Item, Listing, Mark, Minus, NameValue, Number, Part, Spells, Text, Value, Word, Zero, codes, constant_of, data_list, data_of, define, directive_named, directive_text, form_items, further_at, has_name_form, immediate_of, inner_at, is_define, is_mark, is_name, is_number_here, is_word_here, joined, less_one, line_at, mark, mark_datum, mnemonic_named, name, named_at, next_datum, next_value, number, number_in, operation_at, operation_items, other_at, prefix_items, quoted_name, reading_of, same, segment_of, set_cpu_of, string, tail_at, text_in, text_of, value, value_list, values_of, whole, word, word_datum, ◌>>=◌}
+use Rattle.stmt65.specs.Words.{Automatic, Define, Directive, IsDatum, IsItem, IsList, IsMinus, IsPlus, IsSpelling, IsValue, Item, Listing, Mark, Minus, NameValue, Number, Part, Spells, Text, Value, Word, Zero, constant_of, data_list, data_of, define, directive_named, directive_text, form_items, further_at, has_name_form, immediate_of, inner_at, is_define, is_mark, is_name, is_number_here, is_word_here, joined, less_one, line_at, mark, mark_datum, mnemonic_named, name, named_at, next_datum, next_value, number, number_in, operation_at, operation_items, other_at, prefix_items, quoted_name, reading_of, same, segment_of, set_cpu_of, string, tail_at, text_in, text_of, value, value_list, values_of, whole, word, word_datum, ◌>>=◌}
 use Rattle.stmt65.specs.declared.source_line.AddressSize.TheVariants.{Absolute}
 use Rattle.stmt65.specs.declared.source_line.Minus.TheVariants.{One as MinusOne}
 use Rattle.stmt65.specs.Reading.{form_of, instruction_of, operation_of}

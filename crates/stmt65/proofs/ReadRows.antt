@@ -1,6 +1,8 @@
 -- What lines say in each language, and lines that say nothing in it.
 use Rattle.std.proofs.Common.{◌≡◌, ℕ, List, [], ◌∷◌, ◌++◌, Option, Some, None, refl}
-use Rattle.stmt65.specs.Words.{AbsoluteX, AbsoluteY, Accumulator, Addr, Asl, Assignment, Bbr0, Bne, Cmp, Code, Data, Dbyt, DifferenceValue, Direct, DirectX, DirectY, Dword, Empty, Form, HalfDatum, High, Immediate, Inc, Indirect, IndirectX, IndirectY, Instr, Jmp, Language, Lda, Ldx, LessValue, Listing, Low, Mnemonic, NameValue, Nop, Nothing, NumberDatum, NumberValue, One, Operation, PlaceAssignment, Plain, Repair, Reserve, Ror, Rts, Segment, SetCpu, SourceLine, Statement, StringDatum, Two, Value, ValueDatum, Values, Zero, codes, constant_of, directive_named, filter, further_at, halved_in, has_name_form, here, immediate_of, inner_at, is_name, is_reserved_word, is_some, joined, less_one, line_at, map, mark_datum, mnemonic_named, named_at, next_datum, next_half, next_value, operation_at, other_at, part_at, parts, parts_after, reading_of, replicate, tail_at, text_in, word_datum}
+use Rattle.std.specs.Prelude.{codes, is_some, map, replicate}
+use Rattle.std.specs.List.{filter}
+use Rattle.stmt65.specs.Words.{AbsoluteX, AbsoluteY, Accumulator, Addr, Asl, Assignment, Bbr0, Bne, Cmp, Code, Data, Dbyt, DifferenceValue, Direct, DirectX, DirectY, Dword, Empty, Form, HalfDatum, High, Immediate, Inc, Indirect, IndirectX, IndirectY, Instr, Jmp, Language, Lda, Ldx, LessValue, Listing, Low, Mnemonic, NameValue, Nop, Nothing, NumberDatum, NumberValue, One, Operation, PlaceAssignment, Plain, Repair, Reserve, Ror, Rts, Segment, SetCpu, SourceLine, Statement, StringDatum, Two, Value, ValueDatum, Values, Zero, constant_of, directive_named, further_at, halved_in, has_name_form, here, immediate_of, inner_at, is_name, is_reserved_word, joined, less_one, line_at, mark_datum, mnemonic_named, named_at, next_datum, next_half, next_value, operation_at, other_at, part_at, parts, parts_after, reading_of, tail_at, text_in, word_datum}
 use Rattle.stmt65.specs.Parts.{number_of}
 use Rattle.stmt65.specs.Reading.{form_of, operation_of}
 use Rattle.stmt65.specs.declared.directive.Directive.TheVariants.{Word}

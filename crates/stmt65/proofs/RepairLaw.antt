@@ -1,8 +1,9 @@
 -- A listing means in a repair what it means by itself.
-use Rattle.std.specs.Prelude.{◌++◌, ◌||◌, ◌∷◌, ◌≡◌}
+use Rattle.std.specs.Prelude.{◌++◌, ◌||◌, ◌∷◌, ◌≡◌, None, Some, not}
 use Rattle.stmt65.proofs.Lemmas.{All-head, All-tail, Bool, List, None, Option, Some, [], and_parts, ap, arith, eqb, eqb-true, false, list_all-append, map, refl, suc, sym, true, zero, ℕ, ◌∙◌}
 use Rattle.isa65.specs.declared.cpu.Cpu.TheVariants.{M65C02, M65SC02}
-use Rattle.stmt65.specs.Words.{All, Asl, Cpu, Datum, Definition, Direct, Empty, Form, Imp, Inc, Instr, IsDatum, IsFaultless, IsItem, IsList, IsMinus, IsSpelling, IsValue, Item, KeepsListings, Language, Line, Listing, M6502, Mark, Minus, Mnemonic, NameValue, None, NumberDatum, One, Operation, Part, Plain, Repair, Ror, Some, SourceLine, Spells, State, Statement, StringDatum, Value, Zero, after, coding, encoded, fault_of, form_items, has_no_form, initial, line_items, lines_below, list_all, meaning_in, meaning_of, names_of, not, operation_items, part_at, parts, parts_after, reading_of, readings, table_of, takes_accumulator, text_lines, ways}
+use Rattle.std.specs.List.{All, list_all}
+use Rattle.stmt65.specs.Words.{Asl, Cpu, Datum, Definition, Direct, Empty, Form, Imp, Inc, Instr, IsDatum, IsFaultless, IsItem, IsList, IsMinus, IsSpelling, IsValue, Item, KeepsListings, Language, Line, Listing, M6502, Mark, Minus, Mnemonic, NameValue, NumberDatum, One, Operation, Part, Plain, Repair, Ror, SourceLine, Spells, State, Statement, StringDatum, Value, Zero, after, coding, encoded, fault_of, form_items, has_no_form, initial, line_items, lines_below, meaning_in, meaning_of, names_of, operation_items, part_at, parts, parts_after, reading_of, readings, table_of, takes_accumulator, text_lines, ways}
 use Rattle.stmt65.specs.Spelling as item
 use Rattle.stmt65.specs.Types.{Dec, Lsr, Rol}
 use Rattle.stmt65.specs.declared.source_line.Minus.TheVariants.{One as MinusOne}

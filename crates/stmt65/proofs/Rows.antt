@@ -1,6 +1,8 @@
 -- The definitions at lines of listings.
 use Rattle.std.proofs.Common.{◌≡◌, ℕ, Bool, true, false, List, [], ◌∷◌, ◌++◌, Option, Some, None, refl}
-use Rattle.stmt65.specs.Words.{Abs, Absindx, Absx, Absy, Acc, Asl, Bbr0, Bne, ExprView, Imm, Imp, Ind, Indx, Indy, Jmp, Lda, Ldx, M6502, Mnemonic, Mode, OperandsView, Rel, RemarksView, Rts, Sta, StatementView, Zp, Zpind, Zprel, Zpx, Zpy, codes, comma_list, cut_text, decimal, default_columns, entries, filled, line_of, map, offset_text, operand_text, pieces, replicate}
+use Rattle.std.specs.Prelude.{codes, map, replicate}
+use Rattle.std.specs.Fmt.{decimal}
+use Rattle.stmt65.specs.Words.{Abs, Absindx, Absx, Absy, Acc, Asl, Bbr0, Bne, ExprView, Imm, Imp, Ind, Indx, Indy, Jmp, Lda, Ldx, M6502, Mnemonic, Mode, OperandsView, Rel, RemarksView, Rts, Sta, StatementView, Zp, Zpind, Zprel, Zpx, Zpy, comma_list, cut_text, default_columns, entries, filled, line_of, offset_text, operand_text, pieces}
 use Rattle.stmt65.specs.Views as view
 
 -- remarks of level 0, with this label

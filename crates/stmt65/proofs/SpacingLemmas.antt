@@ -1,7 +1,9 @@
 -- The lexer takes the parts that stand in the line.
-use Rattle.std.specs.Prelude.{◌&&◌, ◌++◌, ◌+◌, ◌<◌, ◌||◌, ◌∷◌, ◌≡◌, ◌≤◌, ◌⊎◌}
+use Rattle.std.specs.Prelude.{◌&&◌, ◌++◌, ◌+◌, ◌<◌, ◌||◌, ◌∷◌, ◌≡◌, ◌≤◌, ◌⊎◌, nat_lt}
 use Rattle.stmt65.proofs.Lemmas.{Bool, List, [], and_parts, ap, append_assoc, arith, drop, drop_at, eqb, eqb-true, false, inl, inr, length, length-drop, length-take, length-take-le, ltb-true, not-true, or_parts, prefix_len-le-length, refl, subst, suc, sym, take, take-append-drop, take_at, true, zero, ℕ, ◌∙◌, length-append}
-use Rattle.stmt65.specs.Words.{Define, IsDecimal, IsHex, IsSpacing, IsText, Listing, Mark, Number, Part, TakesParts, Text, Word, begins_with, hex_len, is_alone, is_ascii_digit, is_ascii_hexdigit, is_blank, is_text_byte, is_word_byte, is_word_start, list_all, nat_lt, part_at, parts, prefix_len}
+use Rattle.std.specs.Char.{is_ascii_digit, is_ascii_hexdigit}
+use Rattle.std.specs.List.{list_all, prefix_len}
+use Rattle.stmt65.specs.Words.{Define, IsDecimal, IsHex, IsSpacing, IsText, Listing, Mark, Number, Part, TakesParts, Text, Word, begins_with, hex_len, is_alone, is_blank, is_text_byte, is_word_byte, is_word_start, part_at, parts}
 use Rattle.stmt65.proofs.PartLemmas.{parts_nil, parts_blank, parts_remark, parts_part, run_passes}
 use Rattle.stmt65.proofs.Cases.{by_test}
 use Rattle.stmt65.proofs.Lexed.{digit_begins, digit_no_word, prefix_stop, word_begins}

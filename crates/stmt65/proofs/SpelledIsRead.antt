@@ -1,7 +1,8 @@
 -- What is spelled so is read, in either language; in a repair an instruction without an operand may work on the accumulator.
-use Rattle.std.specs.Prelude.{◌++◌, ◌∷◌, ◌≡◌, ◌≤◌}
+use Rattle.std.specs.Prelude.{◌++◌, ◌∷◌, ◌≡◌, ◌≤◌, codes}
 use Rattle.stmt65.proofs.Lemmas.{List, None, Option, Some, [], ap, append-nil, append_assoc, arith, bytes_eq-Decides, eqb, eqb-true, false, inl, inr, length, length-append, refl, suc, sym, true, zero, ℕ, ◌∙◌}
-use Rattle.stmt65.specs.Words.{Accumulator, Adc, AddressSize, Assignment, Automatic, Code, Data, Datum, Define, DifferenceValue, Direct, DirectX, DirectY, Directive, Empty, Form, High, Immediate, Indirect, IndirectX, IndirectY, Instr, IsDatum, IsItem, IsList, IsMinus, IsPlus, IsSpelling, IsValue, Item, Language, Listing, Low, Mark, Minus, Mnemonic, NameValue, Nothing, Number, NumberDatum, NumberValue, One, Operation, Part, PlaceAssignment, Repair, Reserve, Segment, SetCpu, SourceLine, Spells, Statement, StringDatum, Two, Value, Values, Word, Zero, codes, constant_of, data_list, data_of, define, directive_named, directive_text, form_items, further_at, immediate_of, inner_at, is_absolute, is_define, is_difference, is_equals, is_mark, is_name, is_nil, is_word_here, joined, less_one, line_at, mark, mark_datum, mnemonic_named, name, named_at, next_address, next_datum, next_half, next_value, number, number_at, number_datum, operand_in, operation_at, operation_items, other_at, prefix_items, quoted_name, reading_of, reserve_of, same, segment_of, set_cpu_of, sized, str_to_ascii_lowercase, string, tail_at, text_in, text_of, unwritten, value, value_list, values_of, whole, word, word_datum, ◌>>=◌}
+use Rattle.std.specs.Str.{str_to_ascii_lowercase}
+use Rattle.stmt65.specs.Words.{Accumulator, Adc, AddressSize, Assignment, Automatic, Code, Data, Datum, Define, DifferenceValue, Direct, DirectX, DirectY, Directive, Empty, Form, High, Immediate, Indirect, IndirectX, IndirectY, Instr, IsDatum, IsItem, IsList, IsMinus, IsPlus, IsSpelling, IsValue, Item, Language, Listing, Low, Mark, Minus, Mnemonic, NameValue, Nothing, Number, NumberDatum, NumberValue, One, Operation, Part, PlaceAssignment, Repair, Reserve, Segment, SetCpu, SourceLine, Spells, Statement, StringDatum, Two, Value, Values, Word, Zero, constant_of, data_list, data_of, define, directive_named, directive_text, form_items, further_at, immediate_of, inner_at, is_absolute, is_define, is_difference, is_equals, is_mark, is_name, is_nil, is_word_here, joined, less_one, line_at, mark, mark_datum, mnemonic_named, name, named_at, next_address, next_datum, next_half, next_value, number, number_at, number_datum, operand_in, operation_at, operation_items, other_at, prefix_items, quoted_name, reading_of, reserve_of, same, segment_of, set_cpu_of, sized, string, tail_at, text_in, text_of, unwritten, value, value_list, values_of, whole, word, word_datum, ◌>>=◌}
 use Rattle.stmt65.specs.declared.source_line.AddressSize.TheVariants.{Absolute}
 use Rattle.stmt65.specs.declared.source_line.Minus.TheVariants.{One as MinusOne}
 use Rattle.stmt65.specs.declared.source_line.Notation.TheVariants as notation

@@ -1,7 +1,10 @@
 -- The texts of tables are lists, joined by commas, of what the tables say.
-use Rattle.std.specs.Prelude.{◌%◌, ◌&&◌, ◌*◌, ◌++◌, ◌+◌, ◌/◌, ◌<◌, ◌==◌, ◌∷◌, ◌≡◌, ◌≤◌}
+use Rattle.std.specs.Prelude.{◌%◌, ◌&&◌, ◌*◌, ◌++◌, ◌+◌, ◌/◌, ◌<◌, ◌==◌, ◌∷◌, ◌≡◌, ◌≤◌, map, nat_lt}
 use Rattle.stmt65.proofs.Lemmas.{Bool, List, [], and_parts, ap, append-nil, append_assoc, arith, digits_value_push, drop, eq-eqb, eqb-true, false, flat_map-append, length, length-drop, length-reverse, length-take-le, list_all-append, ltb, ltb-true, map-id, nat_tests, refl, reverse, reverse-append, subst, suc, suc-mul, sym, take, take-append-drop, true, zero, ℕ, ◌∙◌}
-use Rattle.stmt65.specs.Words.{AreBytes, BigEndian, ByteOrder, Datum, Directive, IsDatum, IsList, IsValue, LittleEndian, Mark, NumberDatum, Part, StringDatum, bytes_text, comma_list, cut_text, data_text, datum_text, digits2, digits_value, entries, entry_len, entry_number, entry_text, entry_value, flat_map, hex2, hex_digit, in_order, is_ascii_hexdigit, is_plain, is_text_byte, list_all, low_number, map, nat_lt, next_text, numbers_text, order_of, pieces}
+use Rattle.std.specs.Str.Parse.{digits_value}
+use Rattle.std.specs.List.{flat_map, list_all}
+use Rattle.std.specs.Char.{is_ascii_hexdigit}
+use Rattle.stmt65.specs.Words.{AreBytes, BigEndian, ByteOrder, Datum, Directive, IsDatum, IsList, IsValue, LittleEndian, Mark, NumberDatum, Part, StringDatum, bytes_text, comma_list, cut_text, data_text, datum_text, digits2, entries, entry_len, entry_number, entry_text, entry_value, hex2, hex_digit, in_order, is_plain, is_text_byte, low_number, next_text, numbers_text, order_of, pieces}
 use Rattle.stmt65.specs.declared.directive.Directive.TheVariants.{Word}
 use Rattle.stmt65.proofs.Lexed.{Ends, Lexes, hex_is_digit, hex_value, lexes_both, lexes_hex, lexes_hex2, lexes_mark, lexes_text}
 use Rattle.stmt65.proofs.EntryLaws.{in_order-length, entries_more}

@@ -1,7 +1,8 @@
 -- The texts of tables, from the front on.
 use Rattle.std.specs.Prelude.{◌++◌, ◌<◌, ◌==◌, ◌∷◌, ◌≡◌, ◌≤◌}
 use Rattle.stmt65.proofs.Lemmas.{List, [], ap, append-nil, append_assoc, arith, drop, eqb-true, false, get_or, length, length-take-le, lt-ltb, prefix_len-le-length, refl, suc, sym, take, take-append-drop, true, ℕ, ◌∙◌}
-use Rattle.stmt65.specs.Words.{AreBytes, Directive, comma_list, cut_text, data_text, datum_text, entries, entry_len, entry_text, flat_map, hex2, is_plain, next_text, numbers_text, prefix_len, quoted}
+use Rattle.std.specs.List.{flat_map, prefix_len}
+use Rattle.stmt65.specs.Words.{AreBytes, Directive, comma_list, cut_text, data_text, datum_text, entries, entry_len, entry_text, hex2, is_plain, next_text, numbers_text, quoted}
 use Rattle.stmt65.proofs.Cases.{by_test}
 use Rattle.stmt65.proofs.PartLemmas.{run_passes}
 use Rattle.stmt65.proofs.EntryLaws.{entries_none, entries_more}

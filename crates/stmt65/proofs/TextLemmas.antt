@@ -1,7 +1,8 @@
 -- The meaning of a text, line by line.
-use Rattle.std.specs.Prelude.{◌++◌, ◌+◌, ◌∷◌, ◌≡◌}
+use Rattle.std.specs.Prelude.{◌++◌, ◌+◌, ◌∷◌, ◌≡◌, Err, Ok, Result}
 use Rattle.stmt65.proofs.Lemmas.{All-cons, All-head, All-tail, List, None, Option, Some, [], ap, arith, length, length-append, length-replicate, refl, sym, ℕ, ◌∙◌}
-use Rattle.stmt65.specs.Words.{All, AsmFault, AsmFaultKind, Definition, Entry, Err, Fill, Fragment, IsFaultless, IsFirstFault, Line, MeansBytes, MeansFault, Ok, Result, SourceLine, StandsAtItsBytes, State, after, bytes_of, coded, coding_len, entry_in, fault_of, flat_map, fragment_bytes, fragment_len, fragments_of, initial, line_bytes, lines_below, low, meaning_of, names_for, next_of, or_zero, unless, with_front}
+use Rattle.std.specs.List.{All, flat_map}
+use Rattle.stmt65.specs.Words.{AsmFault, AsmFaultKind, Definition, Entry, Fill, Fragment, IsFaultless, IsFirstFault, Line, MeansBytes, MeansFault, SourceLine, StandsAtItsBytes, State, after, bytes_of, coded, coding_len, entry_in, fault_of, fragment_bytes, fragment_len, fragments_of, initial, line_bytes, lines_below, low, meaning_of, names_for, next_of, or_zero, unless, with_front}
 use Rattle.stmt65.proofs.EntryLaws.{entry_bytes-length}
 
 -- ---- lengths

@@ -1,6 +1,8 @@
 -- Texts of listings: the lines of their statements, and the bytes that they mean.
 use Rattle.std.proofs.Common.{◌≡◌, ℕ, Bool, true, false, List, [], ◌∷◌, ◌++◌, Option, Some, None, refl}
-use Rattle.stmt65.specs.Words.{Abs, Bne, Columns, Dbyt, Dword, ExprView, Jmp, Lda, Mnemonic, Mode, Ok, Rel, StatementView, Zp, after, bytes_of, coded, codes, coding, coding_len, comma_list, constant_of, cpu_after, cpu_named, cut_text, default_columns, defined_by, directive_named, entries, entry_in, fault_of, filled, final, find_name, flat_map, fragment_bytes, fragment_fits, fragments_of, further_at, halved_in, has_name_form, has_no_form, has_unknown_cpu, has_zero_page_size, immediate_of, inner_at, is_known, is_name, is_out_of_range, is_past_end, is_past_start, is_reserved_word, is_twice, is_undefined, joined, less_one, line_at, line_of, map, mark_datum, meaning, meaning_in, meaning_of, mnemonic_named, named_at, next_datum, next_half, next_of, next_value, operand_text, operation_at, other_at, part_at, parts_after, pieces, reading_of, replicate, tail_at, text_in, text_lines, value_in, ways, word_datum, word_in}
+use Rattle.std.specs.Prelude.{Ok, codes, map, replicate}
+use Rattle.std.specs.List.{flat_map}
+use Rattle.stmt65.specs.Words.{Abs, Bne, Columns, Dbyt, Dword, ExprView, Jmp, Lda, Mnemonic, Mode, Rel, StatementView, Zp, after, bytes_of, coded, coding, coding_len, comma_list, constant_of, cpu_after, cpu_named, cut_text, default_columns, defined_by, directive_named, entries, entry_in, fault_of, filled, final, find_name, fragment_bytes, fragment_fits, fragments_of, further_at, halved_in, has_name_form, has_no_form, has_unknown_cpu, has_zero_page_size, immediate_of, inner_at, is_known, is_name, is_out_of_range, is_past_end, is_past_start, is_reserved_word, is_twice, is_undefined, joined, less_one, line_at, line_of, mark_datum, meaning, meaning_in, meaning_of, mnemonic_named, named_at, next_datum, next_half, next_of, next_value, operand_text, operation_at, other_at, part_at, parts_after, pieces, reading_of, tail_at, text_in, text_lines, value_in, ways, word_datum, word_in}
 use Rattle.stmt65.specs.Parts.{number_of}
 use Rattle.stmt65.specs.Reading.{form_of, operation_of}
 use Rattle.stmt65.specs.Views as view

@@ -2,8 +2,8 @@
 --
 -- A label stands on the line of its statement if its name has at most as many bytes as the label break and ends before
 -- the mnemonic column; any other label has a line of its own.
-use Rattle.std.specs.Prelude.{◌&&◌, ◌+◌}
-use Rattle.stmt65.specs.Types.{Bool, Columns, List, length, nat_le, nat_lt, ℕ}
+use Rattle.std.specs.Prelude.{◌&&◌, ◌+◌, Bool, List, length, nat_le, nat_lt, ℕ}
+use Rattle.stmt65.specs.Types.{Columns}
 
 -- those of a listing whose options say nothing of them
 abbrev pub default_columns : Columns

@@ -1,6 +1,8 @@
 -- The directives that give numbers, and their words. How a table of them is printed stands in
 -- `Tables`, what they code in `Coding`.
-use Rattle.stmt65.specs.Types.{ALL, Addr, Dbyt, Directive, Dword, List, Option, codes, find, ℕ}
+use Rattle.std.specs.Prelude.{List, Option, codes, ℕ}
+use Rattle.std.specs.List.{find}
+use Rattle.stmt65.specs.Types.{ALL, Addr, Dbyt, Directive, Dword}
 use Rattle.stmt65.specs.declared.directive.Directive.TheVariants.{Word}
 use Rattle.stmt65.specs.Names.{same}
 

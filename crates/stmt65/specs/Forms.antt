@@ -1,6 +1,6 @@
 -- The written forms of an operand, each as a pattern: E stands for an expression, every other character for itself.
-use Rattle.std.specs.Prelude.{◌∷◌}
-use Rattle.stmt65.specs.Types.{AbsoluteX, AbsoluteY, AddressSize, Bool, Direct, DirectX, DirectY, Immediate, List, Notation, Pattern, Plain, [], codes, false, pattern_text, true, ℕ}
+use Rattle.std.specs.Prelude.{◌∷◌, Bool, List, [], codes, false, true, ℕ}
+use Rattle.stmt65.specs.Types.{AbsoluteX, AbsoluteY, AddressSize, Direct, DirectX, DirectY, Immediate, Notation, Pattern, Plain, pattern_text}
 use Rattle.stmt65.specs.declared.source_line.AddressSize.TheVariants as size
 use Rattle.stmt65.specs.declared.source_line.Notation.TheVariants.{Half, Absolute}
 use Rattle.stmt65.specs.SourceLine.{Value, Form, Empty, Accumulator, One, Two}

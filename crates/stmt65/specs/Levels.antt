@@ -1,7 +1,8 @@
 -- What stands after a statement that has bytes, by the comment level: from level 2 on its address, from level 3 on its
 -- bytes in hex digits too, and at level 4 its bytes as characters.
-use Rattle.std.specs.Prelude.{if◌then◌else◌, ◌&&◌, ◌++◌, ◌∷◌}
-use Rattle.stmt65.specs.Types.{Columns, List, [], codes, digits4, flat_map, map, nat_lt, ℕ}
+use Rattle.std.specs.Prelude.{if◌then◌else◌, ◌&&◌, ◌++◌, ◌∷◌, List, [], codes, map, nat_lt, ℕ}
+use Rattle.std.specs.List.{flat_map}
+use Rattle.stmt65.specs.Types.{Columns, digits4}
 use Rattle.stmt65.specs.Digits.{digits2}
 use Rattle.stmt65.specs.Statements.{Field, has_bytes}
 use Rattle.stmt65.specs.Views.{StatementView, RemarksView}

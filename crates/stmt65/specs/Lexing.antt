@@ -4,8 +4,10 @@
 -- In a repair `%` and binary digits are a number too, and so is a character between apostrophes. Blanks are no parts,
 -- and a `;` outside a string ends the line.
 use Rattle.stmt65.specs.Signs.{quote, dollar, percent, apostrophe, dot, colon, semicolon, equals, underscore}
-use Rattle.std.specs.Prelude.{if◌then◌else◌, ◌&&◌, ◌+◌, ◌==◌, ◌||◌, ◌∷◌}
-use Rattle.stmt65.specs.Types.{Bool, Language, List, Listing, Repair, [], drop, false, is_ascii_alphabetic, is_ascii_digit, is_ascii_hexdigit, is_blank, is_word_byte, min, nat_lt, not, prefix_len, suc, take, zero, ℕ}
+use Rattle.std.specs.Prelude.{if◌then◌else◌, ◌&&◌, ◌+◌, ◌==◌, ◌||◌, ◌∷◌, Bool, List, [], drop, false, min, nat_lt, not, suc, take, zero, ℕ}
+use Rattle.std.specs.Char.{is_ascii_alphabetic, is_ascii_digit, is_ascii_hexdigit}
+use Rattle.std.specs.List.{prefix_len}
+use Rattle.stmt65.specs.Types.{Language, Listing, Repair, is_blank, is_word_byte}
 use Rattle.stmt65.specs.Parts.{Part, Word, Number, Text, Define, Mark, begins_with}
 
 -- a letter, `_` or `.`

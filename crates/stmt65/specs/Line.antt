@@ -2,8 +2,8 @@
 --
 -- A line shorter than the column less 1 is filled with blanks up to there; to any other line that is not empty one
 -- blank is added, so one blank follows a name that is too long for its column.
-use Rattle.std.specs.Prelude.{if◌then◌else◌, ◌++◌, ◌-◌, ◌==◌, ◌∷◌}
-use Rattle.stmt65.specs.Types.{Columns, List, [], length, nat_lt, replicate, ℕ}
+use Rattle.std.specs.Prelude.{if◌then◌else◌, ◌++◌, ◌-◌, ◌==◌, ◌∷◌, List, [], length, nat_lt, replicate, ℕ}
+use Rattle.stmt65.specs.Types.{Columns}
 use Rattle.stmt65.specs.Levels.{fields_after}
 use Rattle.stmt65.specs.Statements.{Field, label_fields, fields_of}
 use Rattle.stmt65.specs.Views.{StatementView, RemarksView}

@@ -2,8 +2,8 @@
 --
 -- A number has two or four digits by the kind of the operand. A name stands alone or with `+` and an offset; `+0` is
 -- not written. An offset is decimal, or with `hexoffs` `$` and two digits below $100, else four.
-use Rattle.std.specs.Prelude.{if◌then◌else◌, ◌++◌, ◌==◌, ◌∷◌}
-use Rattle.stmt65.specs.Types.{Bool, Byte, List, Mode, OperandKind, Row, [], codes, expression, false, row_of, row_text, true, ℕ}
+use Rattle.std.specs.Prelude.{if◌then◌else◌, ◌++◌, ◌==◌, ◌∷◌, Bool, List, [], codes, false, true, ℕ}
+use Rattle.stmt65.specs.Types.{Byte, Mode, OperandKind, Row, expression, row_of, row_text}
 use Rattle.isa65.specs.declared.row.OperandKind.TheVariants.{ZeroPage, Word, Distance}
 use Rattle.isa65.specs.declared.row.Row.TheVariants.{One, Two}
 use Rattle.stmt65.specs.Digits.{hex2, hex4, offset_text}

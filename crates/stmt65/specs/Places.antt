@@ -2,8 +2,9 @@
 use Rattle.stmt65.specs.declared.reading.places.PlacedPart.{PlacedPart}
 use Rattle.stmt65.specs.declared.reading.places.Span.{Span}
 use Rattle.stmt65.specs.Code.PartViews.{part_of}
-use Rattle.std.specs.Prelude.{if◌then◌else◌, ◌++◌, ◌-◌, ◌==◌, ◌∷◌, ◌≡◌, ◌≤◌, ◌||◌}
-use Rattle.stmt65.specs.Types.{Bool, Language, List, Listing, Option, Repair, Some, [], drop, false, get_or, is_blank, length, list_all, take, true, ℕ}
+use Rattle.std.specs.Prelude.{if◌then◌else◌, ◌++◌, ◌-◌, ◌==◌, ◌∷◌, ◌≡◌, ◌≤◌, ◌||◌, Bool, List, Option, Some, [], drop, false, get_or, length, take, true, ℕ}
+use Rattle.std.specs.List.{list_all}
+use Rattle.stmt65.specs.Types.{Language, Listing, Repair, is_blank}
 use Rattle.stmt65.specs.Names.{is_name}
 use Rattle.stmt65.specs.Signs.{quote, star, plus, minus, colon, semicolon, equals}
 use Rattle.stmt65.specs.Parts.{Part, Word, Number, Text, Define, Mark}

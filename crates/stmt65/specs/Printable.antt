@@ -1,6 +1,7 @@
 -- What a caller of `put_line` keeps: the limits within which a line has at most 512 bytes and reads as its statement.
-use Rattle.std.specs.Prelude.{◌%◌, ◌<◌, ◌==◌, ◌≡◌, ◌≤◌}
-use Rattle.stmt65.specs.Types.{Bool, Byte, Columns, Directive, Implied, IsSome, List, Mode, None, OperandKind, Option, Row, Some, length, list_all, not, row_of, true, zero_page_of, ℕ}
+use Rattle.std.specs.Prelude.{◌%◌, ◌<◌, ◌==◌, ◌≡◌, ◌≤◌, Bool, IsSome, List, None, Option, Some, length, not, true, ℕ}
+use Rattle.std.specs.List.{list_all}
+use Rattle.stmt65.specs.Types.{Byte, Columns, Directive, Implied, Mode, OperandKind, Row, row_of, zero_page_of}
 use Rattle.isa65.specs.declared.row.OperandKind.TheVariants.{ZeroPage, Word, Distance}
 use Rattle.isa65.specs.declared.row.Row.TheVariants.{Accumulator, One, Two}
 use Rattle.stmt65.specs.Columns.{fits_label}

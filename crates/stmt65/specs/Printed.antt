@@ -1,6 +1,7 @@
 -- What the line of a statement says when it is read.
-use Rattle.std.specs.Prelude.{◌++◌, ◌==◌, ◌∷◌, ◌≡◌}
-use Rattle.stmt65.specs.Types.{Addr, AddressSize, Automatic, Bool, Directive, List, Listing, Mode, None, Option, Row, Some, Zero, [], cpu_text, false, has_name_form, list_all, map, not, row_of, true, ℕ}
+use Rattle.std.specs.Prelude.{◌++◌, ◌==◌, ◌∷◌, ◌≡◌, Bool, List, None, Option, Some, [], false, map, not, true, ℕ}
+use Rattle.std.specs.List.{list_all}
+use Rattle.stmt65.specs.Types.{Addr, AddressSize, Automatic, Directive, Listing, Mode, Row, Zero, cpu_text, has_name_form, row_of}
 use Rattle.isa65.specs.declared.row.Row.TheVariants as row
 use Rattle.stmt65.specs.Forms.{sized}
 use Rattle.stmt65.specs.SourceLine.{Value, NumberValue, NameValue, Form, Empty, Accumulator, One, Two, NumberDatum, Nothing, Instr, Data, Values, Segment, Code, SetCpu, SourceLine, Assignment, PlaceAssignment, Statement}

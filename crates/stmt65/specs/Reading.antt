@@ -1,8 +1,9 @@
 -- What a line says, by its parts, as the reader goes: each step is decided by the next part.
 --
 -- A line of a repair can say all that one of a listing can, and more: each row that has more asks for the language.
-use Rattle.std.specs.Prelude.{if◌then◌else◌, ◌+◌, ◌==◌, ◌∷◌}
-use Rattle.stmt65.specs.Types.{AddressSize, Asl, Automatic, Bool, Dec, Direct, DirectX, DirectY, Directive, High, Immediate, Inc, Indirect, IndirectX, IndirectY, Language, List, Listing, Low, Lsr, Mnemonic, None, Option, Repair, Rol, Ror, Some, Zero, [], bytes_eq, codes, drop, false, has_name_form, length, mnemonic_named, option_and_then, suc, true, zero, ℕ}
+use Rattle.std.specs.Prelude.{if◌then◌else◌, ◌+◌, ◌==◌, ◌∷◌, Bool, List, None, Option, Some, [], codes, drop, false, length, option_and_then, suc, true, zero, ℕ}
+use Rattle.std.specs.Str.{bytes_eq}
+use Rattle.stmt65.specs.Types.{AddressSize, Asl, Automatic, Dec, Direct, DirectX, DirectY, Directive, High, Immediate, Inc, Indirect, IndirectX, IndirectY, Language, Listing, Low, Lsr, Mnemonic, Repair, Rol, Ror, Zero, has_name_form, mnemonic_named}
 use Rattle.stmt65.specs.Signs.{hash, left_paren, right_paren, star, plus, comma, minus, colon, less, equals, greater}
 use Rattle.stmt65.specs.Forms.{sized}
 use Rattle.stmt65.specs.SourceLine.{is_absolute, Value, NumberValue, NameValue, LessValue, DifferenceValue, Form, Empty, Accumulator, One, Two, Datum, NumberDatum, StringDatum, ValueDatum, HalfDatum, Operation, Nothing, Instr, Data, Values, Reserve, Segment, Code, SetCpu, SourceLine, Assignment, PlaceAssignment, Statement}

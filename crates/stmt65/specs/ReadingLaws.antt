@@ -2,8 +2,8 @@
 --
 -- A line of a listing is read as a thing if and only if it is a spacing of a spelling of that thing, and
 -- it is a spelling of one thing at most.
-use Rattle.std.specs.Prelude.{◌↔◌, ◌≡◌}
-use Rattle.stmt65.specs.Types.{List, Listing, Some, ℕ}
+use Rattle.std.specs.Prelude.{◌↔◌, ◌≡◌, List, Some, ℕ}
+use Rattle.stmt65.specs.Types.{Listing}
 use Rattle.stmt65.specs.SourceLine.{SourceLine}
 use Rattle.stmt65.specs.Parts.{Part}
 use Rattle.stmt65.specs.Lexing.{parts}

@@ -3,7 +3,8 @@
 -- An assignment `name := number`, a place assignment `name := * + number`, or an optional label and an operation after
 -- it. An expression is a number, a name with what is added to it or subtracted from it, or a difference of two names.
 -- An operand after `#` and a datum of `.byte` may be half of an expression.
-use Rattle.stmt65.specs.Types.{AddressSize, Automatic, Bool, Directive, List, Minus, Mnemonic, Notation, Option, false, true, ℕ}
+use Rattle.std.specs.Prelude.{Bool, List, Option, false, true, ℕ}
+use Rattle.stmt65.specs.Types.{AddressSize, Automatic, Directive, Minus, Mnemonic, Notation}
 use Rattle.stmt65.specs.declared.source_line.AddressSize.TheVariants.{Absolute}
 use Rattle.stmt65.specs.declared.source_line.Half.{Half}
 

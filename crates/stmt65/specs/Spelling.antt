@@ -4,8 +4,9 @@
 -- exact, and numbers count by their value.
 use Rattle.stmt65.specs.Signs.{star, plus, comma, minus, colon}
 use Rattle.stmt65.specs.declared.source_line.Notation.TheVariants.{Half}
-use Rattle.std.specs.Prelude.{if◌then◌else◌, ◌++◌, ◌==◌, ◌∷◌, ◌≡◌, ◌⊎◌}
-use Rattle.stmt65.specs.Types.{Bool, List, Minus, None, Some, Zero, [], codes, expression, false, has_name_form, is_ascii_alphabetic, text_of, true, ℕ}
+use Rattle.std.specs.Prelude.{if◌then◌else◌, ◌++◌, ◌==◌, ◌∷◌, ◌≡◌, ◌⊎◌, Bool, List, None, Some, [], codes, false, true, ℕ}
+use Rattle.std.specs.Char.{is_ascii_alphabetic}
+use Rattle.stmt65.specs.Types.{Minus, Zero, expression, has_name_form, text_of}
 use Rattle.stmt65.specs.declared.source_line.Minus.TheVariants.{One as MinusOne}
 use Rattle.stmt65.specs.SourceLine.{Value, NumberValue, NameValue, LessValue, DifferenceValue, Form, One, Datum, NumberDatum, StringDatum, ValueDatum, HalfDatum, Operation, Nothing, Instr, Data, Values, Reserve, Segment, Code, SetCpu, SourceLine, Assignment, PlaceAssignment, Statement}
 use Rattle.stmt65.specs.Forms.{form_text, form_values, has_prefix}

@@ -4,8 +4,9 @@
 -- target's name with its offset and `-1`, or `.word $FFFF` without a target. A definition is a name at column 1, and at
 -- the argument column `:=` with the value in four hex digits, or with `* + n` for a name that lies n bytes after the
 -- line. A label or a remark stands at column 1.
-use Rattle.std.specs.Prelude.{decimal, if◌then◌else◌, ◌++◌, ◌∷◌}
-use Rattle.stmt65.specs.Types.{Bool, Columns, Directive, Imp, List, Mode, None, Op, Option, Some, [], codes, cpu_text, false, flat_map, reverse, text_of, true, ℕ}
+use Rattle.std.specs.Prelude.{decimal, if◌then◌else◌, ◌++◌, ◌∷◌, Bool, List, None, Option, Some, [], codes, false, reverse, true, ℕ}
+use Rattle.std.specs.List.{flat_map}
+use Rattle.stmt65.specs.Types.{Columns, Directive, Imp, Mode, Op, cpu_text, text_of}
 use Rattle.stmt65.specs.Directives.{directive_text}
 use Rattle.stmt65.specs.Digits.{digits2, hex2, hex4}
 use Rattle.stmt65.specs.Operands.{named_text, operand_text}

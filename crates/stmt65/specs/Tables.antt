@@ -1,8 +1,8 @@
 -- How the bytes of a table are printed: as numbers, or as text with single bytes between.
 -- What a directive codes says `Coding`.
 use Rattle.stmt65.specs.SourceLine.{Datum, NumberDatum, StringDatum}
-use Rattle.std.specs.Prelude.{if◌then◌else◌, ◌&&◌, ◌*◌, ◌+◌, ◌/◌, ◌==◌, ◌∷◌}
-use Rattle.stmt65.specs.Types.{Addr, BigEndian, Bool, ByteOrder, Dbyt, Directive, Dword, List, LittleEndian, [], drop, length, nat_lt, not, reverse, suc, take, zero, ℕ}
+use Rattle.std.specs.Prelude.{if◌then◌else◌, ◌&&◌, ◌*◌, ◌+◌, ◌/◌, ◌==◌, ◌∷◌, Bool, List, [], drop, length, nat_lt, not, reverse, suc, take, zero, ℕ}
+use Rattle.stmt65.specs.Types.{Addr, BigEndian, ByteOrder, Dbyt, Directive, Dword, LittleEndian}
 use Rattle.stmt65.specs.declared.directive.Directive.TheVariants.{Word}
 
 -- ---- numbers

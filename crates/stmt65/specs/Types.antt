@@ -49,14 +49,6 @@ pub use Rattle.isa65.specs.declared.row.Pattern.TheVariants.{Direct, DirectX, Di
 pub use Rattle.isa65.specs.declared.row.Row.{Row}
 pub use Rattle.isa65.specs.declared.row.Row.TheVariants.{Implied}
 -- What they are said with: words of the crates below.
-pub use Rattle.std.specs.Prelude.{Bool, Err, IfSome, IsSome, List, MatchOption, None, Ok, Option, Result, Some, [], codes, drop, false, get_or, is_some, length, map, max, min, nat_le, nat_lt, not, option_and_then, replicate, reverse, slice_index, suc, take, true, zero, ℕ}
-pub use Rattle.std.specs.List.{All, filter, find, flat_map, list_all, list_any, prefix_len, slice_get}
-pub use Rattle.std.specs.Char.{digit_value, is_ascii_alphabetic, is_ascii_digit, is_ascii_hexdigit}
-pub use Rattle.std.specs.Str.{bytes_eq, str_to_ascii_lowercase}
-pub use Rattle.std.specs.Option.{option_copied, option_map}
-pub use Rattle.std.specs.Bool.{Decides}
-pub use Rattle.std.specs.Str.Parse.{AllDigits, digits_value, digits_value_after}
-pub use Rattle.std.specs.Fmt.{decimal}
 pub use Rattle.arrayvec.specs.ArrayVec.{Extends, array_vec_len}
 pub use Rattle.isa65.specs.Words.{cpu_text, encoded, expression, len_of, pattern_text, row_of, row_text, table_of, text_of, written, zero_page_of, zero_page_row}
 unfoldable pub use Rattle.isa65.specs.Words.{cpu_named, mnemonic_named}

@@ -1,5 +1,6 @@
 -- A statement as the rules speak of it: its texts are lists of bytes.
-use Rattle.stmt65.specs.Types.{Bool, Cpu, Directive, List, Op, Option, ℕ}
+use Rattle.std.specs.Prelude.{Bool, List, Option, ℕ}
+use Rattle.stmt65.specs.Types.{Cpu, Directive, Op}
 
 -- a number; or a name, and what is added to its value
 pub data ExprView : Type 0 where

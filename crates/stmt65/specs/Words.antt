@@ -1,5 +1,9 @@
 -- The words of clauses and proofs, here and in the crates above, from one place.
-pub use Rattle.stmt65.specs.Types.{ALL, Abs, Absindx, AbsoluteX, AbsoluteY, Absx, Absy, Acc, Addr, AddressSize, All, AllDigits, Asl, AsmFault, AsmFaultKind, Automatic, BigEndian, ByteOrder, Coded, Columns, Cpu, Dbyt, Decides, DefinedTwice, Direct, DirectX, DirectY, Directive, Dword, Err, Extends, Fit, High, IfSome, Imm, Immediate, Imp, Inc, Ind, Indirect, IndirectX, IndirectY, Indx, Indy, IsSome, Language, Late, List, Listing, LittleEndian, Low, M6502, MatchOption, Memory, Minus, Mnemonic, Mode, NoSuchForm, None, Ok, OperandKind, Option, OutOfRange, PastEnd, PastStart, Plain, Rel, Repair, Result, Ror, Row, Settled, Some, Syntax, Undefined, UnknownCpu, Work, Zero, Zp, Zpind, Zprel, Zpx, Zpy, [], array_vec_len, bytes_eq, codes, cpu_text, decimal, digit_value, digits4, digits_value, digits_value_after, drop, encoded, false, filter, flat_map, get_or, hex_digit, is_ascii_alphabetic, is_ascii_digit, is_ascii_hexdigit, is_blank, is_some, is_word_byte, len_of, length, list_all, list_any, map, max, min, nat_lt, not, option_copied, option_map, prefix_len, replicate, reverse, row_of, row_text, slice_get, str_to_ascii_lowercase, table_of, take, text_of, true, written, zero_page_of, zero_page_row}
+pub use Rattle.stmt65.specs.Types.{ALL, AbsoluteX, AbsoluteY, Addr, AddressSize, AsmFault, AsmFaultKind, Automatic, Coded, Columns, Dbyt, DefinedTwice, Directive, Dword, Fit, High, Language, Late, Listing, Low, Memory, Minus, NoSuchForm, OutOfRange, PastEnd, PastStart, Plain, Repair, Settled, Syntax, Undefined, UnknownCpu, Work, Zero}
+-- those of isa65, of text65 and of arrayvec
+pub use Rattle.stmt65.specs.Types.{Abs, Absindx, Absx, Absy, Acc, Asl, BigEndian, ByteOrder, Cpu, Direct, DirectX, DirectY, Imm, Immediate, Imp, Inc, Ind, Indirect, IndirectX, IndirectY, Indx, Indy, LittleEndian, M6502, Mnemonic, Mode, OperandKind, Rel, Ror, Row, Zp, Zpind, Zprel, Zpx, Zpy, cpu_text, encoded, len_of, row_of, row_text, table_of, text_of, written, zero_page_of, zero_page_row}
+pub use Rattle.stmt65.specs.Types.{digits4, hex_digit, is_blank, is_word_byte}
+pub use Rattle.stmt65.specs.Types.{Extends, array_vec_len}
 unfoldable pub use Rattle.stmt65.specs.Types.{cpu_named, has_name_form, is_reserved_word, mnemonic_named, text_lines}
 pub use Rattle.stmt65.specs.Answer.{Assembles, IsExplained, out_of_memory}
 pub use Rattle.stmt65.specs.Code.CodingViews.{Adds, AddsOne, Emits, IsFirstOf, IsFirstWay, Puts, PutsAll, coded_of, data_fragments, entry_fragments, fragment_of, instruction_of, operand_of}

@@ -1,8 +1,8 @@
 -- What a part of the code stands for.
 use Rattle.stmt65.specs.declared.reading.lexer.Part.{Part as CodePart}
 use Rattle.stmt65.specs.declared.reading.lexer.Part.TheVariants as code
-use Rattle.std.specs.Prelude.{◌∷◌}
-use Rattle.stmt65.specs.Types.{Language, List, None, Option, Some, [], drop, slice_index, ℕ}
+use Rattle.std.specs.Prelude.{◌∷◌, List, None, Option, Some, [], drop, slice_index, ℕ}
+use Rattle.stmt65.specs.Types.{Language}
 use Rattle.stmt65.specs.Lexing.{parts}
 use Rattle.stmt65.specs.Parts.{Part, Word, Number, Text, Define, Mark}
 

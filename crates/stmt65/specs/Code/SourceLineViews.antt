@@ -1,6 +1,7 @@
 -- What the code's reading of a line stands for.
-use Rattle.std.specs.Prelude.{◌+◌}
-use Rattle.stmt65.specs.Types.{Numeral, map, option_copied, ℕ}
+use Rattle.std.specs.Prelude.{◌+◌, map, ℕ}
+use Rattle.std.specs.Option.{option_copied}
+use Rattle.stmt65.specs.Types.{Numeral}
 use Rattle.stmt65.specs.declared.source_line.Value.{Value as CodeValue}
 use Rattle.stmt65.specs.declared.source_line.Value.TheVariants as code_value
 use Rattle.stmt65.specs.declared.source_line.Form.{Form as CodeForm}

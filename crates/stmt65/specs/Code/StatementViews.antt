@@ -3,7 +3,9 @@ use Rattle.stmt65.specs.SourceLine.{is_absolute}
 use Rattle.stmt65.specs.Views.{ExprView, OperandsView, RemarksView, StatementView, TargetView}
 use Rattle.stmt65.specs.Views as view
 use Rattle.stmt65.specs.declared.directive.Directive.TheVariants.{Word}
-use Rattle.stmt65.specs.Types.{Bool, Dbyt, Decimal, Dword, Expr, Hexadecimal, Offsets, Operands, Remarks, Target, false, option_copied, option_map, true}
+use Rattle.std.specs.Prelude.{Bool, false, true}
+use Rattle.std.specs.Option.{option_copied, option_map}
+use Rattle.stmt65.specs.Types.{Dbyt, Decimal, Dword, Expr, Hexadecimal, Offsets, Operands, Remarks, Target}
 use Rattle.stmt65.specs.declared.statement.Expr.TheVariants as code_expr
 use Rattle.stmt65.specs.declared.statement.Operands.TheVariants as code_operands
 use Rattle.stmt65.specs.declared.statement.Statement.{Statement}

@@ -1,7 +1,7 @@
 //! Names that a line defines.
 
-ghost use Rattle.std.specs.Prelude.{◌++◌, ◌+◌, ◌≤◌};
-ghost use Rattle.stmt65.specs.Words.{IsNameLong, Prints, Some, [], array_vec_len, codes, definition_fields, distance_text, hex4, in_hex, label_fields};
+ghost use Rattle.std.specs.Prelude.{◌++◌, ◌+◌, ◌≤◌, Some, [], codes};
+ghost use Rattle.stmt65.specs.Words.{IsNameLong, Prints, array_vec_len, definition_fields, distance_text, hex4, in_hex, label_fields};
 
 use crate::printing::columns::{Column, Columns};
 use crate::printing::digits::{Offsets, put_distance, put_hex4};

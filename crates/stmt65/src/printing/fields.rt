@@ -1,7 +1,7 @@
 //! The fields of a line.
 
-ghost use Rattle.std.specs.Prelude.{◌+◌, ◌<◌, ◌≡◌, ◌≤◌};
-ghost use Rattle.stmt65.specs.Words.{Extends, array_vec_len, filled, length, max, replicate};
+ghost use Rattle.std.specs.Prelude.{◌+◌, ◌<◌, ◌≡◌, ◌≤◌, length, max, replicate};
+ghost use Rattle.stmt65.specs.Words.{Extends, array_vec_len, filled};
 
 use crate::printing::columns::Column;
 use crate::printing::line::Line;

@@ -1,7 +1,8 @@
 //! What stands after a statement that has bytes, by the comment level.
 
-ghost use Rattle.std.specs.Prelude.{◌*◌, ◌+◌, ◌≡◌, ◌≤◌};
-ghost use Rattle.stmt65.specs.Words.{Appends, Extends, Prints, array_vec_len, character, fields_after, flat_map, len_with, length, level_fields, map, remarks_seen, spaced_byte, statement_seen};
+ghost use Rattle.std.specs.Prelude.{◌*◌, ◌+◌, ◌≡◌, ◌≤◌, length, map};
+ghost use Rattle.std.specs.List.{flat_map};
+ghost use Rattle.stmt65.specs.Words.{Appends, Extends, Prints, array_vec_len, character, fields_after, len_with, level_fields, remarks_seen, spaced_byte, statement_seen};
 
 use crate::printing::columns::Columns;
 use crate::printing::digits::{put_digits2, put_digits4};

@@ -1,7 +1,8 @@
 //! Printing a statement as a line.
 
-ghost use Rattle.std.specs.Prelude.{◌*◌, ◌++◌, ◌+◌, ◌<◌, ◌∷◌, ◌≡◌, ◌≤◌};
-ghost use Rattle.stmt65.specs.Words.{Appends, AreBytes, AreWordWide, Extends, IfSome, IsInWidth, IsNameLong, IsPrintable, IsTable, IsWrittenIn, MayBeLabelled, Prints, ReadsBack, [], alone, array_vec_len, bytes_text, codes, cut_text, data_text, directive_text, fields_of, filled, in_hex, instr_fields, is_absolute, label_fields, len_with, length, line_of, named_text, numbers_text, operands_seen, option_copied, option_map, quoted, remark_fields, remarks_seen, return_text, statement_seen, target_seen, with_fields, with_operands};
+ghost use Rattle.std.specs.Prelude.{◌*◌, ◌++◌, ◌+◌, ◌<◌, ◌∷◌, ◌≡◌, ◌≤◌, IfSome, [], codes, length};
+ghost use Rattle.std.specs.Option.{option_copied, option_map};
+ghost use Rattle.stmt65.specs.Words.{Appends, AreBytes, AreWordWide, Extends, IsInWidth, IsNameLong, IsPrintable, IsTable, IsWrittenIn, MayBeLabelled, Prints, ReadsBack, alone, array_vec_len, bytes_text, cut_text, data_text, directive_text, fields_of, filled, in_hex, instr_fields, is_absolute, label_fields, len_with, line_of, named_text, numbers_text, operands_seen, quoted, remark_fields, remarks_seen, return_text, statement_seen, target_seen, with_fields, with_operands};
 ghost use Rattle.stmt65.specs.Views as view;
 
 use crate::directive::Directive;

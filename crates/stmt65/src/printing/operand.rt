@@ -1,7 +1,7 @@
 //! The operands of an instruction.
 
-ghost use Rattle.std.specs.Prelude.{◌+◌, ◌<◌, ◌≤◌};
-ghost use Rattle.stmt65.specs.Words.{Appends, AreOperands, AreWordWide, Extends, IsOperand, IsWordWide, IsWrittenIn, array_vec_len, expr_seen, in_hex, in_row, is_absolute, kind_text, length, named_text, none, one, operand_text, operands_seen, prefix_text, row_text, two};
+ghost use Rattle.std.specs.Prelude.{◌+◌, ◌<◌, ◌≤◌, length};
+ghost use Rattle.stmt65.specs.Words.{Appends, AreOperands, AreWordWide, Extends, IsOperand, IsWordWide, IsWrittenIn, array_vec_len, expr_seen, in_hex, in_row, is_absolute, kind_text, named_text, none, one, operand_text, operands_seen, prefix_text, row_text, two};
 
 use crate::printing::digits::{Offsets, put_hex2, put_hex4, put_offset};
 use crate::printing::fields::put;

@@ -1,7 +1,8 @@
 //! The operands of tables: numbers, and bytes as text.
 
-ghost use Rattle.std.specs.Prelude.{◌*◌, ◌+◌, ◌<◌, ◌≡◌, ◌≤◌};
-ghost use Rattle.stmt65.specs.Words.{Appends, AreBytes, Extends, Lists, array_vec_len, cut_text, data_text, datum_text, digits2, entries, entry_len, entry_text, flat_map, is_plain, len_with, length, numbers_text, prefix_len, reverse};
+ghost use Rattle.std.specs.Prelude.{◌*◌, ◌+◌, ◌<◌, ◌≡◌, ◌≤◌, length, reverse};
+ghost use Rattle.std.specs.List.{flat_map, prefix_len};
+ghost use Rattle.stmt65.specs.Words.{Appends, AreBytes, Extends, Lists, array_vec_len, cut_text, data_text, datum_text, digits2, entries, entry_len, entry_text, is_plain, len_with, numbers_text};
 
 use crate::directive::Directive;
 use crate::printing::digits::{put_digits2, put_hex2};

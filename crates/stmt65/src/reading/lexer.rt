@@ -1,7 +1,9 @@
 //! The parts of a line, each taken as long as it can be.
 
-ghost use Rattle.std.specs.Prelude.{◌<◌, ◌∷◌, ◌≡◌, ◌≤◌};
-ghost use Rattle.stmt65.specs.Words.{IfSome, Language, MatchOption, [], alone_at, cut_by, drop, false, get_or, hex_len, is_ascii_digit, is_ascii_hexdigit, is_binary_digit, is_blank, is_character, is_text_byte, is_word_byte, is_word_start, length, part_at, part_of, part_text, parts, prefix_len, take, true};
+ghost use Rattle.std.specs.Prelude.{◌<◌, ◌∷◌, ◌≡◌, ◌≤◌, IfSome, MatchOption, [], drop, false, get_or, length, take, true};
+ghost use Rattle.std.specs.Char.{is_ascii_digit, is_ascii_hexdigit};
+ghost use Rattle.std.specs.List.{prefix_len};
+ghost use Rattle.stmt65.specs.Words.{Language, alone_at, cut_by, hex_len, is_binary_digit, is_blank, is_character, is_text_byte, is_word_byte, is_word_start, part_at, part_of, part_text, parts};
 
 use crate::language::Language;
 use text65::{is_blank, is_word_byte};

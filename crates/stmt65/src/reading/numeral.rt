@@ -1,7 +1,9 @@
 //! Numbers as they are written.
 
-ghost use Rattle.std.specs.Prelude.{◌<◌, ◌≡◌};
-ghost use Rattle.stmt65.specs.Words.{digit_value, digits_value, held, min, numeral_of};
+ghost use Rattle.std.specs.Prelude.{◌<◌, ◌≡◌, min};
+ghost use Rattle.std.specs.Char.{digit_value};
+ghost use Rattle.std.specs.Str.Parse.{digits_value};
+ghost use Rattle.stmt65.specs.Words.{held, numeral_of};
 ghost use Rattle.stmt65.specs.Parts.{number_of};
 
 /// A number as it is written: decimal digits, `$` and hex digits, `%` and binary digits, or a character

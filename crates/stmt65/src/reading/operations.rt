@@ -1,7 +1,7 @@
 //! Operations: a mnemonic with its operand, or an operation of the assembler.
 
-ghost use Rattle.std.specs.Prelude.{◌≡◌};
-ghost use Rattle.stmt65.specs.Words.{Gives, GivesIfOk, List, Option, Part, Reads, data_of, datum_of, further_at, half_datum, list_of, map, mark_datum, next_datum, next_half, number_datum, numeral_of, operand_in, operation_at, other_at, reserve_of, segment_of, takes_accumulator, text_in, word_datum};
+ghost use Rattle.std.specs.Prelude.{◌≡◌, List, Option, map};
+ghost use Rattle.stmt65.specs.Words.{Gives, GivesIfOk, Part, Reads, data_of, datum_of, further_at, half_datum, list_of, mark_datum, next_datum, next_half, number_datum, numeral_of, operand_in, operation_at, other_at, reserve_of, segment_of, takes_accumulator, text_in, word_datum};
 ghost use Rattle.stmt65.specs.Code.SourceLineViews.{form_of as form_of_code, operation_of as operation_of_code};
 ghost use Rattle.stmt65.specs.Reading.{instruction_of, operation_of};
 

@@ -1,7 +1,7 @@
 //! A cursor over the parts of a line.
 
-ghost use Rattle.std.specs.Prelude.{◌∷◌, ◌≡◌, ◌≤◌};
-ghost use Rattle.stmt65.specs.Words.{Eats, MatchOption, Reads, [], is_define, is_mark, is_nil, is_number_here, is_word_here, length, number_in, numeral_of, part_of, parts};
+ghost use Rattle.std.specs.Prelude.{◌∷◌, ◌≡◌, ◌≤◌, MatchOption, [], length};
+ghost use Rattle.stmt65.specs.Words.{Eats, Reads, is_define, is_mark, is_nil, is_number_here, is_word_here, number_in, numeral_of, part_of, parts};
 
 use crate::language::Language;
 use crate::reading::lexer::{Part, first_part};

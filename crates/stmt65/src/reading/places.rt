@@ -1,8 +1,8 @@
 //! Where the parts of a line stand.
 
-ghost use Rattle.std.specs.Prelude.{◌<◌, ◌∷◌, ◌≡◌, ◌≤◌};
+ghost use Rattle.std.specs.Prelude.{◌<◌, ◌∷◌, ◌≡◌, ◌≤◌, IfSome, MatchOption, [], drop, false, get_or, length};
 ghost use Rattle.std.specs.Bool.{OnFalse, OnTrue};
-ghost use Rattle.stmt65.specs.Words.{AreBlanks, AreParts, Gives, GoesOver, IfSome, IsAmong, IsPart, IsRemarkOf, IsWholeOperand, MatchOption, ReadsAs, StandsIn, [], begins_operand, bytes_in, datum_of, drop, false, get_or, goes_on, is_blank, length, part_of, parts, parts_left, value_alone, value_of};
+ghost use Rattle.stmt65.specs.Words.{AreBlanks, AreParts, Gives, GoesOver, IsAmong, IsPart, IsRemarkOf, IsWholeOperand, ReadsAs, StandsIn, begins_operand, bytes_in, datum_of, goes_on, is_blank, part_of, parts, parts_left, value_alone, value_of};
 
 use crate::language::Language;
 use crate::reading::expressions::next_value;

@@ -1,7 +1,8 @@
 //! What a line says.
 
-ghost use Rattle.std.specs.Prelude.{◌≡◌};
-ghost use Rattle.stmt65.specs.Words.{Gives, GivesIfOk, None, Some, constant_of, line_at, number_of_name, operation_at, option_copied, option_map, parts, reading_of, source_of, stated};
+ghost use Rattle.std.specs.Prelude.{◌≡◌, None, Some};
+ghost use Rattle.std.specs.Option.{option_copied, option_map};
+ghost use Rattle.stmt65.specs.Words.{Gives, GivesIfOk, constant_of, line_at, number_of_name, operation_at, parts, reading_of, source_of, stated};
 ghost use Rattle.stmt65.specs.Code.SourceLineViews.{operation_of};
 
 use crate::language::Language;

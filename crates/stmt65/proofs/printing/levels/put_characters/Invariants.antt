@@ -1,5 +1,5 @@
-use Rattle.std.specs.Prelude.{◌++◌, ◌+◌, ◌≡◌}
-use Rattle.stmt65.specs.Words.{character, length, map, take}
+use Rattle.std.specs.Prelude.{◌++◌, ◌+◌, ◌≡◌, length, map, take}
+use Rattle.stmt65.specs.Words.{character}
 use Rattle.stmt65.proofs.printing.levels.put_characters.Given as goal
 
 abbrev pub invariant-loop-byte : goal.invariant-loop-byte

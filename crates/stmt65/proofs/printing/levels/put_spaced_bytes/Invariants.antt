@@ -1,5 +1,6 @@
-use Rattle.std.specs.Prelude.{◌*◌, ◌++◌, ◌+◌, ◌≡◌}
-use Rattle.stmt65.specs.Words.{flat_map, length, spaced_byte, take}
+use Rattle.std.specs.Prelude.{◌*◌, ◌++◌, ◌+◌, ◌≡◌, length, take}
+use Rattle.std.specs.List.{flat_map}
+use Rattle.stmt65.specs.Words.{spaced_byte}
 use Rattle.stmt65.proofs.printing.levels.put_spaced_bytes.Given as goal
 
 abbrev pub invariant-loop-byte : goal.invariant-loop-byte

@@ -1,5 +1,6 @@
-use Rattle.std.specs.Prelude.{◌*◌, ◌++◌, ◌+◌, ◌≡◌}
-use Rattle.stmt65.specs.Words.{flat_map, hex2, length, next_text, take}
+use Rattle.std.specs.Prelude.{◌*◌, ◌++◌, ◌+◌, ◌≡◌, length, take}
+use Rattle.std.specs.List.{flat_map}
+use Rattle.stmt65.specs.Words.{hex2, next_text}
 use Rattle.stmt65.proofs.printing.line.put_bytes.Given as goal
 
 abbrev pub invariant-loop-byte : goal.invariant-loop-byte

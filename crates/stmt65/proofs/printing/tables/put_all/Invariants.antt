@@ -1,5 +1,6 @@
-use Rattle.std.specs.Prelude.{◌*◌, ◌++◌, ◌+◌, ◌≡◌}
-use Rattle.stmt65.specs.Words.{digits2, flat_map, length, take}
+use Rattle.std.specs.Prelude.{◌*◌, ◌++◌, ◌+◌, ◌≡◌, length, take}
+use Rattle.std.specs.List.{flat_map}
+use Rattle.stmt65.specs.Words.{digits2}
 use Rattle.stmt65.proofs.printing.tables.put_all.Given as goal
 
 abbrev pub invariant-loop-byte : goal.invariant-loop-byte
