@@ -31,6 +31,7 @@ mod SegmentTableLemmas
 mod StandLemmas
 mod TagLemmas
 mod TagRows
+mod TailLemmas
 mod TokenLemmas
 mod WordLemmas
 pub mod Public

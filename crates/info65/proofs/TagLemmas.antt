@@ -1,16 +1,18 @@
 -- The text of the lines `#: ..`, line by line, and its groups, token by token.
-use Rattle.std.proofs.Common.{◌≡◌, ◌∙◌, ◌<◌, ◌+◌, ◌-◌, ℕ, zero, suc, Bool, true, false, List, [], ◌∷◌, ◌++◌, ap, append_assoc, append-nil, arith, drop, get_or, length, refl, sym, take}
-use Rattle.std.specs.Prelude.{◌==◌, ◌&&◌, Option, Some, None, Result, Ok, Err}
+use Rattle.std.proofs.Common.{◌≡◌, ◌∙◌, ◌<◌, ◌≤◌, ◌+◌, ◌-◌, ℕ, zero, suc, Bool, true, false, List, [], ◌∷◌, ◌++◌, ap, append_assoc, append-nil, arith, drop, get_or, length, refl, sym, take}
+use Rattle.std.specs.Prelude.{◌==◌, ◌&&◌, if◌then◌else◌, Option, Some, None, Result, Ok, Err}
 use Rattle.std.specs.Option.{option_to_list}
 use Rattle.std.proofs.Math.ListN.{replicate}
 use Rattle.std.proofs.lemmas.Bool.{and_parts, eq-eqb, eqb-true, ne_eqb}
-use Rattle.std.proofs.lemmas.List.{drop_more, get_or-take, length-append, length-take-le, take-append-drop, take_rest}
+use Rattle.std.proofs.lemmas.List.{drop_more, get_or-take, length-append, length-drop, length-take-le, take-append-drop, take_rest}
 use Rattle.memchr.specs.Find.{NoneBefore, Nowhere, Passes, is_byte}
 use Rattle.info65.specs.Tags.{at_start, in_groups, in_other}
 use Rattle.info65.specs.Types.{Tag, Token}
-use Rattle.info65.specs.Words.{Expected, InfoFault, IsLine, KindView, Outcome, Spot, StepsTo, Stream, TokenView, Turns, at_closed, at_outside, between, ended, fault, is_semicolon, opens_groups, refused, seen, semicolon, spot_after, stays, tag_end, tag_step, tagged_byte, tagged_from, tagged_text, tags_from, tags_read, wanted, with_closed, with_token}
+use Rattle.info65.specs.Words.{Expected, InfoFault, IsLine, KindView, Outcome, Spot, StepsTo, Stream, TokenView, Turns, at_closed, at_outside, between, ended, fault, groups_in, is_semicolon, opens_groups, refused, seen, semicolon, spot_after, stays, tag_end, tag_step, tagged_byte, tagged_from, tagged_text, tags_from, tags_read, tokens_after, tokens_of, wanted, with_closed, with_token}
 use Rattle.info65.specs.declared.tags.place.Stage.{Stage}
 use Rattle.info65.specs.declared.tags.place.Stage.TheVariants as place
+use Rattle.info65.proofs.Cases.{by_test}
+use Rattle.info65.proofs.TailLemmas.{alike}
 
 -- a line feed ends a line
 pub lines_apart : (p : Spot) (line rest : List ℕ) → tagged_from p (line ++ 10 ∷ rest) ≡ tagged_from p line ++ 10 ∷ tagged_text rest
@@ -21,12 +23,6 @@ lines_apart p (b ∷ c ∷ line) rest = ap (λ more. tagged_byte p b ∷ more) (
 
 rest-all : (bytes : List ℕ) (n : ℕ) → take (length bytes - n) (drop n bytes) ≡ drop n bytes
 rest-all bytes n = rw take_rest refl
-
--- the text is as long as the bytes
-pub tagged_length : (p : Spot) (bytes : List ℕ) → length (tagged_from p bytes) ≡ length bytes
-unfolding tagged_from
-tagged_length p [] = refl
-tagged_length p (b ∷ bytes) = ap suc (tagged_length (spot_after p b bytes) bytes)
 
 kept-next : (b : ℕ) (bytes : List ℕ) → (b ≡ 10 → ⊥) → tagged_from in_groups (b ∷ bytes) ≡ b ∷ tagged_from in_groups bytes
 unfolding tagged_from tagged_byte spot_after
@@ -65,7 +61,33 @@ unfolding tagged_from tagged_byte spot_after
 other_line [] is opens = refl
 other_line (b ∷ line) is opens = rw (ne_eqb b 10 (is 0 (omega arith)), opens) (ap (λ more. 32 ∷ more) (blank line (λ k lt. is (suc k) (omega (arith, lt)))))
 
-pub ruleset line_texts = (groups_line, other_line, append_assoc)
+abbrev blanks_in : List ℕ → ℕ
+blanks_in line = if opens_groups line then 2 else length line
+
+-- blanks, and then what counts of a line
+line_apart : (line : List ℕ) → IsLine line → tagged_text line ≡ replicate (blanks_in line) 32 ++ groups_in line
+line_apart line is = by_test (opens_groups line)
+    (λ opens. rw opens (groups_line line is opens))
+    (λ other. rw other (other_line line is other ∙ sym (append-nil (replicate (length line) 32))))
+
+-- blanks after the text change no token
+unfoldable pub TakesBlanks : List ℕ → Type 0
+TakesBlanks text = (n : ℕ) (rest : List ℕ) → tokens_of 1 (text ++ (replicate n 32 ++ rest)) ≡ tokens_of 1 (text ++ rest)
+
+blanks_pass : (n line : ℕ) (rest : List ℕ) → tokens_of line (replicate n 32 ++ rest) ≡ tokens_of line rest
+unfolding tokens_after
+blanks_pass zero line rest = refl
+blanks_pass (suc n) line rest = blanks_pass n line rest
+
+pub none_takes_blanks : TakesBlanks []
+unfolding TakesBlanks
+none_takes_blanks n rest = blanks_pass n 1 rest
+
+-- nor do they at the beginning of a line
+pub line_takes_blanks : (xs : List ℕ) → TakesBlanks (xs ++ 10 ∷ [])
+unfolding TakesBlanks
+line_takes_blanks xs n rest = rw (append_assoc xs (10 ∷ []) (replicate n 32 ++ rest), append_assoc xs (10 ∷ []) rest)
+    (alike (λ a b. a ≡ b) (record { refuses = λ e. refl; goes = λ t a b same. ap (with_token t) same }) (replicate n 32 ++ rest) rest (λ line. blanks_pass n line rest) 0 false 1 xs (omega arith))
 
 -- bytes without a line feed are a line; others are a line, a line feed and the bytes after it
 pub no_feed : (bytes : List ℕ) → Nowhere (Passes (is_byte 10) bytes) 0 (length bytes) → IsLine bytes
@@ -85,11 +107,32 @@ at_feed bytes len first here =
 pub ruleset feeds = (no_feed, at_feed)
 
 -- a line more
-pub line_added : (bytes left line after old : List ℕ) → left ≡ line ++ 10 ∷ after → old ++ tagged_text left ≡ tagged_text bytes
-    → ((old ++ tagged_text line) ++ 10 ∷ []) ++ tagged_text after ≡ tagged_text bytes
-line_added bytes left line after old cut so =
-    append_assoc (old ++ tagged_text line) (10 ∷ []) (tagged_text after) ∙ append_assoc old (tagged_text line) (10 ∷ tagged_text after)
-    ∙ ap (λ l. old ++ l) (sym (ap tagged_text cut ∙ lines_apart at_start line after)) ∙ so
+pub line_added : (bytes left line after old : List ℕ) → left ≡ line ++ 10 ∷ after → IsLine line → TakesBlanks old → tokens_of 1 (old ++ tagged_text left) ≡ tokens_of 1 (tagged_text bytes)
+    → tokens_of 1 (((old ++ groups_in line) ++ 10 ∷ []) ++ tagged_text after) ≡ tokens_of 1 (tagged_text bytes)
+unfolding TakesBlanks
+line_added bytes left line after old cut is takes so =
+    let rest = 10 ∷ tagged_text after in
+    let apart : tagged_text left ≡ replicate (blanks_in line) 32 ++ (groups_in line ++ rest) =
+    ap tagged_text cut ∙ lines_apart at_start line after ∙ ap (λ l. l ++ rest) (line_apart line is) ∙ append_assoc (replicate (blanks_in line) 32) (groups_in line) rest in
+    rw (append_assoc (old ++ groups_in line) (10 ∷ []) (tagged_text after), append_assoc old (groups_in line) rest)
+    (sym (takes (blanks_in line) (groups_in line ++ rest)) ∙ rw (← apart) so)
+
+-- what counts of a line is no longer than it
+pub groups_short : (line : List ℕ) → length (groups_in line) ≤ length line
+groups_short line = by_test (opens_groups line)
+    (λ opens. let l = length-drop 2 line in rw opens (omega (arith, l)))
+    (λ other. rw other (omega arith))
+
+pub line_room : (left line after old new : List ℕ) → left ≡ line ++ 10 ∷ after → new ≡ (old ++ groups_in line) ++ 10 ∷ [] → length new + length after ≤ length old + length left
+line_room left line after old new cut is =
+    let all : length left ≡ length line + suc (length after) = ap length cut ∙ length-append line (10 ∷ after) in
+    let more : length new ≡ length (old ++ groups_in line) + 1 = ap length is ∙ length-append (old ++ groups_in line) (10 ∷ []) in
+    omega (arith, all, more, length-append old (groups_in line), groups_short line)
+
+-- the last line
+pub last_added : (bytes left old : List ℕ) → IsLine left → TakesBlanks old → tokens_of 1 (old ++ tagged_text left) ≡ tokens_of 1 (tagged_text bytes) → tokens_of 1 (old ++ groups_in left) ≡ tokens_of 1 (tagged_text bytes)
+unfolding TakesBlanks
+last_added bytes left old is takes so = sym (takes (blanks_in left) (groups_in left)) ∙ rw (← line_apart left is) so
 
 pub after_line : (left line after : List ℕ) → left ≡ line ++ 10 ∷ after → length after < length left
 after_line left line after cut = let all : length left ≡ length line + suc (length after) = ap length cut ∙ length-append line (10 ∷ after) in omega (arith, all)

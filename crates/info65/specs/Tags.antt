@@ -1,5 +1,5 @@
 -- The lines `#: ..` of an information file: groups for programs beside da65, which takes them as comments.
-use Rattle.std.specs.Prelude.{◌≡◌, ◌<◌, ℕ, ◌==◌, ◌&&◌, ◌||◌, ◌++◌, nat_le, nat_lt, not, Bool, true, false, List, [], ◌∷◌, codes, get_or, is_some, length, slice_index, if◌then◌else◌, Option, Some, None, Result, Ok, Err}
+use Rattle.std.specs.Prelude.{◌≡◌, ◌<◌, ℕ, ◌==◌, ◌&&◌, ◌||◌, ◌++◌, nat_le, nat_lt, not, Bool, true, false, List, [], ◌∷◌, codes, drop, get_or, is_some, length, slice_index, if◌then◌else◌, Option, Some, None, Result, Ok, Err}
 use Rattle.std.specs.Option.{option_to_list}
 use Rattle.std.specs.Str.{str_eq_ignore_ascii_case}
 use Rattle.info65.specs.Faults.{fault, ◌>>=◌}
@@ -54,6 +54,10 @@ IsLine line = (k : ℕ) → k < length line → get_or line k 0 ≡ 10 → ⊥
 -- the text of the lines that begin with `#:`, each at its line
 abbrev pub tagged_text : List ℕ → List ℕ
 tagged_text bytes = tagged_from at_start bytes
+
+-- what counts of a line
+abbrev pub groups_in : List ℕ → List ℕ
+groups_in line = if opens_groups line then drop 2 line else []
 
 -- ---- groups and their attributes
 

@@ -55,7 +55,7 @@ unfoldable pub use Rattle.info65.specs.Segments.{first_named, meets, segment_cov
 pub use Rattle.info65.specs.Settings.{info_of}
 unfoldable pub use Rattle.info65.specs.Settings.{settings_of}
 pub use Rattle.info65.specs.Standing.{Stand, TokensStand, feeds, is_gap, is_solid}
-pub use Rattle.info65.specs.Tags.{IsLine, Spot, at_closed, at_outside, blank_tag, is_backward, is_value, lacks, opens_groups, tagged_text, tags_in, with_value}
+pub use Rattle.info65.specs.Tags.{IsLine, Spot, at_closed, at_outside, blank_tag, groups_in, is_backward, is_value, lacks, opens_groups, tagged_text, tags_in, with_value}
 unfoldable pub use Rattle.info65.specs.Tags.{spot_after, tag_attribute, tag_end, tag_named, tag_step, tagged_byte, tagged_from, tags_from, tags_of}
 pub use Rattle.info65.specs.Tokens.{Stream, TokenView, ended, found, is_blank, opens_comment, refused, stops, tokens_of, with_token}
 unfoldable pub use Rattle.info65.specs.Tokens.{tokens_after}

@@ -1,7 +1,7 @@
 //! The text of the lines `#: ..`.
 
-ghost use Rattle.std.specs.Prelude.{◌≡◌, ◌≤◌, ◌∷◌, ◌++◌, IfOk, IsTrue, MatchOption, length, replicate};
-ghost use Rattle.info65.specs.Words.{Adds, IsLine, opens_groups, tagged_text};
+ghost use Rattle.std.specs.Prelude.{◌≡◌, ◌≤◌, ◌∷◌, ◌++◌, IfOk, IsTrue, MatchOption, length};
+ghost use Rattle.info65.specs.Words.{Adds, IsLine, groups_in, opens_groups, tagged_text, tokens_of};
 
 use memchr::memchr;
 use std::alloc::{AllocError, Allocator};
@@ -14,27 +14,14 @@ fn opens_groups(line: &[u8]) -> bool
     line.len() > 1 && line[0] == b'#' && line[1] == b':'
 }
 
-/// Adds blanks for all of a line.
-fn put_blanks<A: Allocator>(text: &mut Vec<u8, A>, line: &[u8]) -> Result<(), AllocError>
-    ensures { Adds result text.old text.new (replicate (length line.now) 32) }
-{
-    let len = text.len() + line.len();
-    text.resize(len, b' ')?;
-    Ok(())
-}
-
-/// Adds the text of a line: what follows its `#:`, and blanks for all else.
-#[tactic(auto, using(crate::proofs::TagLemmas::line_texts))]
+/// Adds what follows the `#:` of a line; of other lines, nothing.
 fn put_line<A: Allocator>(text: &mut Vec<u8, A>, line: &[u8]) -> Result<(), AllocError>
-    requires { IsLine line.now }
-    ensures { Adds result text.old text.new (tagged_text line.now) }
+    ensures { Adds result text.old text.new (groups_in line.now) }
 {
-    if !opens_groups(line) {
-        return put_blanks(text, line);
+    if opens_groups(line) {
+        let (_, groups) = line.split_at(2);
+        text.extend_from_slice(groups)?;
     }
-    let (_, groups) = line.split_at(2);
-    text.extend_from_slice(b"  ")?;
-    text.extend_from_slice(groups)?;
     Ok(())
 }
 
@@ -50,11 +37,12 @@ fn first_line(bytes: &[u8]) -> Option<(&[u8], &[u8])>
     }
 }
 
-/// The text of the lines that begin with `#:`, each at its line: all other bytes are blanks.
-#[tactic(auto, using(crate::proofs::TagLemmas::line_added, crate::proofs::TagLemmas::after_line, crate::proofs::TagLemmas::tagged_length))]
+/// What follows the `#:` of each line that begins so, and an empty line for each other: so each token is on its line.
+#[tactic(auto, using(crate::proofs::TagLemmas::line_added, crate::proofs::TagLemmas::last_added, crate::proofs::TagLemmas::after_line, crate::proofs::TagLemmas::line_takes_blanks, crate::proofs::TagLemmas::none_takes_blanks))]
 pub(crate) fn tagged_text<A: Allocator>(alloc: A, bytes: &[u8]) -> Result<Vec<u8, A>, AllocError>
-    ensures text { IfOk result (λ text. text.items ≡ tagged_text bytes.now) }
-    ensures len { IfOk result (λ text. length text.items ≡ length bytes.now) }
+    ensures tokens { IfOk result (λ text.
+        tokens_of 1 text.items ≡ tokens_of 1 (tagged_text bytes.now)) }
+    ensures len { IfOk result (λ text. length text.items ≤ length bytes.now) }
 {
     let mut text = Vec::with_capacity(alloc, bytes.len())?;
     let mut left = bytes;
