@@ -205,6 +205,11 @@ impl<'f, 'm> Steps<'f, 'm> {
         }
     }
 
+    /// Returns for each byte of the image the instruction that begins there, if one does.
+    pub fn all(&self) -> &[Option<Step>] {
+        &self.steps
+    }
+
     /// Returns the first group INLINE that names the address.
     pub fn inline_at(&self, address: u16) -> Option<Tag> {
         self.flow.inline_at(address)

@@ -12,6 +12,13 @@ pub fn byte(image: &Image, at: usize) -> Option<u8> {
     image.bytes().get(index).copied()
 }
 
+/// Returns the byte so far before the address, and 0 if the image has none there.
+pub fn byte_before(image: &Image, at: usize, distance: usize) -> u8 {
+    at.checked_sub(distance)
+        .and_then(|place| byte(image, place))
+        .unwrap_or(0)
+}
+
 /// Returns the word at the address, low byte first, if both of its bytes lie in the image.
 pub fn word(image: &Image, at: usize) -> Option<u16> {
     let index = at.checked_sub(usize::from(image.start()))?;

@@ -4,7 +4,7 @@
 use crate::advice::Advice;
 use crate::text::Text;
 use map65::is_inside;
-use reach65::rules::image::byte;
+use reach65::rules::image::{byte, word};
 use std::alloc::AllocError;
 
 /// Whether the address is that of a routine, or that of a name, in the image.
@@ -40,9 +40,10 @@ impl Text<'_> {
     /// differ, and no row of words has them.
     pub fn put_words(&mut self) -> Result<(), AllocError> {
         let advice = self.advice;
+        let image = advice.steps.image();
         for &at in &advice.data.words {
-            if let Some(word) = advice.data.ground.word(usize::from(at))
-                && word / 256 != word % 256
+            if word(image, usize::from(at)).is_some_and(|word| word / 256 != word % 256)
+                && let Some(word) = advice.data.ground.word(usize::from(at))
                 && is_meant(advice, word)
                 && !self.put_call(at, word)?
             {

@@ -34,13 +34,13 @@ fn mark_ends(bytes: &[u8]) -> bool {
     mark
 }
 
-/// What the type of a range is called.
-fn type_text(role: RangeType) -> &'static str {
+/// The end of the group of a range of this type.
+fn type_text(role: RangeType) -> &'static [u8] {
     match role {
-        RangeType::TextTable => "TextTable",
-        RangeType::AddrTable => "AddrTable",
-        RangeType::RtsTable => "RtsTable",
-        _ => "ByteTable",
+        RangeType::TextTable => b"; TYPE TextTable; }; # ",
+        RangeType::AddrTable => b"; TYPE AddrTable; }; # ",
+        RangeType::RtsTable => b"; TYPE RtsTable; }; # ",
+        _ => b"; TYPE ByteTable; }; # ",
     }
 }
 
@@ -63,10 +63,14 @@ impl Text<'_> {
     /// Adds the bytes of a range of this type as characters: the first 32 of them, and two dots if there are more.
     fn put_bytes(&mut self, role: RangeType, bytes: &[u8]) -> Result<(), AllocError> {
         let (alphabet, title) = alphabet_of(role, bytes);
-        self.put(title.as_bytes())?;
-        for &byte in bytes.iter().take(SHOWN) {
-            self.out.push(shown(alphabet.in_ascii(byte)))?;
+        if !title.is_empty() {
+            self.put(title.as_bytes())?;
         }
+        let mut text = [0u8; SHOWN];
+        for (place, &byte) in text.iter_mut().zip(bytes) {
+            *place = shown(alphabet.in_ascii(byte));
+        }
+        self.put(text.get(..bytes.len().min(SHOWN)).unwrap_or(&[]))?;
         if SHOWN < bytes.len() {
             self.put(b" ..")?;
         }
@@ -78,9 +82,7 @@ impl Text<'_> {
         for &range in self.ranges {
             self.put_address(b"RANGE { START $", range.first)?;
             self.put_address(b"; END $", range.last)?;
-            self.put(b"; TYPE ")?;
-            self.put(type_text(range.role).as_bytes())?;
-            self.put(b"; }; # ")?;
+            self.put(type_text(range.role))?;
             self.put_bytes(range.role, self.bytes(range))?;
             self.put_orphans(range)?;
             self.put(b"\n")?;

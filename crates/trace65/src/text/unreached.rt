@@ -66,6 +66,11 @@ impl Text<'_> {
                 if usize::from(range.last) < from || left == 0 {
                     break;
                 }
+                // Where no instruction begins, none is looked at.
+                if address(from).is_none_or(|at| self.advice.steps.at(at).is_none()) {
+                    from = from.saturating_add(1);
+                    continue;
+                }
                 let (to, is_code) = self.stretch(from, &mut left);
                 if is_code && let Some(first) = address(from) {
                     self.put_decimal(b"# ", to.saturating_sub(from))?;

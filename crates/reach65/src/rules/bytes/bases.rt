@@ -37,12 +37,20 @@ fn given(steps: &Steps<'_>) -> Result<Marks, AllocError> {
     Ok(marks)
 }
 
-/// Where code ends in the image: the addresses right behind it that no code has, in order.
-fn code_ends(survey: &Survey<'_>) -> Result<Vec<u16>, AllocError> {
-    let (start, end) = ends(survey.steps.image());
+/// Where code ends in the image behind the first of these operands, but not far behind the last: the addresses right
+/// behind it that no code has, in order.
+fn code_ends(survey: &Survey<'_>, bases: &[Base]) -> Result<Vec<u16>, AllocError> {
+    let (_, end) = ends(survey.steps.image());
     let mut found = Vec::new(survey.steps.alloc());
-    let mut was_code = false;
-    for at in start..end {
+    let (mut first, mut last) = (u16::MAX, 0u16);
+    for base in bases {
+        first = first.min(base.operand);
+        last = last.max(base.operand);
+    }
+    // Code has each operand.
+    let mut was_code = true;
+    let behind = last.saturating_add(FAR);
+    for at in usize::from(first)..end.min(usize::from(behind) + 1) {
         let is_code = survey.code.get_at(at);
         if was_code
             && !is_code
@@ -74,7 +82,7 @@ pub fn bases_of(survey: &Survey<'_>) -> Result<Vec<Base>, AllocError> {
     if found.is_empty() {
         return Ok(found);
     }
-    let (given, code_ends) = (given(steps)?, code_ends(survey)?);
+    let (given, code_ends) = (given(steps)?, code_ends(survey, &found)?);
     for base in found.as_mut_slice() {
         let index = code_ends.partition_point(|place| *place < base.operand);
         if let Some(&table) = code_ends.get(index)

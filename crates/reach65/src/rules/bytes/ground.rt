@@ -1,5 +1,7 @@
 //! The addresses of an image that nothing speaks for, and the words among them that are addresses.
 
+ghost use Rattle.std.specs.Prelude.{◌≤◌};
+
 use crate::rules::entries::starts::has_vectors;
 use crate::rules::image::{ends, word};
 use map65::{ADDRESSES, Image, Marks, is_inside};
@@ -21,6 +23,8 @@ pub struct Ground<'i> {
     pub numbers: Marks,
     /// It is in the image, and none of these has it, but a text may.
     plain: Marks,
+    /// The first address that was so or that a word has, and the one behind the last.
+    span: (usize, usize),
 }
 
 /// Clears the marks of the addresses from one to before another.
@@ -41,12 +45,18 @@ impl<'i> Ground<'i> {
     ) -> Result<Ground<'i>, AllocError> {
         let mut plain = Marks::none(alloc)?;
         let (start, end) = ends(image);
+        let (mut first, mut last) = (None, start);
         for at in start..end {
             let address = at as u16;
             if !taken.get(address) && !numbers.get(address) {
                 plain.set(address);
+                if first.is_none() {
+                    first = Some(at);
+                }
+                last = at;
             }
         }
+        let span = first.map_or((end, end), |first| (first, last.saturating_add(1)));
         Ok(Ground {
             image,
             taken,
@@ -55,11 +65,21 @@ impl<'i> Ground<'i> {
             texts,
             numbers,
             plain,
+            span,
         })
+    }
+
+    /// Returns the first address that was plain at first or that a word has, and the one behind the last.
+    pub fn span(&self) -> (usize, usize)
+        ensures { result.1 ≤ 65536 }
+    {
+        let (from, to) = self.span;
+        (from, to.min(ADDRESSES))
     }
 
     /// Marks the addresses from one to before another as those of words that are addresses, or addresses less one.
     pub fn put_words(&mut self, less: u16, from: usize, to: usize) {
+        self.span = (self.span.0.min(from), self.span.1.max(to));
         if less == 0 {
             self.words.set_span(from, to);
         } else {

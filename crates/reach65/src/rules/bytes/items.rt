@@ -21,6 +21,8 @@ pub fn items_of(survey: &Survey<'_>, taken: &Marks) -> Result<Marks, AllocError>
         borders.push(usize::from(segment.last) + 1)?;
     }
     borders.sort()?;
+    // Without ranges and segments nothing cuts an instruction.
+    let may_cut = !borders.is_empty() || !map.info().ranges().is_empty();
     let mut next = 0;
     let (start, end) = ends(steps.image());
     for at in start..end {
@@ -31,9 +33,10 @@ pub fn items_of(survey: &Survey<'_>, taken: &Marks) -> Result<Marks, AllocError>
         let after = at.saturating_add(steps.len_at(first));
         if at < after
             && (at.saturating_add(1)..after).all(|inner| {
-                taken.get_at(inner)
-                    && address(inner).is_some_and(|address| map.is_code(address))
-                    && borders.binary_search(&inner).is_err()
+                let is_cut = may_cut
+                    && (!address(inner).is_some_and(|address| map.is_code(address))
+                        || borders.binary_search(&inner).is_ok());
+                taken.get_at(inner) && !is_cut
             })
         {
             items.set(first);

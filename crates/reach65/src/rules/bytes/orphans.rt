@@ -4,12 +4,9 @@ use crate::rules::bytes::ground::Ground;
 use crate::rules::bytes::survey::Survey;
 use crate::rules::bytes::texts::Alphabet;
 use crate::rules::entries::halves::Pair;
-use crate::rules::image::{address, byte, bytes_at, ends, word};
+use crate::rules::image::{address, byte, bytes_at, word};
 use map65::Marks;
 use std::alloc::AllocError;
-
-/// How many words may have the address of one routine.
-const MOST: usize = 2;
 
 /// How many characters before and behind a word are looked at.
 const LOOKED: usize = 16;
@@ -28,8 +25,8 @@ fn referred(ground: &Ground<'_>, survey: &Survey<'_>, pairs: &[Pair]) -> Result<
     for pair in pairs {
         set_two(&mut marks, pair.address);
     }
-    let (start, end) = ends(ground.image);
-    for at in start..end {
+    let (from, end) = ground.span();
+    for at in from..end {
         if (ground.words.get_at(at) || ground.returns.get_at(at))
             && let Some(word) = word(ground.image, at)
         {
@@ -70,6 +67,42 @@ fn is_in_text(ground: &Ground<'_>, at: usize) -> bool {
         && (has_text(ground, Alphabet::Ascii, at) || has_text(ground, Alphabet::Petscii, at))
 }
 
+/// The routines to which no code leads but words of data, two at most for each, with where these begin, in order.
+fn unled_words(
+    ground: &Ground<'_>,
+    survey: &Survey<'_>,
+    words: &[u16],
+) -> Result<Vec<(u16, usize)>, AllocError> {
+    let (start, alloc) = (ground.image.start(), survey.steps.alloc());
+    let mut found = Vec::new(alloc);
+    let (mut once, mut twice, mut often) = (
+        Marks::none(alloc)?,
+        Marks::none(alloc)?,
+        Marks::none(alloc)?,
+    );
+    for &first in words {
+        let at = usize::from(first);
+        if let Some(word) = ground.word(at)
+            && word != start
+            && !often.get(word)
+            && is_unled(survey, word)
+        {
+            if twice.get(word) {
+                often.set(word);
+                continue;
+            }
+            if once.get(word) {
+                twice.set(word);
+            }
+            once.set(word);
+            found.push((word, at))?;
+        }
+    }
+    found.retain(|(word, _)| !often.get(*word));
+    found.sort()?;
+    Ok(found)
+}
+
 /// Marks the words of data that are the address of a reached routine to which nothing else refers, where two words at
 /// most are it, and no text has them. Returns where they begin, in order. `words` has where such words may begin.
 pub fn mark_orphans(
@@ -78,36 +111,20 @@ pub fn mark_orphans(
     pairs: &[Pair],
     words: &[u16],
 ) -> Result<Vec<u16>, AllocError> {
-    let start = ground.image.start();
-    let mut found = Vec::new(survey.steps.alloc());
-    for &first in words {
-        let at = usize::from(first);
-        if let Some(word) = ground.word(at)
-            && word != start
-            && is_unled(survey, word)
-        {
-            found.push((word, at))?;
-        }
-    }
+    let found = unled_words(ground, survey, words)?;
     let mut marked = Vec::new(survey.steps.alloc());
     if found.is_empty() {
         return Ok(marked);
     }
     let referred = referred(ground, survey, pairs)?;
-    found.sort()?;
-    for same in found.as_slice().chunk_by(|one, other| one.0 == other.0) {
-        if MOST < same.len() {
-            continue;
-        }
-        for &(word, at) in same {
-            if let Some(first) = address(at)
-                && !referred.get(word)
-                && ground.word(at).is_some()
-                && !is_in_text(ground, at)
-            {
-                ground.put_words(0, at, at.saturating_add(2));
-                marked.push(first)?;
-            }
+    for &(word, at) in &found {
+        if let Some(first) = address(at)
+            && !referred.get(word)
+            && ground.word(at).is_some()
+            && !is_in_text(ground, at)
+        {
+            ground.put_words(0, at, at.saturating_add(2));
+            marked.push(first)?;
         }
     }
     marked.sort()?;

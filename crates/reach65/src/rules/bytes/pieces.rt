@@ -2,7 +2,7 @@
 
 use crate::rules::bytes::ground::Ground;
 use crate::rules::bytes::texts::{ALPHABETS, Alphabet, Chars};
-use crate::rules::image::{byte, ends};
+use crate::rules::image::{byte, bytes_at, ends};
 use info65::RangeType;
 use std::alloc::{AllocError, Global};
 use std::ops::Range;
@@ -10,28 +10,25 @@ use std::ops::Range;
 /// The least number of equal bytes that are filler.
 const FILLER: u32 = 16;
 
-/// What begins at a byte of the image.
-#[derive(Clone, Copy, PartialEq, Eq)]
-enum Begins {
-    Nothing,
-    /// Equal bytes, 16 at least.
-    Filler,
-    /// A text of this many bytes.
-    Text(u32),
-}
+/// What begins at a byte that is none of filler or of a text; else it is the number of characters of the text.
+const NOTHING: u32 = 0;
+
+/// What begins at a byte of filler: equal bytes, 16 at least. No text is so long.
+const FILLED: u32 = u32::MAX;
 
 /// The bytes that nothing speaks for, cut into pieces.
 #[derive(Drop)]
 pub struct Pieces<'a> {
     ground: &'a Ground<'a>,
+    start: usize,
     end: usize,
-    /// What begins at each byte, from the last one to the first.
-    begins: Vec<Begins>,
+    /// What begins at each byte.
+    begins: Vec<u32>,
 }
 
-/// Adds a byte before the characters of each alphabet that stand behind it. Returns the longest text that begins with
-/// it, if one does.
-fn text_with(tails: &mut [Chars; 3], byte: u8) -> Begins {
+/// Adds a byte before the characters of each alphabet that stand behind it. Returns how many characters the longest
+/// text has that begins with it, and 0 if none does.
+fn text_with(tails: &mut [Chars; 3], byte: u8) -> u32 {
     let mut longest = 0u32;
     for (chars, &alphabet) in tails.iter_mut().zip(&ALPHABETS) {
         if alphabet.is_char(byte) {
@@ -43,24 +40,22 @@ fn text_with(tails: &mut [Chars; 3], byte: u8) -> Begins {
             longest = longest.max(chars.count);
         }
     }
-    match longest {
-        0 => Begins::Nothing,
-        count => Begins::Text(count),
-    }
+    longest
 }
 
-/// What begins at each byte of the image, from the last one to the first.
-fn begins_backward(alloc: Global, ground: &Ground<'_>) -> Result<Vec<Begins>, AllocError> {
+/// What begins at each byte of the image.
+fn all_begins(alloc: Global, ground: &Ground<'_>) -> Result<Vec<u32>, AllocError> {
     let (start, _) = ends(ground.image);
-    let bytes = ground.image.bytes();
-    let mut found = Vec::with_capacity(alloc, bytes.len())?;
+    let (from, to) = ground.span();
+    let bytes = bytes_at(ground.image, from, to.saturating_sub(from));
+    let first = from.saturating_sub(start);
+    let mut found = vec![in alloc; NOTHING; ground.image.bytes().len()]?;
     let mut tails = [Chars::none(); 3];
     // The byte behind, how many equal ones there are from here on, and whether the one behind is in the tails.
     let (mut after, mut run, mut goes_on) = (0u8, 0u32, false);
     for (index, &byte) in bytes.iter().enumerate().rev() {
-        if !ground.is_plain(start.saturating_add(index)) {
+        if !ground.is_plain(from.saturating_add(index)) {
             (run, goes_on) = (0, false);
-            found.push(Begins::Nothing)?;
             continue;
         }
         if byte != after {
@@ -73,13 +68,16 @@ fn begins_backward(alloc: Global, ground: &Ground<'_>) -> Result<Vec<Begins>, Al
             tails = [Chars::none(); 3];
         }
         goes_on = is_char;
-        found.push(if is_char {
+        let begins = if is_char {
             text_with(&mut tails, byte)
-        } else if run < FILLER {
-            Begins::Nothing
+        } else if FILLER <= run {
+            FILLED
         } else {
-            Begins::Filler
-        })?;
+            continue;
+        };
+        if let Some(it) = found.get_mut(first.saturating_add(index)) {
+            *it = begins;
+        }
     }
     Ok(found)
 }
@@ -87,20 +85,19 @@ fn begins_backward(alloc: Global, ground: &Ground<'_>) -> Result<Vec<Begins>, Al
 impl<'a> Pieces<'a> {
     /// Looks at the addresses that nothing speaks for. The time grows with the size of the image.
     pub fn of(alloc: Global, ground: &'a Ground<'a>) -> Result<Pieces<'a>, AllocError> {
-        let (_, end) = ends(ground.image);
+        let (start, end) = ends(ground.image);
         Ok(Pieces {
             ground,
+            start,
             end,
-            begins: begins_backward(alloc, ground)?,
+            begins: all_begins(alloc, ground)?,
         })
     }
 
     /// What begins at the address.
-    fn begins_at(&self, at: usize) -> Begins {
-        let begins = self
-            .begins
-            .get(self.end.saturating_sub(at.saturating_add(1)));
-        begins.copied().unwrap_or(Begins::Nothing)
+    fn begins_at(&self, at: usize) -> u32 {
+        let begins = self.begins.get(at.saturating_sub(self.start));
+        begins.copied().unwrap_or(NOTHING)
     }
 
     /// The first address after this one that fails the test, or the end of the image.
@@ -148,22 +145,22 @@ impl<'a> Pieces<'a> {
             }
         }
         match self.begins_at(at) {
-            Begins::Filler => {
+            FILLED => {
                 let here = byte(ground.image, at);
                 let end = self.end_of(at, |a| {
                     ground.is_plain(a) && byte(ground.image, a) == here
                 });
                 (RangeType::ByteTable, end)
             }
-            Begins::Text(count) => {
-                let end = at.saturating_add(count as usize);
-                (self.text_type(at..end), end)
-            }
-            Begins::Nothing => {
+            NOTHING => {
                 let end = self.end_of(at, |a| {
-                    ground.is_plain(a) && self.begins_at(a) == Begins::Nothing
+                    ground.is_plain(a) && self.begins_at(a) == NOTHING
                 });
                 (RangeType::ByteTable, end)
+            }
+            count => {
+                let end = at.saturating_add(count as usize);
+                (self.text_type(at..end), end)
             }
         }
     }

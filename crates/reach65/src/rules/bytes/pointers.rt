@@ -6,8 +6,8 @@ use crate::rules::bytes::ground::Ground;
 use crate::rules::bytes::survey::Survey;
 use crate::rules::bytes::texts::ALPHABETS;
 use crate::rules::entries::halves::Pair;
-use crate::rules::image::{address, byte, bytes_at, ends, word};
-use map65::{Image, Marks};
+use crate::rules::image::{address, byte, byte_before, bytes_at, ends, word};
+use map65::{ADDRESSES, Image, Marks};
 use std::alloc::{AllocError, Global};
 
 /// How many words a row has at least.
@@ -77,10 +77,14 @@ fn text_beginnings(
     for pair in pairs {
         found.named.set(pair.address);
     }
+    let (start, _) = ends(ground.image);
+    let (from, end) = ground.span();
     // No alphabet has a byte 0.
-    let (mut before, mut second) = (0u8, 0u8);
-    let (start, end) = ends(ground.image);
-    for (at, &here) in (start..end).zip(ground.image.bytes()) {
+    let (mut before, mut second) = (
+        byte_before(ground.image, from, 1),
+        byte_before(ground.image, from, 2),
+    );
+    for (at, &here) in (from..end).zip(bytes_at(ground.image, from, ADDRESSES)) {
         if ground.is_plain(at)
             && let Some(address) = address(at)
         {
@@ -348,8 +352,9 @@ pub fn mark_pointers(
     pairs: &[Pair],
 ) -> Result<(), AllocError> {
     let alloc = survey.steps.alloc();
-    let (start, end) = ends(ground.image);
-    if !(start..end).any(|at| ground.is_plain(at)) {
+    let (_, end) = ends(ground.image);
+    let (first, last) = ground.span();
+    if !(first..last).any(|at| ground.is_plain(at)) {
         return Ok(());
     }
     let beginnings = text_beginnings(alloc, ground, pairs)?;
@@ -358,7 +363,7 @@ pub fn mark_pointers(
     }
     let (mut seen, mut rows) = (Marks::none(alloc)?, Marks::none(alloc)?);
     let image = ground.image;
-    for (from, bytes) in (start..end).zip(image.bytes().windows(2)) {
+    for (from, bytes) in (first..last).zip(bytes_at(image, first, ADDRESSES).windows(2)) {
         let &[low, high] = bytes else {
             continue;
         };

@@ -4,8 +4,8 @@ use crate::rules::bytes::ground::Ground;
 use crate::rules::bytes::links::FAR;
 use crate::rules::bytes::survey::Survey;
 use crate::rules::entries::words::ROW;
-use crate::rules::image::{address, ends};
-use map65::Marks;
+use crate::rules::image::{address, bytes_at, ends};
+use map65::{ADDRESSES, Marks};
 use std::alloc::AllocError;
 
 /// Whether the word at the address is the address of a routine, less so much.
@@ -78,9 +78,11 @@ fn named_of(survey: &Survey<'_>) -> Result<Marks, AllocError> {
 pub fn words_of(ground: &Ground<'_>, survey: &Survey<'_>) -> Result<Words, AllocError> {
     let alloc = survey.steps.alloc();
     let named = named_of(survey)?;
+    let has_names = 0 < survey.steps.map().info().given_count();
     let (mut leading, mut near) = (Vec::new(alloc), Vec::new(alloc));
-    let (start, end) = ends(ground.image);
-    for (at, bytes) in (start..end).zip(ground.image.bytes().windows(2)) {
+    let (from, end) = ground.span();
+    let bytes = bytes_at(ground.image, from, ADDRESSES);
+    for (at, bytes) in (from..end).zip(bytes.windows(2)) {
         let (&[low, high], Some(here)) = (bytes, address(at)) else {
             continue;
         };
@@ -89,8 +91,9 @@ pub fn words_of(ground: &Ground<'_>, survey: &Survey<'_>) -> Result<Words, Alloc
         }
         let word = u16::from_le_bytes([low, high]);
         let to = usize::from(word);
-        let (is_named, is_near) = (named.get(word), word.abs_diff(here) <= FAR);
+        let is_near = word.abs_diff(here) <= FAR;
         let is_code = survey.reached.get(word) || survey.reached.get_at(to + 1);
+        let is_named = has_names && named.get(word);
         // Most words are none of this.
         if !is_code && !is_named && !is_near || !ground.is_plain(at.saturating_add(1)) {
             continue;

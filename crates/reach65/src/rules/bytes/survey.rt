@@ -90,10 +90,10 @@ impl<'a> Survey<'a> {
             moves: Vec::new(alloc),
         };
         let (start, end) = ends(steps.image());
-        for at in start..end {
-            let at = at as u16;
-            if reached.get(at)
-                && let Some(step) = steps.at(at)
+        for (at, step) in (start..end).zip(steps.all()) {
+            if let Some(step) = step
+                && let Some(at) = address(at)
+                && reached.get(at)
             {
                 survey.put(Placed { at, step })?;
             }

@@ -389,9 +389,12 @@ impl<'a> Code<'a> {
         if one.step.op == two.step.op {
             return [None; 3];
         }
-        let through = match self.behind(two) {
-            Some(store) if two.step.op.mnemonic == Ldy => self.stored_twice(one, store),
-            _ => None,
+        let through = if two.step.op.mnemonic == Ldy
+            && let Some(store) = self.behind(two)
+        {
+            self.stored_twice(one, store)
+        } else {
+            None
         };
         let more = through.or(self.summed(one, two));
         [Pair::of_loads(one, two), Pair::of_loads(two, one), more]

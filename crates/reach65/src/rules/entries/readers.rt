@@ -24,6 +24,9 @@ const COPIED: u16 = 64;
 /// How many entries a table may have that is loaded into two registers.
 const REGISTERS: usize = 64;
 
+/// From how many tables on they are put in order byte by byte, and not by comparisons.
+const MANY: usize = 256;
+
 /// How many entries of tables are looked at, all together. Few programs come near it. It keeps the time in proportion
 /// to the image, whatever that has.
 pub const PATIENCE: usize = 0x1_0000;
@@ -64,6 +67,21 @@ impl Table {
         let kind = u64::from(self.less) << 1 | u64::from(self.is_code);
         let entries = u64::from(self.before) << 4 | u64::from(self.apart);
         places << 32 | kind << 24 | entries << 16 | u64::from(self.limit)
+    }
+
+    /// The table with this number.
+    fn of_number(number: u64) -> Table {
+        let kind = ((number >> 24) % 0x100) as u8;
+        let entries = ((number >> 16) % 0x100) as u8;
+        Table {
+            low: ((number >> 48) % 0x1_0000) as u16,
+            high: ((number >> 32) % 0x1_0000) as u16,
+            less: kind / 2,
+            is_code: kind % 2 == 1,
+            before: entries / 16,
+            apart: entries % 16,
+            limit: (number % 0x1_0000) as u16,
+        }
     }
 
     /// Returns whether the low and the high bytes stand in words, and not in two tables.
@@ -131,28 +149,46 @@ impl Table {
         ))
     }
 
+    /// How many entries before the one the others are that first leads to code, as the next ones do, as many as a row
+    /// has at least: 1 to 4.
+    fn before_code(&self, steps: &Steps<'_>) -> Option<u8> {
+        let need = IN_TABLE.min(self.most());
+        let last = usize::from(BEFORE).saturating_add(need);
+        let (mut first, mut index) = (1u8, 1usize);
+        for _ in 1..last.max(2) {
+            if need <= index.saturating_sub(usize::from(first)) {
+                return Some(first);
+            }
+            if !reads_on(steps, self.entry(steps.image(), index), IN_TABLE) {
+                first = u8::try_from(index).ok()?.saturating_add(1);
+            }
+            if BEFORE < first {
+                return None;
+            }
+            index = index.saturating_add(1);
+        }
+        (need <= index.saturating_sub(usize::from(first))).then_some(first)
+    }
+
     /// The table from its first entry on that leads to code, as the next ones do, if that is one of a few, and the
     /// first leads to none: the index begins at 1 or so.
     fn from_first(self, steps: &Steps<'_>) -> Table {
         if !self.is_code || reads_on(steps, self.entry(steps.image(), 0), IN_TABLE) {
             return self;
         }
-        for before in 1..=BEFORE {
-            let (low, high) = self.places(usize::from(before));
-            let (Some(low), Some(high)) = (address(low), address(high)) else {
-                return self;
-            };
-            let later = Table {
+        let Some(before) = self.before_code(steps) else {
+            return self;
+        };
+        let (low, high) = self.places(usize::from(before));
+        match (address(low), address(high)) {
+            (Some(low), Some(high)) => Table {
                 low,
                 high,
                 before,
                 ..self
-            };
-            if later.begins(steps) {
-                return later;
-            }
+            },
+            _ => self,
         }
-        self
     }
 
     /// The table with its words as far apart as records are, if the word right behind the first one leads to no code,
@@ -261,6 +297,54 @@ fn copies_at(steps: &Steps<'_>, reached: &Marks, reader: u16) -> Option<Copies> 
     is_copy.then_some(Copies { from, to })
 }
 
+/// The byte of the number that begins at this bit.
+fn digit(number: u64, bit: u32) -> u8 {
+    ((number >> (bit % 64)) % 0x100) as u8
+}
+
+/// The numbers by one byte of them, which begins at this bit. Those with the same byte stay in their order.
+fn by_byte(alloc: Global, numbers: &[u64], bit: u32) -> Result<Vec<u64>, AllocError> {
+    let mut places = [0usize; 256];
+    for &number in numbers {
+        let count = &mut places[usize::from(digit(number, bit))];
+        *count = count.saturating_add(1);
+    }
+    let mut sum = 0usize;
+    for place in &mut places {
+        let count = *place;
+        *place = sum;
+        sum = sum.saturating_add(count);
+    }
+    let mut sorted = vec![in alloc; 0u64; numbers.len()]?;
+    for &number in numbers {
+        let place = &mut places[usize::from(digit(number, bit))];
+        if let Some(slot) = sorted.get_mut(*place) {
+            *slot = number;
+        }
+        *place = place.saturating_add(1);
+    }
+    Ok(sorted)
+}
+
+/// The numbers in order, each once.
+fn in_order(alloc: Global, mut numbers: Vec<u64>) -> Result<Vec<u64>, AllocError> {
+    if numbers.len() < MANY {
+        numbers.sort()?;
+    } else {
+        let first = numbers.first().copied().unwrap_or(0);
+        let differ = numbers
+            .iter()
+            .fold(0u64, |bits, number| bits | (*number ^ first));
+        for bit in [0u32, 8, 16, 24, 32, 40, 48, 56] {
+            if digit(differ, bit) != 0 {
+                numbers = by_byte(alloc, &numbers, bit)?;
+            }
+        }
+    }
+    numbers.dedup();
+    Ok(numbers)
+}
+
 /// Which reached instructions may read tables, and what reached code does with pointers.
 #[derive(Drop)]
 pub struct Readers {
@@ -348,7 +432,7 @@ impl Readers {
     fn put_copied(
         &self,
         alloc: Global,
-        found: &mut Vec<Table>,
+        found: &mut Vec<u64>,
         copies: &[Copies],
     ) -> Result<(), AllocError> {
         if copies.is_empty() {
@@ -364,7 +448,8 @@ impl Readers {
                 }
                 let low = copy.from.saturating_add(offset);
                 let word = Table::of_code(low, low.saturating_add(1), 0);
-                found.push(Table { limit: 1, ..word })?;
+                let word = Table { limit: 1, ..word };
+                found.push(word.number())?;
             }
         }
         Ok(())
@@ -383,30 +468,36 @@ impl Readers {
         let (mut read, mut copies) = (Vec::new(alloc), Vec::new(alloc));
         for &at in &self.readers {
             if let Some(table) = self.table_at(steps, reached, at) {
-                read.push(table)?;
+                read.push(table.number())?;
             } else if let Some(copy) = copies_at(steps, reached, at) {
                 copies.push(copy)?;
             }
         }
         self.put_copied(alloc, &mut read, &copies)?;
-        read.sort_by_cached_key(|table| table.number())?;
-        read.dedup();
-        let (mut found, mut moved) = (Vec::new(alloc), Vec::new(alloc));
-        for &table in &read {
+        let read = in_order(alloc, read)?;
+        let (mut found, mut moved) = (Vec::with_capacity(alloc, read.len())?, Vec::new(alloc));
+        for &number in &read {
+            let table = Table::of_number(number);
             let behind = table.behind(code, left);
             let is_better = behind.low != table.low && behind.is_whole(steps, left);
             let best = if is_better { behind } else { table };
-            let best = best.from_first(steps).of_records(steps);
-            if best == table {
+            let best = best.from_first(steps).of_records(steps).number();
+            if best == number {
                 found.push(best)?;
             } else {
                 moved.push(best)?;
             }
         }
-        // Those before are in order already, which makes this quick.
-        found.extend_from_slice(&moved)?;
-        found.sort_by_cached_key(|table| table.number())?;
-        found.dedup();
-        Ok(found)
+        if !moved.is_empty() {
+            // Both are in order, which makes the sort quick.
+            found.extend_from_slice(&in_order(alloc, moved)?)?;
+            found.sort()?;
+            found.dedup();
+        }
+        let mut tables = Vec::with_capacity(alloc, found.len())?;
+        for &number in &found {
+            tables.push(Table::of_number(number))?;
+        }
+        Ok(tables)
     }
 }

@@ -23,12 +23,26 @@ const MARGIN: usize = 16;
 const WORD: usize = 2;
 
 /// What a sound beginning has at least.
-#[derive(Clone, Copy)]
+#[derive(Clone, Copy, PartialEq, Eq)]
 pub enum Least {
     /// This many instructions.
     Count(usize),
     /// This many, or more bytes than a word, and it leads to reached code.
     Behind(usize),
+}
+
+/// A trial that has failed. The same one fails again while nothing joins, after as many instructions.
+#[derive(Clone, Copy)]
+struct Failed {
+    address: u16,
+    /// What it was to have at least, if that counts: nothing else has kept it from joining.
+    least: Option<Least>,
+    /// Whether it would have been kept: then it is known where it could not go on.
+    keeps: bool,
+    /// How many had joined.
+    joined: usize,
+    /// How many instructions it has looked at.
+    wasted: usize,
 }
 
 /// The entries; the addresses that are marked, and those of them that are still to be looked at; those that were marked
@@ -65,6 +79,8 @@ pub struct Search<'a> {
     /// The bytes that are halves or numbers by the information file: no instruction begins there.
     said: Marks,
     wasted: usize,
+    /// The last trial that has failed.
+    failed: Option<Failed>,
     /// Where trials could not go on, and how many bytes they had read.
     pub obstacles: Vec<Obstacle>,
     /// The calls that they had read.
@@ -126,6 +142,7 @@ impl<'a> Search<'a> {
             stored: stored_marks(alloc, steps.image())?,
             said: said_places(alloc, steps.tags())?,
             wasted: 0,
+            failed: None,
             obstacles: Vec::new(alloc),
             calls: Vec::new(alloc),
         };
@@ -249,7 +266,7 @@ impl<'a> Search<'a> {
     /// Tries an address: returns whether it is a sound beginning of so many instructions at least.
     /// Keeps what was added, if it is to.
     fn tries(&mut self, address: u16, least: Least, keeps: bool) -> Result<bool, AllocError> {
-        if self.is_vain(address) {
+        if self.is_vain(address) || self.has_failed(address, least, keeps) {
             return Ok(false);
         }
         for &before in self.added.as_slice() {
@@ -268,7 +285,31 @@ impl<'a> Search<'a> {
             self.put_obstacle(stop)?;
         }
         self.undo();
+        if !joins {
+            self.failed = Some(Failed {
+                address,
+                least: stop.is_none().then_some(least),
+                keeps,
+                joined: self.joined.len(),
+                wasted: self.added.len(),
+            });
+        }
         Ok(joins)
+    }
+
+    /// Whether the last trial that has failed was this one, and nothing has joined since. Then it counts again.
+    fn has_failed(&mut self, address: u16, least: Least, keeps: bool) -> bool {
+        let Some(failed) = self.failed else {
+            return false;
+        };
+        let is_same = failed.address == address
+            && failed.joined == self.joined.len()
+            && (failed.keeps || !keeps)
+            && failed.least.is_none_or(|it| it == least);
+        if is_same {
+            self.wasted = self.wasted.saturating_add(failed.wasted);
+        }
+        is_same
     }
 
     /// Whether a trial of the address is not worth while: none is left, or no instruction

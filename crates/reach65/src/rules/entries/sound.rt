@@ -3,7 +3,7 @@
 use crate::flow::is_last;
 use crate::rules::{Step, Steps};
 use info65::RangeType;
-use isa65::{Mnemonic, Mode, Op, OperandKind, Row};
+use isa65::{Mnemonic, Mode, Op};
 use map65::Marks;
 
 /// Returns whether an instruction begins at the address, if there is one.
@@ -29,10 +29,7 @@ pub fn reads_on(steps: &Steps<'_>, from: Option<u16>, count: usize) -> bool {
 
 /// Whether the instruction is a branch.
 fn is_branch(step: &Step) -> bool {
-    matches!(
-        step.op.mode.row(),
-        Row::One(_, OperandKind::Distance) | Row::Two(_, OperandKind::Distance)
-    )
+    matches!(step.op.mode, Mode::Rel | Mode::Zprel)
 }
 
 /// Whether code may stand at an address below $0100 outside the image: it has a name, or the image stores to it.
@@ -123,14 +120,14 @@ fn clashes(steps: &Steps<'_>, marks: &Marks, outer: u16, distance: u16) -> bool 
 /// Returns whether the instruction of the address, which is marked, shares no byte with another one, but for one in the
 /// operand of one that hides it: with none that begins behind it, and with none of those before it that have `code`.
 pub fn is_apart(steps: &Steps<'_>, marks: &Marks, code: &Marks, address: u16) -> bool {
-    let distances = [1u16, 2];
-    let inside = steps.len_at(address).saturating_sub(1);
-    let mut behind = distances.iter().take(inside);
-    if behind.any(|&distance| clashes(steps, marks, address, distance)) {
+    let len = steps.len_at(address);
+    if 1 < len && clashes(steps, marks, address, 1)
+        || 2 < len && clashes(steps, marks, address, 2)
+    {
         return false;
     }
     !code.get(address)
-        || distances.iter().all(|&distance| {
+        || [1u16, 2].iter().all(|&distance| {
             let outer = address.wrapping_sub(distance);
             !(outer < address && marks.get(outer) && clashes(steps, marks, outer, distance))
         })

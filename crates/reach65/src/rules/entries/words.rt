@@ -5,7 +5,7 @@ use crate::rules::Steps;
 use crate::rules::entries::growth::{Candidate, IN_TABLE};
 use crate::rules::entries::search::{Least, Search};
 use crate::rules::entries::sound::is_passed;
-use crate::rules::image::{address, ends, given, word};
+use crate::rules::image::{address, byte_before, ends, given, word};
 use isa65::Mnemonic;
 use map65::{ADDRESSES, Image, Marks};
 use std::alloc::AllocError;
@@ -59,12 +59,15 @@ fn is_named(hopeful: &Marks, second: u8, before: u8, bytes: &[u8]) -> bool {
         && hopeful.get(u16::from_le_bytes([low, high]))
 }
 
-/// Whether code may go on at a later address, if there is one: an earlier one is not known yet.
+/// Whether code may go on at a later address, if there is one: an earlier one is not known yet. Without ranges no byte
+/// is passed over.
 fn is_hopeful_after(steps: &Steps<'_>, marks: &Marks, address: u16, later: Option<u16>) -> bool {
-    later.map_or(
-        true,
-        |later| later <= address || marks.get(later) || is_passed(steps, later),
-    )
+    let Some(later) = later else {
+        return true;
+    };
+    later <= address
+        || marks.get(later)
+        || !steps.map().info().ranges().is_empty() && is_passed(steps, later)
 }
 
 /// Whether code may begin with an instruction of the address.
@@ -131,12 +134,22 @@ impl<'i> DataWords<'i> {
         Ok(words)
     }
 
+    /// Whether the first two bytes are where code may begin, or that less one.
+    fn may_lead(&self, bytes: &[u8]) -> bool {
+        let &[low, high, ..] = bytes else {
+            return false;
+        };
+        let to = u16::from_le_bytes([low, high]);
+        self.hopeful.get(to) || self.hopeful.get_at(usize::from(to) + 1)
+    }
+
     /// Adds where words begin that may lead to code.
     fn put_all(&mut self, search: &Search<'_>) -> Result<(), AllocError> {
         let (start, end) = ends(self.image);
-        let (mut second, mut before) = (0u8, 0u8);
         for (at, bytes) in (start..end).zip(self.image.bytes().windows(4)) {
-            if let Some(here) = address(at)
+            // Most words lead to no code.
+            if self.may_lead(bytes)
+                && let Some(here) = address(at)
                 && search.is_open(here)
             {
                 if is_worth(&self.hopeful, bytes) {
@@ -145,11 +158,14 @@ impl<'i> DataWords<'i> {
                 if is_field(&self.hopeful, at, bytes) {
                     self.fields.push(here)?;
                 }
+                let (second, before) = (
+                    byte_before(self.image, at, 2),
+                    byte_before(self.image, at, 1),
+                );
                 if is_named(&self.hopeful, second, before, bytes) {
                     self.named.push(here)?;
                 }
             }
-            (second, before) = (before, bytes.first().copied().unwrap_or(0));
         }
         Ok(())
     }
