@@ -56,20 +56,25 @@ impl Text<'_> {
         (at, is_long && LEADS <= leads && !is_bad)
     }
 
+    /// Whether an instruction begins at the address.
+    fn has_step(&self, at: usize) -> bool {
+        address(at).is_some_and(|address| self.advice.steps.at(address).is_some())
+    }
+
     /// Adds a comment for each stretch of bytes that read as code to which nothing leads.
     pub fn put_unreached(&mut self) -> Result<(), AllocError> {
         let mut left = MOST;
         let mut behind = 0;
         for &range in self.ranges {
-            let mut from = behind.max(usize::from(range.first));
-            for _ in usize::from(range.first)..usize::from(range.last).saturating_add(1) {
-                if usize::from(range.last) < from || left == 0 {
-                    break;
-                }
+            let first = usize::from(range.first);
+            let end = usize::from(range.last).saturating_add(1);
+            let mut from = behind.max(first);
+            for _ in first..end {
                 // Where no instruction begins, none is looked at.
-                if address(from).is_none_or(|at| self.advice.steps.at(at).is_none()) {
-                    from = from.saturating_add(1);
-                    continue;
+                let begins = (from..end).find(|at| self.has_step(*at));
+                from = begins.unwrap_or(end.max(from));
+                if end <= from || left == 0 {
+                    break;
                 }
                 let (to, is_code) = self.stretch(from, &mut left);
                 if is_code && let Some(first) = address(from) {
