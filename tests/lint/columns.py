@@ -19,7 +19,6 @@ WIDER = {
     "files65": 2,
     "da65_cli": 2,
     "as65": 7,
-    "name65": 1,
 }
 PAGE = 120
 WIDEST = {

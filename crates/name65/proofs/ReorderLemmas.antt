@@ -9,6 +9,7 @@ use Rattle.stmt65.specs.declared.language.Language.{Language}
 use Rattle.name65.specs.Reordered.{AreReordered, CutsLine, GoesOn, Settles, TakesLine, are_places, at_end, cut_text, go_below, go_between, is_place, kind_of, stay, stays, with_feeds}
 use Rattle.name65.specs.declared.labels_first.Kind.{Kind}
 use Rattle.name65.specs.declared.labels_first.Kind.TheVariants.{Label, Labelled, Other, Place}
+use Rattle.name65.specs.declared.labels_first.Reordering.{Reordering}
 
 -- a line is held back
 pub held_back : (language : Language) (line : List ℕ) (held : List (List ℕ)) (out places places_after : List ℕ) → are_places language held ≡ true → places ≡ with_feeds held
@@ -102,11 +103,11 @@ pub none_pending : (language : Language) (all : List (List ℕ)) → Pending lan
 none_pending language all = record { held = []; are = refl; held_is = refl; goes = λ text r. r }
 
 -- a line is taken
-pub one_more : (language : Language) (all lines left : List (List ℕ)) (line out places out_after places_after : List ℕ) → lines ≡ line ∷ left → Pending language all lines out places
-    → TakesLine language line places out places_after out_after → Pending language all left out_after places_after
-one_more language all lines left line out places out_after places_after e pending takes =
-    let p : Pending language all (line ∷ left) out places = subst (λ ls. Pending language all ls out places) e pending in
-    let g : GoesOn language line p.held out places_after out_after = takes p.held p.are p.held_is in record {
+pub one_more : (language : Language) (all lines left : List (List ℕ)) (line : List ℕ) (old new : Reordering) → lines ≡ line ∷ left → Pending language all lines old.lines.items old.places.items
+    → TakesLine language line old new → Pending language all left new.lines.items new.places.items
+one_more language all lines left line old new e pending takes =
+    let p : Pending language all (line ∷ left) old.lines.items old.places.items = subst (λ ls. Pending language all ls old.lines.items old.places.items) e pending in
+    let g : GoesOn language line p.held old.lines.items new.places.items new.lines.items = takes p.held p.are p.held_is in record {
       held = g.after;
       are = g.are;
       held_is = g.held_is;

@@ -2,7 +2,6 @@
 use Rattle.std.specs.Prelude.{◌≡◌, ◌++◌, ℕ, ◌-◌, Bool, List, [], length, slice_get, Result, Ok, Err}
 use Rattle.std.specs.Option.{unwrap_or}
 use Rattle.info65.specs.Words.{InfoView}
-use Rattle.info65.specs.declared.tags.tag.Tag.{Tag}
 use Rattle.text65.specs.Lines.{text_lines}
 use Rattle.stmt65.specs.Words.{Layout, definitions_of, held_definitions, line_addresses, meaning_in, readings}
 use Rattle.stmt65.specs.declared.language.Language.{Language}
@@ -14,6 +13,7 @@ use Rattle.name65.specs.declared.complaint.Refusal.{Refusal}
 use Rattle.name65.specs.declared.complaint.Refusal.TheVariants as refusal
 use Rattle.name65.specs.declared.failure.Refused.{Refused}
 use Rattle.name65.specs.declared.failure.Refused.TheVariants.{Changed, Group}
+use Rattle.name65.specs.declared.setup.Setup.{Setup}
 use Rattle.files65.specs.declared.failure.Failure.{Failure}
 use Rattle.files65.specs.declared.failure.Failure.TheVariants.{Memory, Own}
 
@@ -50,8 +50,15 @@ abbrev pub last_in : ℕ → List ℕ → ℕ
 last_in start ends = unwrap_or (slice_get ends (length ends - 1)) start
 
 -- what decides how its lines change
-abbrev pub scope_of : Listing → InfoView → List Tag → Bool → Scope
-scope_of l info tags used = record { language = l.language; named = is_named tags; used = used; last = last_in l.start (addresses_of l); tags = tags; known = known_of l info }
+abbrev pub scope_of : Listing → Setup → Scope
+scope_of l setup = record {
+  language = l.language;
+  named = is_named setup.tags.now;
+  used = setup.naming.now.used;
+  last = last_in l.start (addresses_of l);
+  tags = setup.tags.now;
+  known = known_of l setup.info.now;
+}
 
 -- Each line of a listing as it becomes, in order, by the address after each; and
 -- after the last what moves there, in order.
@@ -62,8 +69,8 @@ pub record AreLines (l : Listing) (scope : Scope) (text : List ℕ) : Type 0 whe
   pub whole : text ≡ lines ++ tail
 
 -- so they are, by the groups and the names of the information file
-abbrev pub IsNamed : Listing → InfoView → List Tag → Bool → List ℕ → Type 0
-IsNamed l info tags used text = AreLines l (scope_of l info tags used) text
+abbrev pub IsNamed : Listing → Setup → List ℕ → Type 0
+IsNamed l setup text = AreLines l (scope_of l setup) text
 
 -- The text means the bytes that the listing means.
 pub record MeansTheSame (l : Listing) (text : List ℕ) : Type 0 where

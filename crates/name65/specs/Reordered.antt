@@ -9,6 +9,7 @@ use Rattle.stmt65.specs.Words.{Nothing, PlaceAssignment, SourceLine, Statement, 
 use Rattle.stmt65.specs.declared.language.Language.{Language}
 use Rattle.name65.specs.declared.labels_first.Kind.{Kind}
 use Rattle.name65.specs.declared.labels_first.Kind.TheVariants.{Label, Labelled, Other, Place}
+use Rattle.name65.specs.declared.labels_first.Reordering.{Reordering}
 
 -- a line `NAME := * + n`, a label and nothing else, a label and an operation, or another line
 abbrev pub kind_in : Option SourceLine → Kind
@@ -86,6 +87,6 @@ pub record GoesOn (language : Language) (line : List ℕ) (held_back : List (Lis
   pub goes : (lines : List (List ℕ)) (text : List ℕ) → AreReordered language (after ++ lines) text → AreReordered language (held_back ++ line ∷ lines) (added ++ text)
 
 -- so for all lines that may have been held back
-abbrev pub TakesLine : Language → List ℕ → List ℕ → List ℕ → List ℕ → List ℕ → Type 0
-TakesLine language line places out places_after out_after =
-    (held_back : List (List ℕ)) → are_places language held_back ≡ true → places ≡ with_feeds held_back → GoesOn language line held_back out places_after out_after
+abbrev pub TakesLine : Language → List ℕ → Reordering → Reordering → Type 0
+TakesLine language line old new =
+    (held_back : List (List ℕ)) → are_places language held_back ≡ true → old.places.items ≡ with_feeds held_back → GoesOn language line held_back old.lines.items new.places.items new.lines.items

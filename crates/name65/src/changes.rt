@@ -15,8 +15,8 @@ use crate::groups::Groups;
 use crate::known::Known;
 use crate::marks::{has_mark, mark_named};
 use crate::plan::{NewText, PlacedLine, Plan};
+use crate::setup::Setup;
 use crate::wishes::Wishes;
-use info65::{Info, Tag};
 use std::alloc::Global;
 use stmt65::{Assembly, LineEnds, Source, Symbols};
 use text65::first_line;
@@ -83,19 +83,18 @@ pub fn changed_text<'t, 'b>(
     alloc: &'b Global,
     source: &Source<'t, '_, '_>,
     assembly: &Assembly<'t, '_, Global>,
-    info: &Info,
-    tags: &[Tag],
-    used: bool,
+    setup: &Setup<'_>,
 ) -> Result<Changed<'t, 'b>, Refusal>
     requires ends { assembly.now.ends ≡ source_addresses source.now }
     requires names { assembly.now.names ≡ held_definitions (source_definitions source.now) }
     requires bytes { source_meaning source.now ≡ Ok assembly.now.bytes.items }
-    ensures { IfOk result (λ changed.
-        IsNamed (listing_of source.now) info.now tags.now used changed.text.items) }
+    ensures { IfOk result
+        (λ changed. IsNamed (listing_of source.now) setup.now changed.text.items) }
 {
+    let Setup { naming, info, tags } = *setup;
+    let used = naming.used;
     let marks = mark_named(*alloc, tags)?;
-    let definitions = assembly.names.definitions();
-    let known = Known::new(*alloc, definitions, info, source.start, &assembly.bytes)?;
+    let known = Known::new(*alloc, source.start, assembly, info)?;
     let groups = Groups::new(*alloc, &known, tags)?;
     let wishes = Wishes::new(*alloc, source, &groups, used)?;
     let plan = Plan {
@@ -109,7 +108,7 @@ pub fn changed_text<'t, 'b>(
     };
     let mut new = new_lines(&plan, source, &assembly.ends)?;
     new.lines.extend_from_slice(&new.tail)?;
-    let names = names_after(alloc, &plan, definitions)?;
+    let names = names_after(alloc, &plan, assembly.names.definitions())?;
     let text = new.lines;
     Ok(Changed { text, names })
 }

@@ -11,7 +11,7 @@ use crate::by_address::ByAddress;
 use crate::reference::{Offset, Reference};
 use info65::{Info, Tag};
 use std::alloc::{AllocError, Global};
-use stmt65::Definition;
+use stmt65::{Assembly, Definition};
 
 /// What decides it: the names of the listing by the addresses that are their values, the names of the information
 /// file, and the bytes of the listing from its start on.
@@ -76,27 +76,26 @@ fn is_next(name: Option<Reference<'_>>) -> bool
 }
 
 impl<'b, 't> Known<'b, 't> {
-    /// What is known of a listing that defines this and means these bytes from a start on.
+    /// What is known of a listing that from a start on assembles so.
     pub fn new(
         alloc: Global,
-        definitions: &[Definition<'t>],
-        info: &'b Info,
         start: u16,
-        bytes: &'b [u8],
+        assembly: &'b Assembly<'t, '_, Global>,
+        info: &'b Info,
     ) -> Result<Known<'b, 't>, AllocError>
         ensures at { IfOk result (λ k. (a : ℕ) → (known_seen k).at a
-            ≡ named_at (map definition_of definitions.now) a) }
+            ≡ named_at assembly.now.names a) }
         ensures given { IfOk result (λ k. (known_seen k).given ≡ info.now.names) }
         ensures start { IfOk result (λ k. (known_seen k).start ≡ start) }
-        ensures bytes { IfOk result (λ k. (known_seen k).bytes ≡ bytes.now) }
+        ensures bytes { IfOk result (λ k. (known_seen k).bytes ≡ assembly.now.bytes.items) }
     {
         let mut names = ByAddress::none(alloc);
-        take_names(&mut names, definitions)?;
+        take_names(&mut names, assembly.names.definitions())?;
         Ok(Known {
             names,
             info,
             start,
-            bytes,
+            bytes: assembly.bytes.as_slice(),
         })
     }
 

@@ -136,30 +136,33 @@ fn put_settled(out: &mut Vec<u8>, kind: Kind, places: &[u8], line: &[u8]) -> Res
     }
 }
 
+/// The lines of a text as they become, and after these the lines `NAME := * + n` that are held back.
+#[derive(Drop)]
+struct Reordering {
+    lines: Vec<u8>,
+    places: Vec<u8>,
+}
+
 /// Takes one line more. Lines `NAME := * + n` are held back until another line comes: if that has a label, the label
 /// comes first.
 fn take_line(
-    out: &mut Vec<u8>,
-    places: &mut Vec<u8>,
+    out: &mut Reordering,
     alloc: Global,
     language: Language,
     line: &[u8],
 ) -> Result<(), Refusal>
-    ensures { OnOk result (TakesLine language line.now places.old.items out.old.items
-        places.new.items out.new.items) }
+    ensures { OnOk result (TakesLine language line.now out.old out.new) }
 {
     let kind = kind_of(alloc, language, line)?;
     if is_place(kind) {
-        put_kept(places, line)?;
-        return Ok(());
+        return Ok(put_kept(&mut out.places, line)?);
     }
-    let held = places.as_slice();
+    let held = out.places.as_slice();
     if held.is_empty() {
-        put_kept(out, line)?;
-        return Ok(());
+        return Ok(put_kept(&mut out.lines, line)?);
     }
-    put_settled(out, kind, held, line)?;
-    places.clear();
+    put_settled(&mut out.lines, kind, held, line)?;
+    out.places.clear();
     Ok(())
 }
 
@@ -167,15 +170,17 @@ fn take_line(
 fn reordered(alloc: Global, language: Language, text: &[u8]) -> Result<Vec<u8>, Refusal>
     ensures { IfOk result (λ out. AreReordered language (text_lines text.now) out.items) }
 {
-    let mut out = Vec::new(alloc);
-    let mut places = Vec::new(alloc);
+    let mut out = Reordering {
+        lines: Vec::new(alloc),
+        places: Vec::new(alloc),
+    };
     let mut rest = text;
     'lines: while let Some((line, after)) = first_line(rest) {
-        take_line(&mut out, &mut places, alloc, language, line)?;
+        take_line(&mut out, alloc, language, line)?;
         rest = after;
     }
-    out.extend_from_slice(&places)?;
-    Ok(out)
+    out.lines.extend_from_slice(&out.places)?;
+    Ok(out.lines)
 }
 
 /// The text of the listing of this name, each label before the names inside its instruction.

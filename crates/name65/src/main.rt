@@ -25,6 +25,7 @@ mod plan;
 mod reference;
 mod request;
 mod rewriting;
+mod setup;
 mod used_names;
 mod wishes;
 
@@ -36,6 +37,7 @@ use files65::{
 use info65::without_numbers;
 use listing::listing_by_names;
 use request::{Naming, request_of};
+use setup::Setup;
 use std::process::ExitCode;
 
 /// The listing of these files by names. Halves that a NUMBER takes back count for nothing.
@@ -44,7 +46,12 @@ fn named_listing(rt: &HostRuntime, naming: &Naming) -> Result<Vec<u8>, Failure> 
     let info = information_at(rt.alloc(), naming.start, &bytes)?;
     let tags = without_numbers(rt.alloc(), &tags_of(rt.alloc(), &bytes)?)?;
     let text = read_listing(rt, naming.names.listing.as_str())?;
-    listing_by_names(rt.alloc(), naming, &info, &tags, &text)
+    let setup = Setup {
+        naming,
+        info: &info,
+        tags: &tags,
+    };
+    listing_by_names(rt.alloc(), &setup, &text)
 }
 
 /// Reads the listing and the groups, and writes the listing by names. The output is created once that is there.

@@ -1,50 +1,50 @@
 //! The listing by names.
 
 ghost use Rattle.std.specs.Prelude.{◌≡◌, IfErr, IfOk, IsTrue, Ok};
-ghost use Rattle.stmt65.specs.Words.{meaning_in, source_meaning};
+ghost use Rattle.std.specs.String.{string_bytes};
+ghost use Rattle.stmt65.specs.Words.{source_meaning};
 ghost use Rattle.files65.specs.FaultyLine.{MayReport};
 ghost use Rattle.name65.specs.NamedText.{IsNamed, MeansTheSame, listing_of};
 
-use crate::changes::changed_text;
+use crate::changes::{Changed, changed_text};
 use crate::failure::{Failure, Refused};
+use crate::setup::Setup;
 use files65::assembled;
-use info65::{Info, Tag};
 use std::alloc::{AllocError, Global};
-use stmt65::{Source, Symbols, assemble_known};
+use stmt65::{Assembly, Source, assemble_known};
 
-/// Whether a text in the place of that of the source, which defines these names, means these bytes, as that does.
-fn means(
+/// Whether a text in the place of that of the source, which assembles so, means the same bytes.
+fn means_the_same<'t, 'b>(
     alloc: Global,
-    source: &Source<'_, '_, '_>,
-    bytes: &[u8],
-    names: &Symbols<'_, &Global>,
-    text: &[u8],
+    source: &Source<'t, '_, '_>,
+    assembly: &Assembly<'t, 'b, Global>,
+    changed: &Changed<'t, 'b>,
 ) -> Result<bool, AllocError>
-    requires { source_meaning source.now ≡ Ok bytes.now }
-    ensures { IfOk result (λ same. IsTrue same → meaning_in source.now.language source.now.layout.now source.now.start text.now ≡ Ok bytes.now) }
+    requires { source_meaning source.now ≡ Ok assembly.now.bytes.items }
+    ensures { IfOk result
+        (λ same. IsTrue same → MeansTheSame (listing_of source.now) changed.now.text.items) }
 {
+    let text = changed.text.as_slice();
     if text == source.text {
         return Ok(true);
     }
+    let names = changed.names.as_ref().unwrap_or(&assembly.names);
     match assemble_known(&alloc, &Source { text, ..*source }, names)? {
-        Some(found) => Ok(found.as_slice() == bytes),
+        Some(found) => Ok(found.as_slice() == assembly.bytes.as_slice()),
         None => Ok(false),
     }
 }
 
-/// Writes the listing of this name as the groups of the lines `#: ..` ask: halves of addresses, operands and
+/// Writes the listing as the groups of the lines `#: ..` ask: halves of addresses, operands and
 /// differences by names, and names after the image where it ends. The information file says how many addresses a name
-/// covers. With `used` the constant lines of names that no other line uses are left out.
+/// covers. With `--used` the constant lines of names that no other line uses are left out.
 ///
 /// Nothing is trusted for the promise: the text is assembled too, and unless it gives the
 /// bytes of the listing, there is none.
 pub fn named_text(
     alloc: Global,
-    name: &str,
     source: &Source<'_, '_, '_>,
-    info: &Info,
-    tags: &[Tag],
-    used: bool,
+    setup: &Setup<'_>,
 ) -> Result<Vec<u8>, Failure>
     /// The text means exactly the bytes that the listing means, from the same start.
     ensures same { IfOk result (λ text. MeansTheSame (listing_of source.now) text.items) }
@@ -68,16 +68,15 @@ pub fn named_text(
     /// that is not before the end of the text: there a line defines the same name with the same value, `NAME := * +
     /// n`, with the same comment. Nothing else comes after the last line. Each other constant line stays. That no
     /// line uses a name that was left out follows from `same`: a text that uses an undefined name means nothing.
-    ensures rest { IfOk result
-        (λ text. IsNamed (listing_of source.now) info.now tags.now used text.items) }
+    ensures rest { IfOk result (λ text. IsNamed (listing_of source.now) setup.now text.items) }
     /// If a line of the listing is reported, it is the line of the first fault, with the name of the listing, a hint or
     /// none, and the beginning of the line, as as65 reports it.
-    ensures fault { IfErr result (MayReport name.now source.now) }
+    ensures fault { IfErr result
+        (MayReport (string_bytes setup.now.naming.now.names.listing) source.now) }
 {
-    let assembly = assembled(&alloc, name, source)?;
-    let changed = changed_text(&alloc, source, &assembly, info, tags, used)?;
-    let names = changed.names.as_ref().unwrap_or(&assembly.names);
-    if !means(alloc, source, &assembly.bytes, names, &changed.text)? {
+    let assembly = assembled(&alloc, setup.naming.names.listing.as_str(), source)?;
+    let changed = changed_text(&alloc, source, &assembly, setup)?;
+    if !means_the_same(alloc, source, &assembly, &changed)? {
         return Err(Failure::Own(Refused::Changed));
     }
     Ok(changed.text)

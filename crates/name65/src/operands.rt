@@ -112,16 +112,16 @@ fn word_at<'t>(plan: &Plan<'_, 't>, group: usize, at: u64) -> Option<Reference<'
 }
 
 /// The address by its name that stands in the place of an operand of a list, of which a group has this half.
-fn address_at<'t>(
-    plan: &Plan<'_, 't>,
-    style: Style,
-    half: Half,
-    group: usize,
-    at: u64,
-) -> Option<Reference<'t>>
-    ensures { IfSome result (λ r. AreHalves (scope_seen plan.now) style at half
-        (reference_seen r)) }
+fn address_at<'t>(item: &Run<'_, 't>, half: Half, group: usize) -> Option<Reference<'t>>
+    ensures { IfSome result (λ r. AreHalves (scope_seen item.now.plan.now) item.now.style
+        item.now.at half (reference_seen r)) }
 {
+    let Run {
+        plan,
+        style,
+        at,
+        ..
+    } = *item;
     match style {
         Style::Bytes => plan.groups.half_at(group, half, at),
         Style::Halves(half) => plan.groups.half_at(group, half, at),
@@ -267,7 +267,7 @@ fn put_address_at(
     requires { IsNamedNumber item.now }
     ensures { OnOk result (Replaces item.now out.old.items out.new.items) }
 {
-    let Some(reference) = address_at(item.plan, item.style, half, group, item.at) else {
+    let Some(reference) = address_at(item, half, group) else {
         return Err(Refusal::Changed);
     };
     need(has_name_form(reference.name))?;

@@ -16,15 +16,15 @@ returns c =
     let is = c.in_ok-groups.ensures.known in
     let last : c.unwrap_or.result ≡ last_in s.start (source_addresses s) = rw (c.unwrap_or.ensures, c.last.ensures, c.from.ensures, c.requires.ends) refl in
     let at : (a : ℕ) → k.at a ≡ named_at (held_definitions (source_definitions s)) a =
-    λ a. ap (λ (v : Known). (known_seen v).at a) is ∙ (c.in_ok-known.ensures.at a ∙ ap (λ (ds : List Definition). named_at ds a) (c.definitions-definitions.ensures ∙ c.requires.names)) in
-    let given : k.given ≡ c.args.info.now.names = ap (λ (v : Known). (known_seen v).given) is ∙ c.in_ok-known.ensures.given in
+    λ a. ap (λ (v : Known). (known_seen v).at a) is ∙ (c.in_ok-known.ensures.at a ∙ ap (λ (ds : List Definition). named_at ds a) c.requires.names) in
+    let given : k.given ≡ c.args.setup.now.info.now.names = ap (λ (v : Known). (known_seen v).given) is ∙ c.in_ok-known.ensures.given in
     let start : k.start ≡ s.start = ap (λ (v : Known). (known_seen v).start) is ∙ c.in_ok-known.ensures.start in
     let meant : bytes_in (source_meaning s) ≡ c.args.assembly.now.bytes.items = rw c.requires.bytes refl in
-    let bytes : k.bytes ≡ bytes_in (source_meaning s) = ap (λ (v : Known). (known_seen v).bytes) is ∙ (c.in_ok-known.ensures.bytes ∙ (c.deref.ensures.value ∙ sym meant)) in
+    let bytes : k.bytes ≡ bytes_in (source_meaning s) = ap (λ (v : Known). (known_seen v).bytes) is ∙ (c.in_ok-known.ensures.bytes ∙ sym meant) in
     record {
       lines = c.in_ok-new.new.lines.items;
       tail = c.in_ok-new.new.tail.items;
       become = subst (λ (scope : Scope). LinesBecome scope s.start (text_lines s.text.now) (source_addresses s) c.in_ok-new.new.lines.items c.in_ok-new.new.tail.items)
-          (same_scope s.language c.args.used _ _ _ _ _ _ _ _ _ _ _ _ _ _ c.in_ok-marks.ensures last c.in_ok-groups.ensures.tags at given start bytes) (rw (← c.requires.ends) c.in_ok-new.ensures);
-      whole = rw c.deref-2.ensures.value at c.in_ok-extend_from_slice.ensures.items;
+          (same_scope s.language c.args.setup.now.naming.now.used _ _ _ _ _ _ _ _ _ _ _ _ _ _ c.in_ok-marks.ensures last c.in_ok-groups.ensures.tags at given start bytes) (rw (← c.requires.ends) c.in_ok-new.ensures);
+      whole = rw c.deref.ensures.value at c.in_ok-extend_from_slice.ensures.items;
     }
