@@ -34,24 +34,27 @@ fn calls_of(alloc: Global, survey: &Survey<'_, '_>) -> Result<Vec<Call>> {
     Ok(calls)
 }
 
-/// Appends the other ones of the calls of a place, or of those who call it, as links, after a text. Returns whether
-/// there are some.
+/// The calls of a place, or those who call it.
+fn calls_with(calls: &[Call], key: (usize, bool)) -> &[Call] {
+    let from = calls.partition_point(|call| (call.0, call.1) < key);
+    let to = calls.partition_point(|call| (call.0, call.1) <= key);
+    calls.get(from..to).unwrap_or(&[])
+}
+
+/// Appends the other ones of calls as links, after a text, if there are some.
 fn put_others(
     out: &mut Vec<u8>,
     survey: &Survey<'_, '_>,
     calls: &[Call],
-    key: (usize, bool),
     text: &str,
-) -> Result<bool> {
-    let from = calls.partition_point(|call| (call.0, call.1) < key);
-    let to = calls.partition_point(|call| (call.0, call.1) <= key);
-    put!(out; if from < to { text } else { "" });
-    for (_, _, other) in calls.get(from..to).unwrap_or(&[]) {
+) -> Result<()> {
+    put!(out; if calls.is_empty() { "" } else { text });
+    for (_, _, other) in calls {
         if let Some(named) = survey.names.get(*other) {
             put!(out; " ", Link(named.line, named.definition.name));
         }
     }
-    Ok(from < to)
+    Ok(())
 }
 
 /// Where a routine ends: where the next one begins, or its code.
@@ -71,9 +74,14 @@ pub fn put_routines(alloc: Global, out: &mut Vec<u8>, survey: &Survey<'_, '_>) -
         let end = end_of(survey, named, survey.routines.get(place.saturating_add(1)));
         put!(out; ("<tr><td>$", Address(begin as usize)), ("<td>$", Address(end.saturating_sub(1) as usize)));
         put!(out; ("<td>", end.saturating_sub(begin) as usize), "<td>", Link(named.line, named.definition.name));
-        let has_calls = put_others(out, survey, &calls, (named.place, false), CALLS)?;
-        let text = if has_calls { "; called by" } else { CALLED };
-        put_others(out, survey, &calls, (named.place, true), text)?;
+        let own = calls_with(&calls, (named.place, false));
+        put_others(out, survey, own, CALLS)?;
+        let text = if own.is_empty() {
+            CALLED
+        } else {
+            "; called by"
+        };
+        put_others(out, survey, calls_with(&calls, (named.place, true)), text)?;
         put!(out; "\n");
     }
     put!(out; TABLE_END);

@@ -1,7 +1,7 @@
 //! Reads a page back: whether its text is that of the listing, each link within it leads to one element, and each link
 //! of an operand to the line that defines the name there, or to the row of the address.
 
-ghost use Rattle.std.specs.Prelude.{◌≡◌, ◌++◌, ◌∷◌, List, None, IfOk, IfSome, IsTrue, OnOk, codes};
+ghost use Rattle.std.specs.Prelude.{◌≡◌, ◌++◌, ◌∷◌, [], List, None, IfOk, IfSome, IsTrue, OnOk, codes};
 ghost use Rattle.std.specs.Option.{option_copied};
 ghost use Rattle.html65.specs.Links.{Adds, AreLinksWhole, found_in, quoted_after};
 ghost use Rattle.html65.specs.Operands.{AreOperandsLed, is_listing, placed_by, placed_in};
@@ -104,40 +104,55 @@ fn is_listing(place: Region) -> bool
     }
 }
 
-/// Takes down what stands so in a tag, if it has it; in the listing also with the text of the listing from there on.
+/// What the tags of a page have as an attribute, and what those in its listing have, with the text from there on.
+#[derive(Drop)]
+struct Values<'p> {
+    all: Vec<&'p [u8]>,
+    listed: Vec<Placed<'p>>,
+}
+
+impl<'p> Values<'p> {
+    fn none(alloc: Global) -> Values<'p>
+        ensures all { result.all.items ≡ [] }
+        ensures listed { result.listed.items ≡ [] }
+    {
+        Values {
+            all: Vec::new(alloc),
+            listed: Vec::new(alloc),
+        }
+    }
+}
+
+/// Takes down what a tag has, if it has it; in the listing also with the text of the listing from there on.
 #[inline(always)]
 #[tactic(auto)]
 fn take<'p>(
-    all: &mut Vec<&'p [u8]>,
-    placed: &mut Vec<Placed<'p>>,
-    more: &[u8],
-    tag: &'p [u8],
+    values: &mut Values<'p>,
+    value: Option<&'p [u8]>,
     is_in: bool,
     text: &'p [u8],
 ) -> Result<(), AllocError>
-    ensures all { OnOk result (Adds all.old.items all.new.items
-        (quoted_after (32 ∷ more.now) tag.now)) }
-    ensures placed { OnOk result (AddsPlaced placed.old.items placed.new.items
-        (placed_in is_in text.now (quoted_after (32 ∷ more.now) tag.now))) }
+    ensures all { OnOk result (Adds values.old.all.items values.new.all.items
+        (option_copied value.entry)) }
+    ensures listed { OnOk result (AddsPlaced values.old.listed.items values.new.listed.items
+        (placed_in is_in text.now (option_copied value.entry))) }
 {
-    let Some(name) = quoted_after(more, tag) else {
+    let Some(name) = value else {
         return Ok(());
     };
-    all.push(name)?;
+    values.all.push(name)?;
     if !is_in {
         return Ok(());
     }
-    placed.push(Placed { name, text })?;
+    values.listed.push(Placed { name, text })?;
     Ok(())
 }
 
-/// The ids and the targets of a page, and those in its listing with the text from there on.
+/// The ids and the targets of a page.
 #[derive(Drop)]
 struct Found<'p> {
-    ids: Vec<&'p [u8]>,
-    targets: Vec<&'p [u8]>,
-    lines: Vec<Placed<'p>>,
-    links: Vec<Placed<'p>>,
+    ids: Values<'p>,
+    targets: Values<'p>,
 }
 
 /// Takes down the id and the target of a piece, if it is a tag that has them. Neither stands before its first blank,
@@ -149,13 +164,14 @@ fn take_both<'p>(
     place: Region,
     left: &'p [u8],
 ) -> Result<(), AllocError>
-    ensures ids { OnOk result (Adds found.old.ids.items found.new.ids.items
+    ensures ids { OnOk result (Adds found.old.ids.all.items found.new.ids.all.items
         (found_in (codes " id=\"") (piece_of piece.entry))) }
-    ensures targets { OnOk result (Adds found.old.targets.items found.new.targets.items
+    ensures targets { OnOk result (Adds found.old.targets.all.items found.new.targets.all.items
         (found_in (codes " href=\"#") (piece_of piece.entry))) }
-    ensures lines { OnOk result (AddsPlaced found.old.lines.items found.new.lines.items
+    ensures lines { OnOk result (AddsPlaced found.old.ids.listed.items found.new.ids.listed.items
         (placed_by (codes " id=\"") place left.now (piece_of piece.entry))) }
-    ensures links { OnOk result (AddsPlaced found.old.links.items found.new.links.items
+    ensures links { OnOk result (AddsPlaced found.old.targets.listed.items
+        found.new.targets.listed.items
         (placed_by (codes " href=\"#") place left.now (piece_of piece.entry))) }
 {
     if let Piece::Tag(tag) = piece {
@@ -164,12 +180,10 @@ fn take_both<'p>(
         }
         let tag = &tag[len_before(b' ', tag)..];
         let is_in = is_listing(place);
-        take(&mut found.ids, &mut found.lines, b"id=\"", tag, is_in, left)?;
+        take(&mut found.ids, quoted_after(b"id=\"", tag), is_in, left)?;
         take(
             &mut found.targets,
-            &mut found.links,
-            b"href=\"#",
-            tag,
+            quoted_after(b"href=\"#", tag),
             is_in,
             left,
         )?;
@@ -180,15 +194,16 @@ fn take_both<'p>(
 /// Whether the ids of each kind are in order, and the links of a page of which these are all lead where they should.
 fn are_whole(alloc: Global, found: &Found<'_>) -> Result<bool, AllocError>
     ensures links { IfOk result (λ whole. IsTrue whole
-        → AreAllFound found.now.ids.items found.now.targets.items) }
+        → AreAllFound found.now.ids.all.items found.now.targets.all.items) }
     ensures operands { IfOk result (λ whole. IsTrue whole
-        → AreAllLed found.now.lines.items found.now.links.items) }
+        → AreAllLed found.now.ids.listed.items found.now.targets.listed.items) }
 {
-    let Some(index) = index_of(alloc, &found.ids)? else {
+    let Found { ids, targets } = found;
+    let Some(index) = index_of(alloc, &ids.all)? else {
         return Ok(false);
     };
-    if are_found(&found.ids, &index, &found.targets) {
-        return Ok(are_led(&found.lines, &index, &found.links));
+    if are_found(&ids.all, &index, &targets.all) {
+        return Ok(are_led(&ids.listed, &index, &targets.listed));
     }
     Ok(false)
 }
@@ -205,10 +220,8 @@ pub fn fault_in(alloc: Global, page: &[u8], listing: &[u8]) -> Result<Option<Fau
     ensures operands { IfOk result (λ fault. fault ≡ None → AreOperandsLed page.now) }
 {
     let mut found = Found {
-        ids: Vec::new(alloc),
-        targets: Vec::new(alloc),
-        lines: Vec::new(alloc),
-        links: Vec::new(alloc),
+        ids: Values::none(alloc),
+        targets: Values::none(alloc),
     };
     let mut place = Region::Before;
     let mut left = listing;

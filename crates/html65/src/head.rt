@@ -2,6 +2,7 @@
 
 use crate::kind::KINDS;
 use crate::markup::{Address, Put, Result, put};
+use crate::request::Showing;
 use crate::survey::Survey;
 
 /// What stands before the title. The page may load nothing, and no script runs in it.
@@ -47,9 +48,10 @@ const STYLES: &str = "</title>\n<style>\n\
     .u{display:table-row}.k{max-width:none;white-space:normal}.u code{display:none}.f{display:inline}.r{break-after:avoid}label b{display:block}label input{display:none}}\n\
     </style>\n</head>\n<body>\n<header><h1>";
 
-/// Appends what stands before the map, for a listing of this name: its addresses, and
-/// how many bytes of each kind there are.
-pub fn put_head(out: &mut Vec<u8>, name: &[u8], survey: &Survey<'_, '_>) -> Result<()> {
+/// Appends what stands before the map: the name of the listing, its addresses, and how many bytes of each kind there
+/// are.
+pub fn put_head(out: &mut Vec<u8>, showing: &Showing, survey: &Survey<'_, '_>) -> Result<()> {
+    let name = showing.names.listing.as_bytes();
     let start = usize::from(survey.start);
     let count = survey.bytes.len();
     let last = start.saturating_add(count).saturating_sub(1);

@@ -56,12 +56,11 @@ fn put_left(out: &mut Vec<u8>, at: usize, bytes: &[u8]) -> Result<()> {
 fn put_mark(
     out: &mut Vec<u8>,
     survey: &Survey<'_, '_>,
-    line: usize,
-    shown: Shown,
+    mark: &Mark,
     text: Piece<'_>,
 ) -> Result<()> {
-    match shown {
-        Shown::Definition => put!(out; ("<b id=\"l", line), "\">", text, "</b>"),
+    match mark.1 {
+        Shown::Definition => put!(out; ("<b id=\"l", mark.0), "\">", text, "</b>"),
         Shown::Text => put!(out; "<span class=\"t\">", text, "</span>"),
         Shown::Remark => put!(out; "<span class=\"c\">", text, "</span>"),
         Shown::Name(place) => {
@@ -90,15 +89,11 @@ fn put_line<'m>(
     let own = marks.get(..count).unwrap_or(&[]);
     put_left(out, line.at, survey.between(line.at, line.end))?;
     let mut from = 0;
-    for Mark(number, shown, span) in own {
+    for mark in own {
+        let span = mark.2;
         put!(out; Piece(part_of(line.text, from, span.from), is_plain));
-        put_mark(
-            out,
-            survey,
-            *number,
-            *shown,
-            Piece(part_of(line.text, span.from, span.to), is_plain),
-        )?;
+        let text = Piece(part_of(line.text, span.from, span.to), is_plain);
+        put_mark(out, survey, mark, text)?;
         from = span.to;
     }
     put!(out; Piece(part_of(line.whole, from, end), is_plain));

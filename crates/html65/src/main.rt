@@ -69,11 +69,7 @@ fn page_under(rt: &HostRuntime, showing: &Showing, info: &Info) -> Result<Vec<u8
     let text = listing_in(rt, names.listing.as_str())?;
     let layout = layout_of(rt.alloc(), info.segments(), showing.fill)?;
     let start = start_or_end(rt.alloc(), info.settings().start, &layout, &text)?;
-    page_of(
-        rt.alloc(),
-        names.listing.as_str(),
-        &repair(&layout, start, &text),
-    )
+    page_of(rt.alloc(), showing, &repair(&layout, start, &text))
 }
 
 /// The page of these files.

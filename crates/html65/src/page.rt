@@ -1,6 +1,7 @@
 //! The page of a listing.
 
 ghost use Rattle.std.specs.Prelude.{◌≡◌, IfErr, IfOk};
+ghost use Rattle.std.specs.String.{string_bytes};
 ghost use Rattle.files65.specs.FaultyLine.{MayReport};
 ghost use Rattle.html65.specs.Links.{AreLinksWhole};
 ghost use Rattle.html65.specs.Operands.{AreOperandsLed};
@@ -12,6 +13,7 @@ use crate::faults::{Fault, fault_in};
 use crate::head::put_head;
 use crate::listing::put_listing;
 use crate::map::{put_map, put_pages};
+use crate::request::Showing;
 use crate::survey::Survey;
 use crate::tables::{LINKS, put_groups, put_lists};
 use files65::{FileFault, assembled};
@@ -19,10 +21,14 @@ use std::alloc::{AllocError, Global};
 use stmt65::{Assembly, Source};
 
 /// A page with this survey. Few have more than a hundred bytes for each byte of the image.
-fn page_with(alloc: Global, name: &str, survey: &Survey<'_, '_>) -> Result<Vec<u8>, AllocError> {
+fn page_with(
+    alloc: Global,
+    showing: &Showing,
+    survey: &Survey<'_, '_>,
+) -> Result<Vec<u8>, AllocError> {
     let room = survey.bytes.len().saturating_mul(100);
     let mut out = Vec::with_capacity(alloc, room.saturating_add(survey.text.len()))?;
-    put_head(&mut out, name.as_bytes(), survey)?;
+    put_head(&mut out, showing, survey)?;
     put_pages(&mut out, survey)?;
     out.extend_from_slice(LINKS.as_bytes())?;
     put_map(alloc, &mut out, survey)?;
@@ -35,37 +41,42 @@ fn page_with(alloc: Global, name: &str, survey: &Survey<'_, '_>) -> Result<Vec<u
     Ok(out)
 }
 
-/// A page of the listing of this name, which means these bytes. What it was made of is not kept.
+/// A page of a listing that assembles so. What it was made of is not kept.
 fn page_from<'t>(
     alloc: Global,
-    name: &str,
+    showing: &Showing,
     source: &Source<'t, '_, '_>,
     assembly: &Assembly<'t, '_, Global>,
 ) -> Result<Vec<u8>, AllocError> {
     let survey = Survey::of(alloc, source, assembly)?;
-    page_with(alloc, name, &survey)
+    page_with(alloc, showing, &survey)
 }
 
-/// A page of the listing of this name, of which nothing is checked yet.
+/// A page of which nothing is checked yet.
 fn unchecked_page(
     alloc: Global,
-    name: &str,
+    showing: &Showing,
     source: &Source<'_, '_, '_>,
 ) -> Result<Vec<u8>, Failure>
-    ensures { IfErr result (MayReport name.now source.now) }
+    ensures { IfErr result (MayReport (string_bytes showing.now.names.listing) source.now) }
 {
+    let name = showing.names.listing.as_str();
     let assembly = assembled(&alloc, name, source)?;
     if assembly.bytes.is_empty() {
         return Err(Failure::File(FileFault::Empty(String::from_str(alloc, name)?)));
     }
-    Ok(page_from(alloc, name, source, &assembly)?)
+    Ok(page_from(alloc, showing, source, &assembly)?)
 }
 
-/// Returns the page of the listing of this name. Fails with the first fault of the listing, and if it has no byte.
+/// Returns the page of the listing. Fails with the first fault of the listing, and if it has no byte.
 ///
 /// Nothing is trusted for what the page promises: it is read back, and unless its text is the listing and each of its
 /// links leads where it should, there is none.
-pub fn page_of(alloc: Global, name: &str, source: &Source<'_, '_, '_>) -> Result<Vec<u8>, Failure>
+pub fn page_of(
+    alloc: Global,
+    showing: &Showing,
+    source: &Source<'_, '_, '_>,
+) -> Result<Vec<u8>, Failure>
     /// If there is a page, its text is exactly the listing: the text in `<pre id="listing">` without tags and
     /// without the elements `<i>`, with `&amp;`, `&lt;`, `&gt;`, `&#13;` and `&#0;` resolved.
     ensures text { IfOk result (λ page. text_of page.items ≡ source.now.text.now) }
@@ -76,9 +87,10 @@ pub fn page_of(alloc: Global, name: &str, source: &Source<'_, '_, '_>) -> Result
     ensures operands { IfOk result (λ page. AreOperandsLed page.items) }
     /// If a line of the listing is reported, it is the line of the first fault, with the name of the listing, a hint or
     /// none, and the beginning of the line, as as65 reports it.
-    ensures fault { IfErr result (MayReport name.now source.now) }
+    ensures fault { IfErr result (MayReport (string_bytes showing.now.names.listing) source.now) }
 {
-    let page = unchecked_page(alloc, name, source)?;
+    let name = showing.names.listing.as_str();
+    let page = unchecked_page(alloc, showing, source)?;
     match fault_in(alloc, &page, source.text)? {
         None => Ok(page),
         Some(Fault::Text) => Err(Failure::Own(Refused::Text(String::from_str(alloc, name)?))),
