@@ -35,15 +35,8 @@ pub struct Lines {
 }
 
 impl Lines {
-    /// The lines of a text with what they mean; the information file has further names.
-    /// Fails only if an allocation failed.
-    pub fn of(
-        alloc: Global,
-        scene: &Scene,
-        text: &[u8],
-        assembly: &Assembly<'_, '_, Global>,
-        info: &Info,
-    ) -> Result<Lines, AllocError> {
+    /// No lines yet. The information file says which CPU runs, and has names.
+    fn none(alloc: Global, info: &Info) -> Result<Lines, AllocError> {
         let mut lines = Lines {
             numbers: Marks::none(alloc)?,
             texts: Marks::none(alloc)?,
@@ -58,31 +51,7 @@ impl Lines {
         for index in 0..info.given_count() {
             lines.named.set(info.given(index).address);
         }
-        for definition in assembly.names.definitions() {
-            if let Some(address) = definition.address() {
-                lines.named.set(address);
-            }
-        }
-        let mut reader = LineReader {
-            scene,
-            lines,
-            goes_on: false,
-        };
-        let mut rest = text;
-        let mut at = u64::from(scene.start);
-        for end in assembly.ends.iter() {
-            let Some((line, after)) = first_line(rest) else {
-                break;
-            };
-            if at < end
-                && let Ok(address) = u16::try_from(at)
-            {
-                reader.take_line(alloc, (address, end.saturating_sub(at)), line)?;
-            }
-            at = end;
-            rest = after;
-        }
-        Ok(reader.lines)
+        Ok(lines)
     }
 
     /// The instruction with this opcode, if one may begin in the data at an address. `brk` is none.
@@ -118,23 +87,57 @@ impl Lines {
 
 /// Takes the lines of a listing, one after the other.
 #[derive(Drop)]
-struct LineReader<'s> {
+pub struct LineReader<'s> {
+    alloc: Global,
     scene: &'s Scene,
     lines: Lines,
     /// Whether the line before is code that goes on with the next line.
     goes_on: bool,
 }
 
-impl LineReader<'_> {
-    /// Takes a line that has this many bytes at an address.
-    fn take_line(
-        &mut self,
-        alloc: Global,
-        (at, len): (u16, u64),
-        line: &[u8],
-    ) -> Result<(), AllocError> {
-        let Some(SourceLine::Statement { label, operation }) = read_line(
+impl<'s> LineReader<'s> {
+    /// Has taken no lines. The information file says which CPU runs, and has further names.
+    pub fn new(alloc: Global, scene: &'s Scene, info: &Info) -> Result<LineReader<'s>, AllocError> {
+        Ok(LineReader {
             alloc,
+            scene,
+            lines: Lines::none(alloc, info)?,
+            goes_on: false,
+        })
+    }
+
+    /// The lines of a text that assembles so. Fails only if an allocation failed.
+    pub fn read(
+        mut self,
+        text: &[u8],
+        assembly: &Assembly<'_, '_, Global>,
+    ) -> Result<Lines, AllocError> {
+        for definition in assembly.names.definitions() {
+            if let Some(address) = definition.address() {
+                self.lines.named.set(address);
+            }
+        }
+        let mut rest = text;
+        let mut at = u64::from(self.scene.start);
+        for end in assembly.ends.iter() {
+            let Some((line, after)) = first_line(rest) else {
+                break;
+            };
+            if at < end
+                && let Ok(address) = u16::try_from(at)
+            {
+                self.take_line((address, end.saturating_sub(at)), line)?;
+            }
+            at = end;
+            rest = after;
+        }
+        Ok(self.lines)
+    }
+
+    /// Takes a line that has this many bytes at an address.
+    fn take_line(&mut self, (at, len): (u16, u64), line: &[u8]) -> Result<(), AllocError> {
+        let Some(SourceLine::Statement { label, operation }) = read_line(
+            self.alloc,
             Language::Repair,
             line,
         )?

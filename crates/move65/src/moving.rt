@@ -6,12 +6,12 @@ ghost use Rattle.move65.specs.Accepted.{IsAccepted};
 
 use crate::failure::{Failure, Refused};
 use crate::judge::Findings;
-use crate::lines::Lines;
+use crate::lines::{LineReader, Lines};
 use crate::progress::Progress;
 use crate::reading_back::read_back;
 use crate::report::Moved;
 use crate::request::Moving;
-use crate::runs::{Both, run_all};
+use crate::runs::{Both, Runs, run_all};
 use crate::scene::Scene;
 use crate::variables::{limit_of, move_found, move_variables, take_defined};
 use crate::world::World;
@@ -31,13 +31,6 @@ struct Setup<'a> {
     moving: &'a Moving,
     info: &'a Info,
     tags: &'a [Tag],
-}
-
-/// Where runs begin, and how many instructions each has, at most.
-#[derive(Clone, Copy)]
-struct Runs<'a> {
-    entries: &'a [u16],
-    steps: u32,
 }
 
 /// How much later the second image lies: `by`, or that much earlier if it would end after $FFFF.
@@ -148,13 +141,12 @@ fn run_rounds(
     rt: &HostRuntime,
     machine: &mut Both,
     found: &mut Findings<'_>,
-    lines: &Lines,
     runs: &Runs<'_>,
 ) -> Result<(), AllocError> {
     let mut shown = Progress::new(rt);
     for _ in 0..ROUNDS {
-        run_all(machine, lines, runs.entries, runs.steps, &mut shown);
-        if !has_found(machine, found, lines)? {
+        run_all(machine, runs, &mut shown);
+        if !has_found(machine, found, runs.lines)? {
             break;
         }
     }
@@ -173,10 +165,11 @@ fn report_of_runs(
     let mut machine = Machine::new(setup.info.settings().cpu, Registers::at(0), world);
     let mut found = Findings::new(rt.alloc(), setup.tags)?;
     let runs = Runs {
+        lines,
         entries: &entries,
-        steps: setup.moving.steps,
+        most: setup.moving.steps,
     };
-    run_rounds(rt, &mut machine, &mut found, lines, &runs)?;
+    run_rounds(rt, &mut machine, &mut found, &runs)?;
     found.sort()?;
     found.text(rt.alloc(), &machine.bus, lines)
 }
@@ -192,7 +185,8 @@ fn report_of_source(
     let mut scene = scene_of(alloc, setup, source, &assembly.bytes)?;
     take_defined(&mut scene, assembly.names.definitions());
     scene.limit = limit_of(&scene, assembly.names.definitions(), setup.info);
-    let lines = Lines::of(alloc, &scene, source.text, &assembly, setup.info)?;
+    let reader = LineReader::new(alloc, &scene, setup.info)?;
+    let lines = reader.read(source.text, &assembly)?;
     Ok(report_of_runs(rt, setup, &lines, scene)?)
 }
 

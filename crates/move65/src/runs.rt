@@ -25,6 +25,14 @@ const OUTSIDE: u32 = 2;
 
 pub type Both = Machine<Pair, World>;
 
+/// What runs: the lines of a listing, from which entries, and how many instructions each run has, at most.
+#[derive(Clone, Copy)]
+pub struct Runs<'a> {
+    pub lines: &'a Lines,
+    pub entries: &'a [u16],
+    pub most: u32,
+}
+
 /// Instructions that several runs share.
 #[derive(Drop)]
 struct Shared {
@@ -117,65 +125,53 @@ fn run_from(machine: &mut Both, lines: &Lines, from: u16, steps: u32) -> u32 {
 }
 
 /// Runs from all entries that no run with the same unknown bytes has come to.
-fn run_entries(
-    machine: &mut Both,
-    lines: &Lines,
-    entries: &[u16],
-    most: u32,
-    shown: &mut Progress<'_>,
-) {
-    let runs = u32::try_from(entries.len()).unwrap_or(u32::MAX);
-    let mut shared = Shared::among(runs.saturating_mul(ENTRY_SEEDS), LONG.min(most));
+fn run_entries(machine: &mut Both, runs: &Runs<'_>, shown: &mut Progress<'_>) {
+    let count = u32::try_from(runs.entries.len()).unwrap_or(u32::MAX);
+    let mut shared = Shared::among(count.saturating_mul(ENTRY_SEEDS), LONG.min(runs.most));
     for seed in 0..ENTRY_SEEDS {
         machine.bus.reset(seed);
-        for &entry in entries {
+        for &entry in runs.entries {
             if machine.bus.ran_now.get(entry) {
                 continue;
             }
             shown.say(entry);
             let steps = shared.next();
-            shared.take(run_from(machine, lines, entry, steps));
+            shared.take(run_from(machine, runs.lines, entry, steps));
         }
     }
 }
 
 /// Runs from each routine, with memory of which only the image is known.
-fn run_routines(machine: &mut Both, lines: &Lines, most: u32, shown: &mut Progress<'_>) {
-    let mut runs = 0u32;
+fn run_routines(machine: &mut Both, runs: &Runs<'_>, shown: &mut Progress<'_>) {
+    let routines = &runs.lines.routines;
+    let mut count = 0u32;
     for routine in 0..=u16::MAX {
-        if lines.routines.get(routine) {
-            runs = runs.saturating_add(ROUTINE_SEEDS);
+        if routines.get(routine) {
+            count = count.saturating_add(ROUTINE_SEEDS);
         }
     }
-    let mut shared = Shared::among(runs, SHORT.min(most));
+    let mut shared = Shared::among(count, SHORT.min(runs.most));
     machine.bus.reset(0);
     for routine in 0..=u16::MAX {
-        if !lines.routines.get(routine) {
+        if !routines.get(routine) {
             continue;
         }
         shown.say(routine);
         for seed in 0..ROUTINE_SEEDS {
             let steps = shared.next();
             machine.bus.begin_trial(seed.saturating_add(10));
-            shared.take(run_from(machine, lines, routine, steps));
+            shared.take(run_from(machine, runs.lines, routine, steps));
             machine.bus.end_trial();
         }
     }
 }
 
-/// Forgets what was seen, and runs from all entries and then from each routine, no run for more than so many
-/// instructions.
-pub fn run_all(
-    machine: &mut Both,
-    lines: &Lines,
-    entries: &[u16],
-    most: u32,
-    shown: &mut Progress<'_>,
-) {
+/// Forgets what was seen, and runs from all entries and then from each routine.
+pub fn run_all(machine: &mut Both, runs: &Runs<'_>, shown: &mut Progress<'_>) {
     for seen in machine.bus.seen.iter_mut() {
         seen.clear();
     }
-    run_entries(machine, lines, entries, most, shown);
-    run_routines(machine, lines, most, shown);
+    run_entries(machine, runs, shown);
+    run_routines(machine, runs, shown);
     shown.end();
 }

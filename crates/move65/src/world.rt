@@ -280,7 +280,7 @@ impl World {
     }
 
     /// The word of two bytes, if both are known to come from the image, and it lies there and later in the other run.
-    fn pointer(&self, low: Pair, high: Pair) -> Option<u16> {
+    fn pointer(&self, Word { low, high }: Word<Pair>) -> Option<u16> {
         let here = u16::from_le_bytes([low.here, high.here]);
         let later = u16::from_le_bytes([low.later, high.later]);
         let are_known = low.is_known && high.is_known && !low.is_mixed && !high.is_mixed;
@@ -290,8 +290,8 @@ impl World {
 
     /// Looks at the block of a pointer that is handed over to code outside of the image: if its first word is the
     /// address of other data of the image, that must move.
-    fn hand_over(&mut self, lines: &Lines, low: Pair, high: Pair) {
-        let Some(block) = self.pointer(low, high) else {
+    fn hand_over(&mut self, lines: &Lines, pointer: Word<Pair>) {
+        let Some(block) = self.pointer(pointer) else {
             return;
         };
         let next = block.wrapping_add(1);
@@ -307,7 +307,7 @@ impl World {
                 && !is_string
                 && moved != [low.later, high.later]
             {
-                self.see(Kind::Hands, address, low, high);
+                self.see(Kind::Hands, address, Word { low, high });
             }
         }
     }
@@ -319,11 +319,11 @@ impl World {
         }
         self.handed = self.handed.saturating_add(1);
         for (low, high) in [(x, y), (y, x), (a, x), (a, y), (x, a), (y, a)] {
-            self.hand_over(lines, low, high);
+            self.hand_over(lines, Word { low, high });
         }
         for at in 0..0xFFu16 {
             if let (Some(low), Some(high)) = (self.cell(at), self.cell(at.wrapping_add(1))) {
-                self.hand_over(lines, low, high);
+                self.hand_over(lines, Word { low, high });
             }
         }
     }
@@ -341,7 +341,8 @@ impl World {
         low.here == 0 && index.here != 0 && self.is_plain(index) && !self.is_plain(high)
     }
 
-    fn see(&mut self, kind: Kind, here: u16, low: Pair, high: Pair) {
+    /// Takes down that both runs part where an address is used, and what comes into it.
+    fn see(&mut self, kind: Kind, here: u16, Word { low, high }: Word<Pair>) {
         let sighting = Sighting {
             kind,
             at: self.at,
@@ -385,13 +386,14 @@ impl Bus<Pair> for World {
             if later != moved {
                 let is_index = self.is_low_half(index, low, high);
                 let (address, low) = if is_index { (here, index) } else { (base, low) };
-                self.see(Kind::Stays(purpose), address, low, high);
+                self.see(Kind::Stays(purpose), address, Word { low, high });
             } else if let ([low], [high]) = (low.places.as_slice(), high.places.as_slice()) {
                 self.used.set(*low);
                 self.used.set(*high);
             }
         } else if later != here && !(self.scene.is_behind(here) && later == moved) {
-            self.see(Kind::Moves(purpose), here, low.with_origin(index), high);
+            let low = low.with_origin(index);
+            self.see(Kind::Moves(purpose), here, Word { low, high });
         }
         Some(here)
     }
@@ -443,7 +445,11 @@ impl Bus<Pair> for World {
 
     fn takes(&mut self, flag: Pair, wanted: bool) -> bool {
         if flag.here != flag.later {
-            self.see(Kind::Branch, self.at, flag, flag);
+            let word = Word {
+                low: flag,
+                high: flag,
+            };
+            self.see(Kind::Branch, self.at, word);
         }
         (flag.here != 0) == wanted
     }
