@@ -4,8 +4,9 @@ ghost use Rattle.std.specs.Prelude.{◌≡◌, ◌++◌, IfOk, OnOk, flat_map};
 ghost use Rattle.as65.specs.Words.{AreDifferences, IsDifferences, change_text, compared, lengths_line, origin_text, shown_bytes, spaced};
 
 use crate::assembled::Assembled;
-use crate::moves::{labels_in, moves_in, put_moves};
+use crate::moves::{moves_in, put_moves};
 use crate::origins::Reached;
+use crate::scene::Scene;
 use crate::shown::changes;
 use crate::stretches::{Stretch, next_stretch};
 use files65::{at_most, put_dots, put_shown};
@@ -76,25 +77,18 @@ pub(crate) fn put_lengths(out: &mut Vec<u8>, had: usize, has: usize) -> Result<(
     out.extend_from_slice(b"\n")
 }
 
-/// A line for each stretch of bytes that differ, and one for lengths that differ, by the address after each line of the
-/// listing.
+/// A line for each stretch of bytes that differ, and one for lengths that differ.
 #[tactic(auto, using(crate::proofs::PassingLemmas::passing))]
-fn byte_differences(
-    alloc: Global,
-    image: &Image,
-    assembled: &Assembled<'_, '_, '_, '_>,
-    ends: &[u64],
-) -> Result<Vec<u8>, AllocError>
-    requires { ends.now ≡ assembled.now.ends }
-    ensures { IfOk result (λ text. AreDifferences (compared image.now assembled.now) text.items) }
+fn byte_differences(scene: &Scene<'_, '_, '_, '_>) -> Result<Vec<u8>, AllocError>
+    ensures { IfOk result (λ text. AreDifferences scene.now text.items) }
 {
-    let (old, new) = (image.bytes(), assembled.bytes());
-    let mut out = Vec::new(alloc);
-    let mut reached = Reached::first(assembled.source().text);
+    let (old, new) = (scene.image(), scene.bytes());
+    let mut out = Vec::new(scene.alloc());
+    let mut reached = Reached::first(scene.text());
     let mut from = 0;
     'stretches: while let Some(Stretch { at, end }) = next_stretch(old, new, from) {
-        let address = usize::from(image.start()) + at;
-        reached = reached.of_byte(ends, address as u64);
+        let address = usize::from(scene.start()) + at;
+        reached = reached.of_byte(scene.ends(), address as u64);
         put_change(&mut out, address, &old[at..end], &new[at..end])?;
         put_origin(&mut out, reached.above + 1, reached.line)?;
         from = end;
@@ -133,15 +127,14 @@ pub fn differences(
     ensures { IfOk result (λ text.
         IsDifferences assembled.now.moves (compared image.now assembled.now) text.items) }
 {
-    let ends = assembled.ends(alloc)?;
-    let labels = labels_in(alloc, assembled.source(), false, &ends)?;
-    let moves = moves_in(alloc, &labels)?;
+    let scene = Scene::new(alloc, image, assembled)?;
+    let moves = moves_in(alloc, scene.labels())?;
     if moves.is_empty() {
-        return byte_differences(alloc, image, assembled, &ends);
+        return byte_differences(&scene);
     }
     let mut out = Vec::new(alloc);
     put_moves(&mut out, &moves)?;
-    let changes = changes(alloc, image, assembled, &ends, &labels)?;
+    let changes = changes(&scene)?;
     out.extend_from_slice(&changes)?;
     Ok(out)
 }

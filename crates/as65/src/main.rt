@@ -41,10 +41,11 @@ use map65::Image;
 use message::{say, say_starts};
 use moves::need_in_place;
 use named_start::named_start;
-use request::{Comparing, Placement, Work, Writing, is_compared_by, is_comparing, request_of};
+use request::{Comparing, Work, Writing, is_compared_by, is_comparing, request_of};
 use segments::need_segments;
 use sizes::need_size;
 use status::{Ended, status_of};
+use std::alloc::Global;
 use std::process::ExitCode;
 use stmt65::Source;
 use usage65::{FileNames, Request, RequestFault, words_of};
@@ -83,22 +84,16 @@ fn len_in(rt: &HostRuntime, listing: &str, info: &Info) -> Result<Option<usize>,
     }
 }
 
-/// The listing of this name with its bytes, if its segments have a place, its labels are where they have to be, and its
-/// bytes are as many as the information file says.
+/// The listing of this name with its bytes, if it has some and its segments have a place.
 fn assembled_in<'s, 't, 'l, 'n>(
-    rt: &HostRuntime,
-    name: &str,
-    place: Placement,
-    info: &Info,
+    alloc: &'s Global,
     source: &'s Source<'t, 'l, 'n>,
+    name: &str,
+    info: &Info,
 ) -> Result<Assembled<'s, 't, 'l, 'n>, Failure> {
-    let assembled = Assembled::new(rt.alloc(), source, name)?;
-    need_bytes(rt.alloc(), &assembled, name)?;
-    need_segments(rt.alloc(), source, name, info.segments())?;
-    if place.in_place {
-        need_in_place(rt.alloc(), &assembled, name)?;
-        need_size(rt.alloc(), &assembled, name, len_in(rt, name, info)?)?;
-    }
+    let assembled = Assembled::new(alloc, source, name)?;
+    need_bytes(*alloc, &assembled, name)?;
+    need_segments(*alloc, source, name, info.segments())?;
     Ok(assembled)
 }
 
@@ -118,7 +113,12 @@ fn write_listing(rt: &HostRuntime, writing: &mut Writing, info: &Info) -> Result
         need_segments(rt.alloc(), &source, name, info.segments())?;
         write_text(&mut Output::create(rt, names.output.take())?, &text)?;
     } else {
-        let assembled = assembled_in(rt, name, writing.place, info, &source)?;
+        let alloc = rt.alloc();
+        let assembled = assembled_in(&alloc, &source, name, info)?;
+        if writing.place.in_place {
+            need_in_place(alloc, &assembled, name)?;
+            need_size(alloc, &assembled, name, len_in(rt, name, info)?)?;
+        }
         assembled.write(&mut Output::create(rt, names.output.take())?)?;
     }
     Ok(Ended::Done)
@@ -142,12 +142,13 @@ fn compare_under(rt: &HostRuntime, comparing: &Comparing, info: &Info) -> Result
     let name = comparing.names.listing.as_str();
     let text = read_listing(rt, name)?;
     let source = repair(&layout, image.start(), &text);
-    let assembled = assembled_in(rt, name, comparing.place, info, &source)?;
+    let alloc = rt.alloc();
+    let assembled = assembled_in(&alloc, &source, name, info)?;
     if info.settings().start.is_none() && image.bytes() != assembled.bytes() {
-        let named = named_start(rt.alloc(), &image, &assembled)?;
+        let named = named_start(alloc, &image, &assembled)?;
         say_starts(rt, comparing.image.as_str(), image.start(), named)?;
     }
-    compare(rt.alloc(), &image, &assembled, &mut Output::standard(rt))
+    compare(alloc, &image, &assembled, &mut Output::standard(rt))
 }
 
 /// Reads what says where the image is, and compares. The output is standard output.

@@ -12,14 +12,13 @@ ghost use Rattle.as65.specs.Moves.{in_place};
 ghost use Rattle.as65.specs.Words.{AreMoved, AreSources, GaveBefore, GaveBy, HadValue, HasMoved, IsBefore, IsBeside, IsBy, IsEarlierBy, IsPlaced, IsValueBefore, SetsNames, compared, label_before, line_begin};
 
 use crate::assembled::Assembled;
-use crate::moves::{IN_PLACE, Label, address_in_name, is_alike};
+use crate::moves::{IN_PLACE, Label, address_in_name, is_alike, labels_in};
 use files65::repair;
 use map65::{Image, Marks};
 use std::alloc::{AllocError, Global};
 use std::marker::Model;
 use stmt65::{
-    AsmFaultKind, Assembly, Definition, Source, SourceLine, Symbols, assemble_lines,
-    assemble_source, names_in, read_line,
+    AsmFaultKind, Definition, Source, SourceLine, Symbols, assemble_source, names_in, read_line,
 };
 use text65::{first_line, put_decimal};
 
@@ -52,18 +51,18 @@ pub struct Moved {
 
 /// What is compared.
 #[derive(Drop)]
-pub struct Scene<'s, 'a, 't, 'l, 'n> {
+pub struct Scene<'s, 't, 'l, 'n> {
     alloc: Global,
     start: u16,
     image: &'s [u8],
     bytes: &'s [u8],
     source: &'s Source<'t, 'l, 'n>,
-    ends: &'s [u64],
-    labels: &'s [Label],
-    names: Symbols<'t, &'a Global>,
+    ends: Vec<u64>,
+    labels: Vec<Label>,
+    names: &'s Symbols<'t, &'s Global>,
 }
 
-impl<'s, 'a, 't, 'l, 'n> Model for Scene<'s, 'a, 't, 'l, 'n> {
+impl<'s, 't, 'l, 'n> Model for Scene<'s, 't, 'l, 'n> {
     ghost use Rattle.text65.specs.Lines.{text_lines};
     ghost use Rattle.as65.specs.Compared.{Compared};
 
@@ -74,9 +73,9 @@ impl<'s, 'a, 't, 'l, 'n> Model for Scene<'s, 'a, 't, 'l, 'n> {
       image = s.image.now;
       bytes = s.bytes.now;
       lines = text_lines s.source.now.text.now;
-      ends = s.ends.now;
-      labels = s.labels.now;
-      names = s.names;
+      ends = s.ends.items;
+      labels = s.labels.items;
+      names = s.names.now;
       layout = s.source.now.layout.now;
     } };
 }
@@ -162,32 +161,27 @@ fn earlier_value(labels: &[Label], name: Definition<'_>, by_later: bool) -> Opti
     }
 }
 
-impl<'s, 'a, 't, 'l, 'n> Scene<'s, 'a, 't, 'l, 'n> {
-    /// The image and the listing with these labels, by the address after each line of the listing.
+impl<'s, 't, 'l, 'n> Scene<'s, 't, 'l, 'n> {
+    /// The image and the listing. Fails only if memory ran out.
     pub fn new(
-        alloc: &'a Global,
+        alloc: Global,
         image: &'s Image,
         assembled: &'s Assembled<'s, 't, 'l, 'n>,
-        ends: &'s [u64],
-        labels: &'s [Label],
-    ) -> Result<Scene<'s, 'a, 't, 'l, 'n>, AllocError>
-        requires ends { ends.now ≡ assembled.now.ends }
-        requires labels { labels.now ≡ assembled.now.labels }
+    ) -> Result<Scene<'s, 't, 'l, 'n>, AllocError>
         ensures { IfOk result (λ scene. scene ≡ compared image.entry.now assembled.entry.now) }
     {
         let source = assembled.source();
-        let Ok(Assembly { names, .. }) = assemble_lines(alloc, source) else {
-            return Err(AllocError);
-        };
+        let ends = assembled.ends(alloc)?;
+        let labels = labels_in(alloc, source, false, &ends)?;
         Ok(Scene {
-            alloc: *alloc,
+            alloc,
             start: image.start(),
             image: image.bytes(),
             bytes: assembled.bytes(),
             source,
             ends,
             labels,
-            names,
+            names: assembled.names(),
         })
     }
 
@@ -220,15 +214,17 @@ impl<'s, 'a, 't, 'l, 'n> Scene<'s, 'a, 't, 'l, 'n> {
     }
 
     /// The address after each line.
-    pub fn ends(&self) -> &'s [u64]
+    pub fn ends(&self) -> &[u64]
         ensures { result.now ≡ self.now.ends }
     {
-        self.ends
+        &self.ends
     }
 
     /// The labels `LXXXX`.
-    pub fn labels(&self) -> &'s [Label] {
-        self.labels
+    pub fn labels(&self) -> &[Label]
+        ensures { result.now ≡ self.now.labels }
+    {
+        &self.labels
     }
 
     /// Where the listing has what follows an offset of the image, by the last label before it, as the names go.
@@ -238,7 +234,7 @@ impl<'s, 'a, 't, 'l, 'n> Scene<'s, 'a, 't, 'l, 'n> {
         let start = u64::from(self.start);
         let named = start.saturating_add(was as u64);
         let count = self.labels.partition_point(|label| label.named <= named);
-        let before = label_before(self.labels, count);
+        let before = label_before(&self.labels, count);
         let at = before.at.saturating_add(named.saturating_sub(before.named));
         self.bytes.len().min(at.saturating_sub(start) as usize)
     }
@@ -256,7 +252,7 @@ impl<'s, 'a, 't, 'l, 'n> Scene<'s, 'a, 't, 'l, 'n> {
         if definition.constant != constant {
             return None;
         }
-        earlier_value(self.labels, definition, by_later)
+        earlier_value(&self.labels, definition, by_later)
     }
 
     /// Appends a line that sets a name to the value that it had, if it had one.
@@ -582,7 +578,7 @@ impl<'s, 'a, 't, 'l, 'n> Scene<'s, 'a, 't, 'l, 'n> {
     pub fn label_at(&self, at: u64, by_later: bool) -> Label
         ensures { (result ≡ in_place) ⊎ IsBeside self.now.labels at result }
     {
-        match beside(self.labels, at, by_later) {
+        match beside(&self.labels, at, by_later) {
             Some(label) if self.has(label) => label,
             _ => IN_PLACE,
         }

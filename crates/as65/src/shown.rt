@@ -4,18 +4,16 @@
 //! too, and so are bytes of the image that lie in none, if no byte has moved from there.
 
 ghost use Rattle.std.specs.Prelude.{◌≡◌, ◌<◌, ◌≤◌, ◌≢◌, ◌+◌, ◌-◌, ◌++◌, ◌⊎◌, ℕ, All, IfOk, IsTrue, OnOk, flat_map, get_or, length};
-ghost use Rattle.as65.specs.Words.{AreChanges, AreComplete, AreKnown, AreMoved, AreSources, IsChange, IsMovedByte, IsReached, IsReplaced, IsShown, IsSource, change_line, compared, ended, place_of, stretch_bytes};
+ghost use Rattle.as65.specs.Words.{AreChanges, AreComplete, AreKnown, AreMoved, AreSources, IsChange, IsMovedByte, IsReached, IsReplaced, IsShown, IsSource, change_line, ended, place_of, stretch_bytes};
 
-use crate::assembled::Assembled;
 use crate::changes::{Change, changes_in};
 use crate::differences::{put_change, put_lengths, put_origin};
-use crate::moves::Label;
 use crate::origins::Reached;
 use crate::scene::{Moved, Scene};
 use crate::stretches::Stretch;
 use files65::at_most;
-use map65::{Image, Marks};
-use std::alloc::{AllocError, Global};
+use map65::Marks;
+use std::alloc::AllocError;
 
 /// Whether a stretch of this many bytes has its ends in order.
 fn is_within(stretch: Stretch, len: usize) -> bool
@@ -54,7 +52,7 @@ fn differ_at_ends(image: &[u8], bytes: &[u8], change: Change) -> bool
 }
 
 /// Whether a change lies in both, and its ends differ.
-fn is_change(scene: &Scene<'_, '_, '_, '_, '_>, change: Change) -> bool
+fn is_change(scene: &Scene<'_, '_, '_, '_>, change: Change) -> bool
     ensures { IsTrue result → IsChange scene.now change }
 {
     let (image, bytes) = (scene.image(), scene.bytes());
@@ -85,7 +83,7 @@ fn has_old_byte(changes: &[Change], place: usize, at: usize) -> bool
 
 /// Whether the byte of the listing at an offset has only moved, or lies in the next change or the last one.
 fn is_known_byte(
-    scene: &Scene<'_, '_, '_, '_, '_>,
+    scene: &Scene<'_, '_, '_, '_>,
     changes: &[Change],
     moved: &Moved,
     next: usize,
@@ -109,7 +107,7 @@ fn is_known_byte(
 
 /// Whether a byte has moved from an offset of the image, or it lies in the next change or the last one.
 fn is_known_old_byte(
-    scene: &Scene<'_, '_, '_, '_, '_>,
+    scene: &Scene<'_, '_, '_, '_>,
     changes: &[Change],
     moved: &Moved,
     next: usize,
@@ -152,7 +150,7 @@ fn after(at: usize, len: usize) -> usize
 
 /// The byte of the listing at an offset as a change, which takes the place of no byte of the image.
 #[tactic(auto, using(crate::proofs::ShownLemmas::put_in))]
-fn put_in(scene: &Scene<'_, '_, '_, '_, '_>, at: usize) -> Change
+fn put_in(scene: &Scene<'_, '_, '_, '_>, at: usize) -> Change
     requires { at < length scene.now.bytes }
     ensures change { IsChange scene.now result }
     ensures from { result.is.at ≤ at }
@@ -171,7 +169,7 @@ fn put_in(scene: &Scene<'_, '_, '_, '_, '_>, at: usize) -> Change
 /// The bytes of the image from an offset on, up to the first from which a byte has moved, as a change, in whose place
 /// the listing has none.
 #[tactic(auto, using(crate::proofs::ShownLemmas::taken_out))]
-fn taken_out(scene: &Scene<'_, '_, '_, '_, '_>, sources: &Marks, at: usize) -> Change
+fn taken_out(scene: &Scene<'_, '_, '_, '_>, sources: &Marks, at: usize) -> Change
     requires { at < length scene.now.image }
     ensures change { IsChange scene.now result }
     ensures from { result.was.at ≤ at }
@@ -190,7 +188,7 @@ fn taken_out(scene: &Scene<'_, '_, '_, '_, '_>, sources: &Marks, at: usize) -> C
 /// Adds a change for the byte of the listing at an offset, unless it is known.
 #[tactic(auto, using(crate::proofs::ShownLemmas::byte_known))]
 fn know_byte(
-    scene: &Scene<'_, '_, '_, '_, '_>,
+    scene: &Scene<'_, '_, '_, '_>,
     changes: &mut Vec<Change>,
     moved: &Moved,
     next: usize,
@@ -213,7 +211,7 @@ fn know_byte(
 /// Adds a change for the bytes of the image from an offset on, unless the first of them is known.
 #[tactic(auto, using(crate::proofs::ShownLemmas::old_known))]
 fn know_old_byte(
-    scene: &Scene<'_, '_, '_, '_, '_>,
+    scene: &Scene<'_, '_, '_, '_>,
     changes: &mut Vec<Change>,
     moved: &Moved,
     next: usize,
@@ -251,7 +249,7 @@ fn passed_old(changes: &[Change], from: usize, at: usize) -> usize {
 
 /// Those of the changes that are some.
 #[tactic(auto, using(crate::proofs::ShownLemmas::known_none, crate::proofs::ShownLemmas::known_more))]
-fn sound(scene: &Scene<'_, '_, '_, '_, '_>, found: &[Change]) -> Result<Vec<Change>, AllocError>
+fn sound(scene: &Scene<'_, '_, '_, '_>, found: &[Change]) -> Result<Vec<Change>, AllocError>
     ensures { IfOk result (λ all. AreKnown scene.now all.items 0 0) }
 {
     let mut all = Vec::new(scene.alloc());
@@ -265,7 +263,7 @@ fn sound(scene: &Scene<'_, '_, '_, '_, '_>, found: &[Change]) -> Result<Vec<Chan
 
 /// Adds what the changes leave out of the listing.
 fn know_bytes(
-    scene: &Scene<'_, '_, '_, '_, '_>,
+    scene: &Scene<'_, '_, '_, '_>,
     changes: &mut Vec<Change>,
     moved: &Moved,
 ) -> Result<(), AllocError>
@@ -284,7 +282,7 @@ fn know_bytes(
 
 /// Adds what the changes leave out of the image.
 fn know_old_bytes(
-    scene: &Scene<'_, '_, '_, '_, '_>,
+    scene: &Scene<'_, '_, '_, '_>,
     changes: &mut Vec<Change>,
     moved: &Moved,
 ) -> Result<(), AllocError>
@@ -302,7 +300,7 @@ fn know_old_bytes(
 
 /// The changes that were found, and what they leave out.
 fn completed(
-    scene: &Scene<'_, '_, '_, '_, '_>,
+    scene: &Scene<'_, '_, '_, '_>,
     found: &[Change],
     moved: &Moved,
 ) -> Result<Vec<Change>, AllocError>
@@ -318,7 +316,7 @@ fn completed(
 }
 
 /// All changes. Fails only if memory ran out.
-fn all_changes(scene: &Scene<'_, '_, '_, '_, '_>) -> Result<Vec<Change>, AllocError>
+fn all_changes(scene: &Scene<'_, '_, '_, '_>) -> Result<Vec<Change>, AllocError>
     ensures { IfOk result (λ all. AreComplete scene.now all.items) }
 {
     let lines = scene.lines()?;
@@ -339,7 +337,7 @@ fn part(bytes: &[u8], stretch: Stretch) -> &[u8]
 }
 
 /// The address of a change in the image.
-fn old_address_of(scene: &Scene<'_, '_, '_, '_, '_>, change: Change) -> usize
+fn old_address_of(scene: &Scene<'_, '_, '_, '_>, change: Change) -> usize
     requires { IsChange scene.now change }
     ensures { result ≡ scene.now.start + change.was.at }
 {
@@ -348,7 +346,7 @@ fn old_address_of(scene: &Scene<'_, '_, '_, '_, '_>, change: Change) -> usize
 }
 
 /// The number of a line, from 1.
-fn number_of(scene: &Scene<'_, '_, '_, '_, '_>, reached: Reached<'_>) -> usize
+fn number_of(scene: &Scene<'_, '_, '_, '_>, reached: Reached<'_>) -> usize
     requires { reached.above ≤ length scene.now.ends }
     ensures { result ≡ reached.entry.above + 1 }
 {
@@ -360,7 +358,7 @@ fn number_of(scene: &Scene<'_, '_, '_, '_, '_>, reached: Reached<'_>) -> usize
 #[tactic(auto, using(crate::proofs::ShownLemmas::above_within))]
 fn put_change_line(
     out: &mut Vec<u8>,
-    scene: &Scene<'_, '_, '_, '_, '_>,
+    scene: &Scene<'_, '_, '_, '_>,
     reached: Reached<'_>,
     change: Change,
 ) -> Result<(), AllocError>
@@ -379,7 +377,7 @@ fn put_change_line(
 }
 
 /// The address of the byte whose line is shown with a change.
-fn address_of(scene: &Scene<'_, '_, '_, '_, '_>, change: Change) -> u64
+fn address_of(scene: &Scene<'_, '_, '_, '_>, change: Change) -> u64
     requires { IsChange scene.now change }
     ensures { result ≡ scene.now.start + place_of scene.now change }
 {
@@ -390,7 +388,7 @@ fn address_of(scene: &Scene<'_, '_, '_, '_, '_>, change: Change) -> u64
 /// The line of the byte at an address, from that of another byte on if the address is not below its.
 #[tactic(auto, using(crate::proofs::PassingLemmas::passing))]
 fn reached_at<'t>(
-    scene: &Scene<'_, '_, 't, '_, '_>,
+    scene: &Scene<'_, 't, '_, '_>,
     reached: Reached<'t>,
     last: u64,
     address: u64,
@@ -409,7 +407,7 @@ fn reached_at<'t>(
 /// Appends a line for each change.
 fn put_changes(
     out: &mut Vec<u8>,
-    scene: &Scene<'_, '_, '_, '_, '_>,
+    scene: &Scene<'_, '_, '_, '_>,
     changes: &[Change],
 ) -> Result<(), AllocError>
     requires { All (IsChange scene.now) changes.now }
@@ -427,24 +425,15 @@ fn put_changes(
     Ok(())
 }
 
-/// The lines that say what differs between an image and a listing with these labels, apart from what has only moved;
-/// and one for lengths that differ. Each has the address in the image, the bytes there, those of the listing, and the
-/// line that gives the first of them, or the byte after them. Fails only if memory ran out.
-pub fn changes(
-    alloc: Global,
-    image: &Image,
-    assembled: &Assembled<'_, '_, '_, '_>,
-    ends: &[u64],
-    labels: &[Label],
-) -> Result<Vec<u8>, AllocError>
-    requires ends { ends.now ≡ assembled.now.ends }
-    requires labels { labels.now ≡ assembled.now.labels }
-    ensures { IfOk result (λ text. AreChanges (compared image.now assembled.now) text.items) }
+/// The lines that say what differs, apart from what has only moved; and one for lengths that differ. Each has the
+/// address in the image, the bytes there, those of the listing, and the line that gives the first of them, or the byte
+/// after them. Fails only if memory ran out.
+pub fn changes(scene: &Scene<'_, '_, '_, '_>) -> Result<Vec<u8>, AllocError>
+    ensures { IfOk result (λ text. AreChanges scene.now text.items) }
 {
-    let scene = Scene::new(&alloc, image, assembled, ends, labels)?;
-    let changes = all_changes(&scene)?;
-    let mut out = Vec::new(alloc);
-    put_changes(&mut out, &scene, &changes)?;
+    let changes = all_changes(scene)?;
+    let mut out = Vec::new(scene.alloc());
+    put_changes(&mut out, scene, &changes)?;
     put_lengths(&mut out, scene.image().len(), scene.bytes().len())?;
     Ok(out)
 }
