@@ -1,5 +1,5 @@
 -- A listing that assembles.
-use Rattle.std.specs.Prelude.{◌≡◌, ℕ, List, Ok, Result}
+use Rattle.std.specs.Prelude.{ℕ, List, Result}
 use Rattle.stmt65.specs.Words.{Definition, Layout, held_definitions, source_addresses, source_definitions, source_meaning}
 use Rattle.as65.specs.Moves.{labels_of, moves_in, places_of}
 use Rattle.as65.specs.Types.{AsmFault, Label, Source}
@@ -33,9 +33,3 @@ seen s bytes = record {
   layout = s.layout.now;
   bytes = bytes;
 }
-
--- a source means these bytes, has these addresses after its lines, and defines these names
-pub record IsOfSource {L : Type 0} (s : Source L) (bytes ends : List ℕ) (names : List Definition) : Type 0 where
-  pub means : source_meaning s ≡ Ok bytes
-  pub addresses : ends ≡ source_addresses s
-  pub definitions : names ≡ held_definitions (source_definitions s)

@@ -5,35 +5,36 @@ ghost use Rattle.std.specs.Io.KnownBytes.{Appends};
 ghost use Rattle.files65.specs.Faults.{IsEmpty};
 ghost use Rattle.map65.specs.Words.{AppendsFront, Counts};
 ghost use Rattle.stmt65.specs.Words.{source_meaning};
-ghost use Rattle.as65.specs.Words.{AssembledView, IsOfSource, Reports, seen};
+ghost use Rattle.as65.specs.Words.{AssembledView, Reports, seen};
 
 use crate::failure::Failure;
 use files65::{FileFault, failure_of, write_text};
 use map65::Sink;
 use std::alloc::{AllocError, Global};
 use std::marker::Model;
-use stmt65::{Assembly, Source, Symbols, assemble_lines};
+use stmt65::{
+    Assembly, LineEnds, Source, Symbols, assemble_explained, assemble_lines, line_addresses,
+};
 
-/// A text that assembles, with its bytes, the address after each of its lines, and what they define: all of one
-/// reading.
+/// A text that assembles, and its bytes.
 #[derive(Drop)]
 pub struct Assembled<'s, 't, 'l, 'n> {
     source: &'s Source<'t, 'l, 'n>,
-    assembly: Assembly<'t, 's, Global>,
+    bytes: Vec<u8>,
 }
 
 impl<'s, 't, 'l, 'n> Model for Assembled<'s, 't, 'l, 'n> {
     ghost Value = { AssembledView };
 
-    ghost view = { λ a. seen a.source.now a.assembly.bytes.items };
+    ghost view = { λ a. seen a.source.now a.bytes.items };
 
-    ghost invariant = { λ a. IsOfSource a.source.now a.assembly.bytes.items a.assembly.ends a.assembly.names };
+    ghost invariant = { λ a. source_meaning a.source.now ≡ Ok a.bytes.items };
 }
 
 impl<'s, 't, 'l, 'n> Assembled<'s, 't, 'l, 'n> {
     /// Assembles the listing of this name. Fails with its first fault.
     pub fn new(
-        alloc: &'s Global,
+        alloc: Global,
         source: &'s Source<'t, 'l, 'n>,
         name: &str,
     ) -> Result<Assembled<'s, 't, 'l, 'n>, Failure>
@@ -45,9 +46,9 @@ impl<'s, 't, 'l, 'n> Assembled<'s, 't, 'l, 'n> {
         ensures means { IfOk result (λ a. source_meaning source.entry.now ≡ Ok a.bytes) }
         ensures fault { IfErr result (Reports name.now source.entry.now) }
     {
-        match assemble_lines(alloc, source) {
-            Ok(assembly) => Ok(Assembled { source, assembly }),
-            Err(explained) => Err(failure_of(*alloc, explained, name, source)),
+        match assemble_explained(alloc, source) {
+            Ok(bytes) => Ok(Assembled { source, bytes }),
+            Err(explained) => Err(failure_of(alloc, explained, name, source)),
         }
     }
 
@@ -65,26 +66,14 @@ impl<'s, 't, 'l, 'n> Assembled<'s, 't, 'l, 'n> {
         ensures bytes { result.now ≡ self.now.bytes }
         ensures means { self.now.means ≡ Ok result.now }
     {
-        self.assembly.bytes.as_slice()
+        self.bytes.as_slice()
     }
 
     /// The address after each line.
     pub fn ends(&self, alloc: Global) -> Result<Vec<u64>, AllocError>
         ensures { IfOk result (λ ends. ends.items ≡ self.now.ends) }
     {
-        let mut ends = Vec::new(alloc);
-        let mut left = self.assembly.ends.iter();
-        'ends: while let Some(end) = left.next() {
-            ends.push(end)?;
-        }
-        Ok(ends)
-    }
-
-    /// What the lines define.
-    pub fn names(&self) -> &Symbols<'t, &'s Global>
-        ensures { result.now ≡ self.now.names }
-    {
-        &self.assembly.names
+        line_addresses(alloc, self.source)
     }
 
     /// Writes the bytes.
@@ -97,6 +86,74 @@ impl<'s, 't, 'l, 'n> Assembled<'s, 't, 'l, 'n> {
         ensures failure { IfErr result (λ e. e ≡ FileFault.Writing) }
     {
         write_text(out, self.bytes())
+    }
+}
+
+/// A text that assembles, with the address after each of its lines and what they define, all of one reading.
+#[derive(Drop)]
+pub struct Listed<'s, 't, 'l, 'n> {
+    assembled: Assembled<'s, 't, 'l, 'n>,
+    ends: LineEnds<&'s Global>,
+    names: Symbols<'t, &'s Global>,
+}
+
+impl<'s, 't, 'l, 'n> Model for Listed<'s, 't, 'l, 'n> {
+    ghost Value = { AssembledView };
+
+    ghost view = { λ l. l.assembled };
+
+    ghost invariant = { λ l. (l.ends ≡ l.assembled.ends) × (l.names ≡ l.assembled.names) };
+}
+
+impl<'s, 't, 'l, 'n> Listed<'s, 't, 'l, 'n> {
+    /// Assembles the listing of this name. Fails with its first fault.
+    pub fn new(
+        alloc: &'s Global,
+        source: &'s Source<'t, 'l, 'n>,
+        name: &str,
+    ) -> Result<Listed<'s, 't, 'l, 'n>, Failure>
+        /// As in `Assembled::new`.
+        ensures whole { IfOk result (λ a. a ≡ seen source.entry.now a.bytes) }
+        ensures means { IfOk result (λ a. source_meaning source.entry.now ≡ Ok a.bytes) }
+        ensures fault { IfErr result (Reports name.now source.entry.now) }
+    {
+        match assemble_lines(alloc, source) {
+            Ok(Assembly { bytes, ends, names }) => {
+                let bytes = Vec::from_slice(*alloc, bytes.as_slice())?;
+                Ok(Listed {
+                    assembled: Assembled { source, bytes },
+                    ends,
+                    names,
+                })
+            }
+            Err(explained) => Err(failure_of(*alloc, explained, name, source)),
+        }
+    }
+
+    /// The text and its bytes.
+    pub fn assembled(&self) -> &Assembled<'s, 't, 'l, 'n>
+        ensures { result.now ≡ self.now }
+    {
+        &self.assembled
+    }
+
+    /// The address after each line.
+    pub fn ends(&self, alloc: Global) -> Result<Vec<u64>, AllocError>
+        ensures { IfOk result (λ ends. ends.items ≡ self.now.ends) }
+    {
+        let mut ends = Vec::new(alloc);
+        let mut left = self.ends.iter();
+        'ends: while let Some(end) = left.next() {
+            ends.push(end)?;
+        }
+        Ok(ends)
+    }
+
+    /// What the lines define.
+    pub fn names(&self) -> &Symbols<'t, &'s Global>
+        ensures { result.now ≡ self.now.names }
+    {
+        &self.names
     }
 }
 

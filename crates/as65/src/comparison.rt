@@ -3,7 +3,7 @@
 ghost use Rattle.std.specs.Prelude.{◌≡◌, Ok};
 ghost use Rattle.as65.specs.Words.{Compares, CountsWrites, compared};
 
-use crate::assembled::Assembled;
+use crate::assembled::Listed;
 use crate::differences::differences;
 use crate::failure::Failure;
 use crate::status::Ended;
@@ -16,7 +16,7 @@ use std::alloc::Global;
 pub fn compare<W: Sink>(
     alloc: Global,
     image: &Image,
-    assembled: &Assembled<'_, '_, '_, '_>,
+    assembled: &Listed<'_, '_, '_, '_>,
     out: &mut W,
 ) -> Result<Ended, Failure>
     /// Returns that nothing differs exactly if the bytes of the image are those that the listing means; then it
@@ -28,7 +28,7 @@ pub fn compare<W: Sink>(
     ensures count { CountsWrites (W.faults out.old) (W.faults out.new) result }
     ensures same { image.now.bytes ≡ assembled.now.bytes → result ≡ Ok Ended.Done }
 {
-    if image.bytes() == assembled.bytes() {
+    if image.bytes() == assembled.assembled().bytes() {
         return Ok(Ended::Done);
     }
     let text = differences(alloc, image, assembled)?;

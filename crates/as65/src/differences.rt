@@ -3,7 +3,7 @@
 ghost use Rattle.std.specs.Prelude.{◌≡◌, ◌++◌, IfOk, OnOk, flat_map};
 ghost use Rattle.as65.specs.Words.{AreDifferences, IsDifferences, change_text, compared, lengths_line, origin_text, shown_bytes, spaced};
 
-use crate::assembled::Assembled;
+use crate::assembled::Listed;
 use crate::moves::{moves_in, put_moves};
 use crate::origins::Reached;
 use crate::scene::Scene;
@@ -103,7 +103,7 @@ fn byte_differences(scene: &Scene<'_, '_, '_, '_>) -> Result<Vec<u8>, AllocError
 pub fn differences(
     alloc: Global,
     image: &Image,
-    assembled: &Assembled<'_, '_, '_, '_>,
+    assembled: &Listed<'_, '_, '_, '_>,
 ) -> Result<Vec<u8>, AllocError>
     /// The text begins with a line for each label `LXXXX` at which the distance from $XXXX changes, in order. If
     /// there is none, the rest has one line for each stretch, in order: its address, at most eight bytes of the

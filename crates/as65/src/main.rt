@@ -27,7 +27,7 @@ mod sizes;
 mod status;
 mod stretches;
 
-use assembled::{Assembled, need_bytes};
+use assembled::{Assembled, Listed, need_bytes};
 use comparison::compare;
 use failure::{Failure, Refused};
 use files65::{
@@ -45,9 +45,7 @@ use request::{Comparing, Work, Writing, is_compared_by, is_comparing, request_of
 use segments::need_segments;
 use sizes::need_size;
 use status::{Ended, status_of};
-use std::alloc::Global;
 use std::process::ExitCode;
-use stmt65::Source;
 use usage65::{FileNames, Request, RequestFault, words_of};
 
 /// The image that the information file has by its INPUTNAME. The listing may not be the same stream.
@@ -84,19 +82,6 @@ fn len_in(rt: &HostRuntime, listing: &str, info: &Info) -> Result<Option<usize>,
     }
 }
 
-/// The listing of this name with its bytes, if it has some and its segments have a place.
-fn assembled_in<'s, 't, 'l, 'n>(
-    alloc: &'s Global,
-    source: &'s Source<'t, 'l, 'n>,
-    name: &str,
-    info: &Info,
-) -> Result<Assembled<'s, 't, 'l, 'n>, Failure> {
-    let assembled = Assembled::new(alloc, source, name)?;
-    need_bytes(*alloc, &assembled, name)?;
-    need_segments(*alloc, source, name, info.segments())?;
-    Ok(assembled)
-}
-
 /// Reads the listing, and writes its bytes or its names. The output may not be the input of the information file
 /// either, and is created once they are there.
 fn write_listing(rt: &HostRuntime, writing: &mut Writing, info: &Info) -> Result<Ended, Failure> {
@@ -113,11 +98,12 @@ fn write_listing(rt: &HostRuntime, writing: &mut Writing, info: &Info) -> Result
         need_segments(rt.alloc(), &source, name, info.segments())?;
         write_text(&mut Output::create(rt, names.output.take())?, &text)?;
     } else {
-        let alloc = rt.alloc();
-        let assembled = assembled_in(&alloc, &source, name, info)?;
+        let assembled = Assembled::new(rt.alloc(), &source, name)?;
+        need_bytes(rt.alloc(), &assembled, name)?;
+        need_segments(rt.alloc(), &source, name, info.segments())?;
         if writing.place.in_place {
-            need_in_place(alloc, &assembled, name)?;
-            need_size(alloc, &assembled, name, len_in(rt, name, info)?)?;
+            need_in_place(rt.alloc(), &assembled, name)?;
+            need_size(rt.alloc(), &assembled, name, len_in(rt, name, info)?)?;
         }
         assembled.write(&mut Output::create(rt, names.output.take())?)?;
     }
@@ -143,12 +129,15 @@ fn compare_under(rt: &HostRuntime, comparing: &Comparing, info: &Info) -> Result
     let text = read_listing(rt, name)?;
     let source = repair(&layout, image.start(), &text);
     let alloc = rt.alloc();
-    let assembled = assembled_in(&alloc, &source, name, info)?;
+    let listed = Listed::new(&alloc, &source, name)?;
+    let assembled = listed.assembled();
+    need_bytes(alloc, assembled, name)?;
+    need_segments(alloc, &source, name, info.segments())?;
     if info.settings().start.is_none() && image.bytes() != assembled.bytes() {
-        let named = named_start(alloc, &image, &assembled)?;
+        let named = named_start(alloc, &image, &listed)?;
         say_starts(rt, comparing.image.as_str(), image.start(), named)?;
     }
-    compare(alloc, &image, &assembled, &mut Output::standard(rt))
+    compare(alloc, &image, &listed, &mut Output::standard(rt))
 }
 
 /// Reads what says where the image is, and compares. The output is standard output.

@@ -1,6 +1,6 @@
 //! The start that the names of a listing speak for: da65 calls an address `LXXXX` that has no name.
 
-use crate::assembled::Assembled;
+use crate::assembled::Listed;
 use crate::moves::labels_in;
 use map65::Image;
 use std::alloc::{AllocError, Global};
@@ -17,9 +17,10 @@ pub struct NamedStart {
 pub fn named_start(
     alloc: Global,
     image: &Image,
-    assembled: &Assembled<'_, '_, '_, '_>,
+    listed: &Listed<'_, '_, '_, '_>,
 ) -> Result<Option<NamedStart>, AllocError> {
-    let labels = labels_in(alloc, assembled.source(), false, &assembled.ends(alloc)?)?;
+    let source = listed.assembled().source();
+    let labels = labels_in(alloc, source, false, &listed.ends(alloc)?)?;
     let taken = u64::from(image.start());
     let Some(start) = labels.first().and_then(|label| label.earlier(taken)) else {
         return Ok(None);

@@ -11,7 +11,7 @@ ghost use Rattle.stmt65.specs.Words.{definition_of, meaning_in};
 ghost use Rattle.as65.specs.Moves.{in_place};
 ghost use Rattle.as65.specs.Words.{AreMoved, AreSources, GaveBefore, GaveBy, HadValue, HasMoved, IsBefore, IsBeside, IsBy, IsEarlierBy, IsPlaced, IsValueBefore, SetsNames, compared, label_before, line_begin};
 
-use crate::assembled::Assembled;
+use crate::assembled::Listed;
 use crate::moves::{IN_PLACE, Label, address_in_name, is_alike, labels_in};
 use files65::repair;
 use map65::{Image, Marks};
@@ -166,18 +166,18 @@ impl<'s, 't, 'l, 'n> Scene<'s, 't, 'l, 'n> {
     pub fn new(
         alloc: Global,
         image: &'s Image,
-        assembled: &'s Assembled<'s, 't, 'l, 'n>,
+        assembled: &'s Listed<'s, 't, 'l, 'n>,
     ) -> Result<Scene<'s, 't, 'l, 'n>, AllocError>
         ensures { IfOk result (λ scene. scene ≡ compared image.entry.now assembled.entry.now) }
     {
-        let source = assembled.source();
+        let source = assembled.assembled().source();
         let ends = assembled.ends(alloc)?;
         let labels = labels_in(alloc, source, false, &ends)?;
         Ok(Scene {
             alloc,
             start: image.start(),
             image: image.bytes(),
-            bytes: assembled.bytes(),
+            bytes: assembled.assembled().bytes(),
             source,
             ends,
             labels,
@@ -252,7 +252,7 @@ impl<'s, 't, 'l, 'n> Scene<'s, 't, 'l, 'n> {
         if definition.constant != constant {
             return None;
         }
-        earlier_value(&self.labels, definition, by_later)
+        earlier_value(self.labels(), definition, by_later)
     }
 
     /// Appends a line that sets a name to the value that it had, if it had one.
@@ -578,7 +578,7 @@ impl<'s, 't, 'l, 'n> Scene<'s, 't, 'l, 'n> {
     pub fn label_at(&self, at: u64, by_later: bool) -> Label
         ensures { (result ≡ in_place) ⊎ IsBeside self.now.labels at result }
     {
-        match beside(&self.labels, at, by_later) {
+        match beside(self.labels(), at, by_later) {
             Some(label) if self.has(label) => label,
             _ => IN_PLACE,
         }

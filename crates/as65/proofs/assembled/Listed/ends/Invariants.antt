@@ -1,6 +1,6 @@
 use Rattle.std.proofs.Common.{◌≡◌, ◌++◌, length}
 use Rattle.stmt65.specs.Words.{ends_left}
-use Rattle.as65.proofs.assembled.Assembled.ends.Given as goal
+use Rattle.as65.proofs.assembled.Listed.ends.Given as goal
 
 abbrev pub invariant-ends : goal.invariant-ends
 invariant-ends l = l.ends.items ++ ends_left l.left ≡ l.self.ends
