@@ -12,9 +12,7 @@ use files65::{FileFault, failure_of, write_text};
 use map65::Sink;
 use std::alloc::{AllocError, Global};
 use std::marker::Model;
-use stmt65::{
-    Assembly, LineEnds, Source, Symbols, assemble_explained, assemble_lines, line_addresses,
-};
+use stmt65::{Assembly, Source, Symbols, assemble_explained, assemble_lines, line_addresses};
 
 /// A text that assembles, and its bytes.
 #[derive(Drop)]
@@ -93,8 +91,7 @@ impl<'s, 't, 'l, 'n> Assembled<'s, 't, 'l, 'n> {
 #[derive(Drop)]
 pub struct Listed<'s, 't, 'l, 'n> {
     assembled: Assembled<'s, 't, 'l, 'n>,
-    ends: LineEnds<&'s Global>,
-    names: Symbols<'t, &'s Global>,
+    assembly: Assembly<'t, 's, Global>,
 }
 
 impl<'s, 't, 'l, 'n> Model for Listed<'s, 't, 'l, 'n> {
@@ -102,7 +99,7 @@ impl<'s, 't, 'l, 'n> Model for Listed<'s, 't, 'l, 'n> {
 
     ghost view = { λ l. l.assembled };
 
-    ghost invariant = { λ l. (l.ends ≡ l.assembled.ends) × (l.names ≡ l.assembled.names) };
+    ghost invariant = { λ l. (l.assembly.ends ≡ l.assembled.ends) × (l.assembly.names ≡ l.assembled.names) };
 }
 
 impl<'s, 't, 'l, 'n> Listed<'s, 't, 'l, 'n> {
@@ -118,12 +115,12 @@ impl<'s, 't, 'l, 'n> Listed<'s, 't, 'l, 'n> {
         ensures fault { IfErr result (Reports name.now source.entry.now) }
     {
         match assemble_lines(alloc, source) {
-            Ok(Assembly { bytes, ends, names }) => {
-                let bytes = Vec::from_slice(*alloc, bytes.as_slice())?;
+            Ok(assembly) => {
+                let bytes = Vec::from_slice(*alloc, assembly.bytes.as_slice())?;
+                let assembled = Assembled { source, bytes };
                 Ok(Listed {
-                    assembled: Assembled { source, bytes },
-                    ends,
-                    names,
+                    assembled,
+                    assembly,
                 })
             }
             Err(explained) => Err(failure_of(*alloc, explained, name, source)),
@@ -142,7 +139,7 @@ impl<'s, 't, 'l, 'n> Listed<'s, 't, 'l, 'n> {
         ensures { IfOk result (λ ends. ends.items ≡ self.now.ends) }
     {
         let mut ends = Vec::new(alloc);
-        let mut left = self.ends.iter();
+        let mut left = self.assembly.ends.iter();
         'ends: while let Some(end) = left.next() {
             ends.push(end)?;
         }
@@ -153,7 +150,7 @@ impl<'s, 't, 'l, 'n> Listed<'s, 't, 'l, 'n> {
     pub fn names(&self) -> &Symbols<'t, &'s Global>
         ensures { result.now ≡ self.now.names }
     {
-        &self.names
+        &self.assembly.names
     }
 }
 
