@@ -100,10 +100,10 @@ fn byte_differences(scene: &Scene<'_, '_, '_, '_>) -> Result<Vec<u8>, AllocError
 /// The lines that say where an image and a listing differ: one for each label at which the distance from the address in
 /// its name changes; one for each stretch of bytes, and one for lengths that differ. If there are lines of labels, what
 /// has only moved with them is left out.
-pub fn differences(
+pub fn differences<'s>(
     alloc: Global,
-    image: &Image,
-    assembled: &Listed<'_, '_, '_, '_>,
+    image: &'s Image,
+    assembled: &'s Listed<'s, '_, '_, '_>,
 ) -> Result<Vec<u8>, AllocError>
     /// The text begins with a line for each label `LXXXX` at which the distance from $XXXX changes, in order. If
     /// there is none, the rest has one line for each stretch, in order: its address, at most eight bytes of the
