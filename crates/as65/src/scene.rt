@@ -9,7 +9,7 @@ ghost use Rattle.map65.specs.Words.{is_marked};
 ghost use Rattle.stmt65.specs.declared.language.Language.TheVariants.{Repair};
 ghost use Rattle.stmt65.specs.Words.{definition_of, meaning_in};
 ghost use Rattle.as65.specs.Moves.{in_place};
-ghost use Rattle.as65.specs.Words.{AreMoved, AreSources, GaveBefore, GaveBy, HadValue, HasMoved, IsBefore, IsBeside, IsBy, IsEarlierBy, IsPlaced, IsValueBefore, SetsNames, compared, label_before, line_begin};
+ghost use Rattle.as65.specs.Words.{AreMoved, AreSources, GaveBefore, GaveBy, HadValue, HasMoved, IsBefore, IsBeside, IsBy, IsEarlierBy, IsPlaced, IsValueBefore, SetsNames, compared, label_before, line_begin, moves_in};
 
 use crate::assembled::Listed;
 use crate::moves::{IN_PLACE, Label, address_in_name, is_alike, labels_in};
@@ -168,7 +168,9 @@ impl<'s, 't, 'l, 'n> Scene<'s, 't, 'l, 'n> {
         image: &'s Image,
         assembled: &'s Listed<'s, 't, 'l, 'n>,
     ) -> Result<Scene<'s, 't, 'l, 'n>, AllocError>
-        ensures { IfOk result (λ scene. scene ≡ compared image.entry.now assembled.entry.now) }
+        ensures scene { IfOk result (λ scene.
+            scene ≡ compared image.entry.now assembled.entry.now) }
+        ensures moves { IfOk result (λ scene. moves_in scene.labels ≡ assembled.entry.now.moves) }
     {
         let source = assembled.assembled().source();
         let ends = assembled.ends(alloc)?;
