@@ -24,9 +24,6 @@ const COPIED: u16 = 64;
 /// How many entries a table may have that is loaded into two registers.
 const REGISTERS: usize = 64;
 
-/// From how many tables on they are put in order byte by byte, and not by comparisons.
-const MANY: usize = 256;
-
 /// How many entries of tables are looked at, all together. Few programs come near it. It keeps the time in proportion
 /// to the image, whatever that has.
 pub const PATIENCE: usize = 0x1_0000;
@@ -297,50 +294,9 @@ fn copies_at(steps: &Steps<'_>, reached: &Marks, reader: u16) -> Option<Copies> 
     is_copy.then_some(Copies { from, to })
 }
 
-/// The byte of the number that begins at this bit.
-fn digit(number: u64, bit: u32) -> u8 {
-    ((number >> (bit % 64)) % 0x100) as u8
-}
-
-/// The numbers by one byte of them, which begins at this bit. Those with the same byte stay in their order.
-fn by_byte(alloc: Global, numbers: &[u64], bit: u32) -> Result<Vec<u64>, AllocError> {
-    let mut places = [0usize; 256];
-    for &number in numbers {
-        let count = &mut places[usize::from(digit(number, bit))];
-        *count = count.saturating_add(1);
-    }
-    let mut sum = 0usize;
-    for place in &mut places {
-        let count = *place;
-        *place = sum;
-        sum = sum.saturating_add(count);
-    }
-    let mut sorted = vec![in alloc; 0u64; numbers.len()]?;
-    for &number in numbers {
-        let place = &mut places[usize::from(digit(number, bit))];
-        if let Some(slot) = sorted.get_mut(*place) {
-            *slot = number;
-        }
-        *place = place.saturating_add(1);
-    }
-    Ok(sorted)
-}
-
 /// The numbers in order, each once.
-fn in_order(alloc: Global, mut numbers: Vec<u64>) -> Result<Vec<u64>, AllocError> {
-    if numbers.len() < MANY {
-        numbers.sort()?;
-    } else {
-        let first = numbers.first().copied().unwrap_or(0);
-        let differ = numbers
-            .iter()
-            .fold(0u64, |bits, number| bits | (*number ^ first));
-        for bit in [0u32, 8, 16, 24, 32, 40, 48, 56] {
-            if digit(differ, bit) != 0 {
-                numbers = by_byte(alloc, &numbers, bit)?;
-            }
-        }
-    }
+fn in_order(mut numbers: Vec<u64>) -> Result<Vec<u64>, AllocError> {
+    numbers.sort()?;
     numbers.dedup();
     Ok(numbers)
 }
@@ -474,7 +430,7 @@ impl Readers {
             }
         }
         self.put_copied(alloc, &mut read, &copies)?;
-        let read = in_order(alloc, read)?;
+        let read = in_order(read)?;
         let (mut found, mut moved) = (Vec::with_capacity(alloc, read.len())?, Vec::new(alloc));
         for &number in &read {
             let table = Table::of_number(number);
@@ -490,9 +446,8 @@ impl Readers {
         }
         if !moved.is_empty() {
             // Both are in order, which makes the sort quick.
-            found.extend_from_slice(&in_order(alloc, moved)?)?;
-            found.sort()?;
-            found.dedup();
+            found.extend_from_slice(&in_order(moved)?)?;
+            found = in_order(found)?;
         }
         let mut tables = Vec::with_capacity(alloc, found.len())?;
         for &number in &found {
