@@ -4,7 +4,7 @@ use crate::rules::bytes::ground::Ground;
 use crate::rules::bytes::links::FAR;
 use crate::rules::bytes::survey::Survey;
 use crate::rules::entries::words::ROW;
-use crate::rules::image::{address, bytes_at, ends};
+use crate::rules::image::{address, bytes_at, ends, word};
 use map65::{ADDRESSES, Marks};
 use std::alloc::AllocError;
 
@@ -115,7 +115,7 @@ pub fn mark_rows(ground: &mut Ground<'_>, survey: &Survey<'_>, words: &[u16]) {
     let (start, end) = ends(ground.image);
     for &first in words {
         let at = usize::from(first);
-        if ground.word(at) == ground.word(at.saturating_add(2)) {
+        if word(ground.image, at) == word(ground.image, at.saturating_add(2)) {
             continue;
         }
         for less in [0u16, 1] {

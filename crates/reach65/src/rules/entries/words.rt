@@ -5,7 +5,7 @@ use crate::rules::Steps;
 use crate::rules::entries::growth::{Candidate, IN_TABLE};
 use crate::rules::entries::search::{Least, Search};
 use crate::rules::entries::sound::is_passed;
-use crate::rules::image::{address, byte_before, ends, given, word};
+use crate::rules::image::{address, ends, given, word};
 use isa65::Mnemonic;
 use map65::{ADDRESSES, Image, Marks};
 use std::alloc::AllocError;
@@ -39,24 +39,9 @@ fn is_worth(hopeful: &Marks, bytes: &[u8]) -> bool {
             || hopeful.get_at(one + 1) && hopeful.get_at(two + 1))
 }
 
-/// Whether the first two bytes, which stand at the address, are the address right behind them, where code may begin.
-fn is_field(hopeful: &Marks, at: usize, bytes: &[u8]) -> bool {
-    let &[low, high, ..] = bytes else {
-        return false;
-    };
-    let to = usize::from(u16::from_le_bytes([low, high]));
-    to == at.saturating_add(2) && hopeful.get_at(to)
-}
-
-/// Whether the bytes are the end of a name, which is a zero byte or has the high bit, and a word of where code may
-/// begin.
-fn is_named(hopeful: &Marks, second: u8, before: u8, bytes: &[u8]) -> bool {
-    let &[low, high, ..] = bytes else {
-        return false;
-    };
-    (before == 0 || 0xA0 <= before)
-        && matches!(second, 0x20..=0x7E)
-        && hopeful.get(u16::from_le_bytes([low, high]))
+/// Whether the two bytes before a word are the end of a name, which is a zero byte or has the high bit.
+fn is_behind_name(second: u8, before: u8) -> bool {
+    (before == 0 || 0xA0 <= before) && matches!(second, 0x20..=0x7E)
 }
 
 /// Whether code may go on at a later address, if there is one: an earlier one is not known yet. Without ranges no byte
@@ -134,38 +119,32 @@ impl<'i> DataWords<'i> {
         Ok(words)
     }
 
-    /// Whether the first two bytes are where code may begin, or that less one.
-    fn may_lead(&self, bytes: &[u8]) -> bool {
-        let &[low, high, ..] = bytes else {
-            return false;
-        };
-        let to = u16::from_le_bytes([low, high]);
-        self.hopeful.get(to) || self.hopeful.get_at(usize::from(to) + 1)
-    }
-
     /// Adds where words begin that may lead to code.
     fn put_all(&mut self, search: &Search<'_>) -> Result<(), AllocError> {
         let (start, end) = ends(self.image);
+        let (mut second, mut before) = (0u8, 0u8);
         for (at, bytes) in (start..end).zip(self.image.bytes().windows(4)) {
+            let &[low, high, ..] = bytes else {
+                continue;
+            };
+            let to = u16::from_le_bytes([low, high]);
+            let leads = self.hopeful.get(to);
             // Most words lead to no code.
-            if self.may_lead(bytes)
+            if (leads || self.hopeful.get_at(usize::from(to) + 1))
                 && let Some(here) = address(at)
                 && search.is_open(here)
             {
                 if is_worth(&self.hopeful, bytes) {
                     self.worth.push(here)?;
                 }
-                if is_field(&self.hopeful, at, bytes) {
+                if leads && usize::from(to) == at.saturating_add(2) {
                     self.fields.push(here)?;
                 }
-                let (second, before) = (
-                    byte_before(self.image, at, 2),
-                    byte_before(self.image, at, 1),
-                );
-                if is_named(&self.hopeful, second, before, bytes) {
+                if leads && is_behind_name(second, before) {
                     self.named.push(here)?;
                 }
             }
+            (second, before) = (before, low);
         }
         Ok(())
     }
