@@ -34,13 +34,13 @@ fn mark_ends(bytes: &[u8]) -> bool {
     mark
 }
 
-/// The end of the group of a range of this type.
-fn type_text(role: RangeType) -> &'static [u8] {
+/// What the type of a range is called.
+fn type_text(role: RangeType) -> &'static str {
     match role {
-        RangeType::TextTable => b"; TYPE TextTable; }; # ",
-        RangeType::AddrTable => b"; TYPE AddrTable; }; # ",
-        RangeType::RtsTable => b"; TYPE RtsTable; }; # ",
-        _ => b"; TYPE ByteTable; }; # ",
+        RangeType::TextTable => "TextTable",
+        RangeType::AddrTable => "AddrTable",
+        RangeType::RtsTable => "RtsTable",
+        _ => "ByteTable",
     }
 }
 
@@ -63,9 +63,7 @@ impl Text<'_> {
     /// Adds the bytes of a range of this type as characters: the first 32 of them, and two dots if there are more.
     fn put_bytes(&mut self, role: RangeType, bytes: &[u8]) -> Result<(), AllocError> {
         let (alphabet, title) = alphabet_of(role, bytes);
-        if !title.is_empty() {
-            self.put(title.as_bytes())?;
-        }
+        self.put(title.as_bytes())?;
         let mut text = [0u8; SHOWN];
         for (place, &byte) in text.iter_mut().zip(bytes) {
             *place = shown(alphabet.in_ascii(byte));
@@ -82,7 +80,9 @@ impl Text<'_> {
         for &range in self.ranges {
             self.put_address(b"RANGE { START $", range.first)?;
             self.put_address(b"; END $", range.last)?;
-            self.put(type_text(range.role))?;
+            self.put(b"; TYPE ")?;
+            self.put(type_text(range.role).as_bytes())?;
+            self.put(b"; }; # ")?;
             self.put_bytes(range.role, self.bytes(range))?;
             self.put_orphans(range)?;
             self.put(b"\n")?;
