@@ -29,8 +29,8 @@ pub struct Change {
 
 /// What is compared, what has only moved, and what differs.
 #[derive(Drop)]
-struct Search<'c, 's, 't, 'l, 'n> {
-    scene: &'c Scene<'s, 't, 'l, 'n>,
+struct Search<'c, 's, 'a, 't, 'l, 'n> {
+    scene: &'c Scene<'s, 'a, 't, 'l, 'n>,
     moved: &'c Moved,
     /// The addresses in the names of the labels, sorted.
     named: Vec<u64>,
@@ -70,7 +70,7 @@ fn are_marked(marks: &Marks, at: usize, end: usize) -> bool {
     true
 }
 
-impl<'c, 's, 't, 'l, 'n> Search<'c, 's, 't, 'l, 'n> {
+impl<'c, 's, 'a, 't, 'l, 'n> Search<'c, 's, 'a, 't, 'l, 'n> {
     /// An address as an offset in the image, up to its end.
     fn offset(&self, address: u64) -> Option<usize> {
         let offset = address.checked_sub(u64::from(self.scene.start()))? as usize;
@@ -235,7 +235,7 @@ impl<'c, 's, 't, 'l, 'n> Search<'c, 's, 't, 'l, 'n> {
 
 /// What differs, of the lines that give bytes, apart from what has only moved. Fails only if memory ran out.
 pub fn changes_in<'t>(
-    scene: &Scene<'_, 't, '_, '_>,
+    scene: &Scene<'_, '_, 't, '_, '_>,
     lines: &[Placed<'t>],
     moved: &Moved,
 ) -> Result<Vec<Change>, AllocError> {

@@ -13,10 +13,10 @@ use std::alloc::Global;
 
 /// Compares an image with the bytes of a listing, and writes where they differ, and before that where labels leave the
 /// address in their name. Both begin at the same address.
-pub fn compare<'s, W: Sink>(
+pub fn compare<W: Sink>(
     alloc: Global,
-    image: &'s Image,
-    assembled: &'s Listed<'s, '_, '_, '_>,
+    image: &Image,
+    assembled: &Listed<'_, '_, '_, '_>,
     out: &mut W,
 ) -> Result<Ended, Failure>
     /// Returns that nothing differs exactly if the bytes of the image are those that the listing means; then it

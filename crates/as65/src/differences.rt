@@ -79,7 +79,7 @@ pub(crate) fn put_lengths(out: &mut Vec<u8>, had: usize, has: usize) -> Result<(
 
 /// A line for each stretch of bytes that differ, and one for lengths that differ.
 #[tactic(auto, using(crate::proofs::PassingLemmas::passing))]
-fn byte_differences(scene: &Scene<'_, '_, '_, '_>) -> Result<Vec<u8>, AllocError>
+fn byte_differences(scene: &Scene<'_, '_, '_, '_, '_>) -> Result<Vec<u8>, AllocError>
     ensures { IfOk result (λ text. AreDifferences scene.now text.items) }
 {
     let (old, new) = (scene.image(), scene.bytes());
@@ -100,10 +100,10 @@ fn byte_differences(scene: &Scene<'_, '_, '_, '_>) -> Result<Vec<u8>, AllocError
 /// The lines that say where an image and a listing differ: one for each label at which the distance from the address in
 /// its name changes; one for each stretch of bytes, and one for lengths that differ. If there are lines of labels, what
 /// has only moved with them is left out.
-pub fn differences<'s>(
+pub fn differences(
     alloc: Global,
-    image: &'s Image,
-    assembled: &'s Listed<'s, '_, '_, '_>,
+    image: &Image,
+    assembled: &Listed<'_, '_, '_, '_>,
 ) -> Result<Vec<u8>, AllocError>
     /// The text begins with a line for each label `LXXXX` at which the distance from $XXXX changes, in order. If
     /// there is none, the rest has one line for each stretch, in order: its address, at most eight bytes of the

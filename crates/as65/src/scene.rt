@@ -51,7 +51,7 @@ pub struct Moved {
 
 /// What is compared.
 #[derive(Drop)]
-pub struct Scene<'s, 't, 'l, 'n> {
+pub struct Scene<'s, 'a, 't, 'l, 'n> {
     alloc: Global,
     start: u16,
     image: &'s [u8],
@@ -59,10 +59,10 @@ pub struct Scene<'s, 't, 'l, 'n> {
     source: &'s Source<'t, 'l, 'n>,
     ends: Vec<u64>,
     labels: Vec<Label>,
-    names: &'s Symbols<'t, &'s Global>,
+    names: &'s Symbols<'t, &'a Global>,
 }
 
-impl<'s, 't, 'l, 'n> Model for Scene<'s, 't, 'l, 'n> {
+impl<'s, 'a, 't, 'l, 'n> Model for Scene<'s, 'a, 't, 'l, 'n> {
     ghost use Rattle.text65.specs.Lines.{text_lines};
     ghost use Rattle.as65.specs.Compared.{Compared};
 
@@ -161,13 +161,13 @@ fn earlier_value(labels: &[Label], name: Definition<'_>, by_later: bool) -> Opti
     }
 }
 
-impl<'s, 't, 'l, 'n> Scene<'s, 't, 'l, 'n> {
+impl<'s, 'a, 't, 'l, 'n> Scene<'s, 'a, 't, 'l, 'n> {
     /// The image and the listing. Fails only if memory ran out.
     pub fn new(
         alloc: Global,
         image: &'s Image,
-        assembled: &'s Listed<'s, 't, 'l, 'n>,
-    ) -> Result<Scene<'s, 't, 'l, 'n>, AllocError>
+        assembled: &'s Listed<'a, 't, 'l, 'n>,
+    ) -> Result<Scene<'s, 'a, 't, 'l, 'n>, AllocError>
         ensures scene { IfOk result (λ scene.
             scene ≡ compared image.entry.now assembled.entry.now) }
         ensures moves { IfOk result (λ scene. moves_in scene.labels ≡ assembled.entry.now.moves) }

@@ -52,7 +52,7 @@ fn differ_at_ends(image: &[u8], bytes: &[u8], change: Change) -> bool
 }
 
 /// Whether a change lies in both, and its ends differ.
-fn is_change(scene: &Scene<'_, '_, '_, '_>, change: Change) -> bool
+fn is_change(scene: &Scene<'_, '_, '_, '_, '_>, change: Change) -> bool
     ensures { IsTrue result → IsChange scene.now change }
 {
     let (image, bytes) = (scene.image(), scene.bytes());
@@ -83,7 +83,7 @@ fn has_old_byte(changes: &[Change], place: usize, at: usize) -> bool
 
 /// Whether the byte of the listing at an offset has only moved, or lies in the next change or the last one.
 fn is_known_byte(
-    scene: &Scene<'_, '_, '_, '_>,
+    scene: &Scene<'_, '_, '_, '_, '_>,
     changes: &[Change],
     moved: &Moved,
     next: usize,
@@ -107,7 +107,7 @@ fn is_known_byte(
 
 /// Whether a byte has moved from an offset of the image, or it lies in the next change or the last one.
 fn is_known_old_byte(
-    scene: &Scene<'_, '_, '_, '_>,
+    scene: &Scene<'_, '_, '_, '_, '_>,
     changes: &[Change],
     moved: &Moved,
     next: usize,
@@ -150,7 +150,7 @@ fn after(at: usize, len: usize) -> usize
 
 /// The byte of the listing at an offset as a change, which takes the place of no byte of the image.
 #[tactic(auto, using(crate::proofs::ShownLemmas::put_in))]
-fn put_in(scene: &Scene<'_, '_, '_, '_>, at: usize) -> Change
+fn put_in(scene: &Scene<'_, '_, '_, '_, '_>, at: usize) -> Change
     requires { at < length scene.now.bytes }
     ensures change { IsChange scene.now result }
     ensures from { result.is.at ≤ at }
@@ -169,7 +169,7 @@ fn put_in(scene: &Scene<'_, '_, '_, '_>, at: usize) -> Change
 /// The bytes of the image from an offset on, up to the first from which a byte has moved, as a change, in whose place
 /// the listing has none.
 #[tactic(auto, using(crate::proofs::ShownLemmas::taken_out))]
-fn taken_out(scene: &Scene<'_, '_, '_, '_>, sources: &Marks, at: usize) -> Change
+fn taken_out(scene: &Scene<'_, '_, '_, '_, '_>, sources: &Marks, at: usize) -> Change
     requires { at < length scene.now.image }
     ensures change { IsChange scene.now result }
     ensures from { result.was.at ≤ at }
@@ -188,7 +188,7 @@ fn taken_out(scene: &Scene<'_, '_, '_, '_>, sources: &Marks, at: usize) -> Chang
 /// Adds a change for the byte of the listing at an offset, unless it is known.
 #[tactic(auto, using(crate::proofs::ShownLemmas::byte_known))]
 fn know_byte(
-    scene: &Scene<'_, '_, '_, '_>,
+    scene: &Scene<'_, '_, '_, '_, '_>,
     changes: &mut Vec<Change>,
     moved: &Moved,
     next: usize,
@@ -211,7 +211,7 @@ fn know_byte(
 /// Adds a change for the bytes of the image from an offset on, unless the first of them is known.
 #[tactic(auto, using(crate::proofs::ShownLemmas::old_known))]
 fn know_old_byte(
-    scene: &Scene<'_, '_, '_, '_>,
+    scene: &Scene<'_, '_, '_, '_, '_>,
     changes: &mut Vec<Change>,
     moved: &Moved,
     next: usize,
@@ -249,7 +249,7 @@ fn passed_old(changes: &[Change], from: usize, at: usize) -> usize {
 
 /// Those of the changes that are some.
 #[tactic(auto, using(crate::proofs::ShownLemmas::known_none, crate::proofs::ShownLemmas::known_more))]
-fn sound(scene: &Scene<'_, '_, '_, '_>, found: &[Change]) -> Result<Vec<Change>, AllocError>
+fn sound(scene: &Scene<'_, '_, '_, '_, '_>, found: &[Change]) -> Result<Vec<Change>, AllocError>
     ensures { IfOk result (λ all. AreKnown scene.now all.items 0 0) }
 {
     let mut all = Vec::new(scene.alloc());
@@ -263,7 +263,7 @@ fn sound(scene: &Scene<'_, '_, '_, '_>, found: &[Change]) -> Result<Vec<Change>,
 
 /// Adds what the changes leave out of the listing.
 fn know_bytes(
-    scene: &Scene<'_, '_, '_, '_>,
+    scene: &Scene<'_, '_, '_, '_, '_>,
     changes: &mut Vec<Change>,
     moved: &Moved,
 ) -> Result<(), AllocError>
@@ -282,7 +282,7 @@ fn know_bytes(
 
 /// Adds what the changes leave out of the image.
 fn know_old_bytes(
-    scene: &Scene<'_, '_, '_, '_>,
+    scene: &Scene<'_, '_, '_, '_, '_>,
     changes: &mut Vec<Change>,
     moved: &Moved,
 ) -> Result<(), AllocError>
@@ -300,7 +300,7 @@ fn know_old_bytes(
 
 /// The changes that were found, and what they leave out.
 fn completed(
-    scene: &Scene<'_, '_, '_, '_>,
+    scene: &Scene<'_, '_, '_, '_, '_>,
     found: &[Change],
     moved: &Moved,
 ) -> Result<Vec<Change>, AllocError>
@@ -316,7 +316,7 @@ fn completed(
 }
 
 /// All changes. Fails only if memory ran out.
-fn all_changes(scene: &Scene<'_, '_, '_, '_>) -> Result<Vec<Change>, AllocError>
+fn all_changes(scene: &Scene<'_, '_, '_, '_, '_>) -> Result<Vec<Change>, AllocError>
     ensures { IfOk result (λ all. AreComplete scene.now all.items) }
 {
     let lines = scene.lines()?;
@@ -337,7 +337,7 @@ fn part(bytes: &[u8], stretch: Stretch) -> &[u8]
 }
 
 /// The address of a change in the image.
-fn old_address_of(scene: &Scene<'_, '_, '_, '_>, change: Change) -> usize
+fn old_address_of(scene: &Scene<'_, '_, '_, '_, '_>, change: Change) -> usize
     requires { IsChange scene.now change }
     ensures { result ≡ scene.now.start + change.was.at }
 {
@@ -346,7 +346,7 @@ fn old_address_of(scene: &Scene<'_, '_, '_, '_>, change: Change) -> usize
 }
 
 /// The number of a line, from 1.
-fn number_of(scene: &Scene<'_, '_, '_, '_>, reached: Reached<'_>) -> usize
+fn number_of(scene: &Scene<'_, '_, '_, '_, '_>, reached: Reached<'_>) -> usize
     requires { reached.above ≤ length scene.now.ends }
     ensures { result ≡ reached.entry.above + 1 }
 {
@@ -358,7 +358,7 @@ fn number_of(scene: &Scene<'_, '_, '_, '_>, reached: Reached<'_>) -> usize
 #[tactic(auto, using(crate::proofs::ShownLemmas::above_within))]
 fn put_change_line(
     out: &mut Vec<u8>,
-    scene: &Scene<'_, '_, '_, '_>,
+    scene: &Scene<'_, '_, '_, '_, '_>,
     reached: Reached<'_>,
     change: Change,
 ) -> Result<(), AllocError>
@@ -377,7 +377,7 @@ fn put_change_line(
 }
 
 /// The address of the byte whose line is shown with a change.
-fn address_of(scene: &Scene<'_, '_, '_, '_>, change: Change) -> u64
+fn address_of(scene: &Scene<'_, '_, '_, '_, '_>, change: Change) -> u64
     requires { IsChange scene.now change }
     ensures { result ≡ scene.now.start + place_of scene.now change }
 {
@@ -388,7 +388,7 @@ fn address_of(scene: &Scene<'_, '_, '_, '_>, change: Change) -> u64
 /// The line of the byte at an address, from that of another byte on if the address is not below its.
 #[tactic(auto, using(crate::proofs::PassingLemmas::passing))]
 fn reached_at<'t>(
-    scene: &Scene<'_, 't, '_, '_>,
+    scene: &Scene<'_, '_, 't, '_, '_>,
     reached: Reached<'t>,
     last: u64,
     address: u64,
@@ -407,7 +407,7 @@ fn reached_at<'t>(
 /// Appends a line for each change.
 fn put_changes(
     out: &mut Vec<u8>,
-    scene: &Scene<'_, '_, '_, '_>,
+    scene: &Scene<'_, '_, '_, '_, '_>,
     changes: &[Change],
 ) -> Result<(), AllocError>
     requires { All (IsChange scene.now) changes.now }
@@ -428,7 +428,7 @@ fn put_changes(
 /// The lines that say what differs, apart from what has only moved; and one for lengths that differ. Each has the
 /// address in the image, the bytes there, those of the listing, and the line that gives the first of them, or the byte
 /// after them. Fails only if memory ran out.
-pub fn changes(scene: &Scene<'_, '_, '_, '_>) -> Result<Vec<u8>, AllocError>
+pub fn changes(scene: &Scene<'_, '_, '_, '_, '_>) -> Result<Vec<u8>, AllocError>
     ensures { IfOk result (λ text. AreChanges scene.now text.items) }
 {
     let changes = all_changes(scene)?;
