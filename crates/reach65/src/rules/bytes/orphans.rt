@@ -75,6 +75,9 @@ fn unled_words(
 ) -> Result<Vec<(u16, usize)>, AllocError> {
     let (start, alloc) = (ground.image.start(), survey.steps.alloc());
     let mut found = Vec::new(alloc);
+    if words.is_empty() {
+        return Ok(found);
+    }
     let (mut once, mut twice, mut often) = (
         Marks::none(alloc)?,
         Marks::none(alloc)?,
