@@ -257,6 +257,14 @@ def test_as65(as65, shows, text, limit, name):
     shows(limit, ours, theirs)
 
 
+def test_as65_compares(as65, count, times):
+    for end, data in files("moved", "", count).items():
+        write(f"a.{end}", data)
+    assembled = instructions(as65.path, "-S 0 -o out.bin a.s")
+    compared = instructions(as65.path, "-S 0 --compare a.bin a.s", 1)
+    assert compared <= times * assembled, f"{compared} instructions, more than {times} times {assembled}"
+
+
 def test_name65(name65, shows, text, limit, name, words, step):
     write("a.s", text(name))
     pairs = [f"#: HALVES {{ LOW ${4 * n + 1:04X}; HIGH ${4 * n + 3:04X}; }};\n"
