@@ -9,7 +9,7 @@ use reach65::rules::bytes::copies::{Copied, copies_of};
 use reach65::rules::bytes::firsts::mark_firsts;
 use reach65::rules::bytes::ground::Ground;
 use reach65::rules::bytes::items::items_of;
-use reach65::rules::bytes::labels::labels_of;
+use reach65::rules::bytes::labels::{Addressed, labels_of};
 use reach65::rules::bytes::links::mark_links;
 use reach65::rules::bytes::loads::{mark_calls, mark_loaded};
 use reach65::rules::bytes::orphans::mark_orphans;
@@ -112,9 +112,7 @@ fn ground_of<'a>(
     pairs: &[Pair],
 ) -> Result<(Ground<'a>, Vec<Split>, Vec<u16>), AllocError> {
     let alloc = survey.steps.alloc();
-    let numbers = said.copy(alloc)?;
-    let texts = survey.texts.copy(alloc)?;
-    let mut ground = Ground::of(alloc, survey.steps.image(), reach.taken, numbers, texts)?;
+    let mut ground = Ground::of(survey, reach.taken, said.copy(alloc)?)?;
     ground.put_vectors(reach.reached);
     let splits = mark_tables(&mut ground, survey, &reach.followed.tables)?;
     for &at in &reach.followed.words {
@@ -202,13 +200,13 @@ impl<'a> Advice<'a> {
         let mut bases = bases_of(&survey)?;
         let copies = &addresses.copies;
         bases.retain(|base| !copies.iter().any(|copied| copied.reader == base.reader));
-        let labels = labels_of(
-            &survey,
-            &addresses.pairs,
-            &addresses.variables.addresses,
-            &bases,
-            [&data.splits, &data.declared],
-        )?;
+        let addressed = Addressed {
+            pairs: &addresses.pairs,
+            variables: &addresses.variables.addresses,
+            bases: &bases,
+            tables: [&data.splits, &data.declared],
+        };
+        let labels = labels_of(&survey, addressed)?;
         Ok(Advice {
             steps,
             reach,

@@ -45,6 +45,13 @@ impl Read {
         Ok(Read { bytes, info, tags })
     }
 
+    /// Reads what the information file says with these lines added to it.
+    fn with(&self, rt: &HostRuntime, options: &Options, lines: &[u8]) -> Result<Read, Failure> {
+        let mut bytes = Vec::from_slice(rt.alloc(), &self.bytes)?;
+        bytes.extend_from_slice(lines)?;
+        Read::of(rt, options, bytes)
+    }
+
     /// The text that is written of an image of this map.
     fn text(&self, rt: &HostRuntime, tracing: &Tracing, map: &Map<'_>) -> Result<Vec<u8>, Failure> {
         // What the file says without the names of its include files, if it has any.
@@ -71,24 +78,6 @@ impl Read {
     }
 }
 
-/// The text that is written where these lines are added to the information file.
-fn text_with(
-    rt: &HostRuntime,
-    tracing: &Tracing,
-    read: &Read,
-    image: &Image,
-    mut lines: Vec<u8>,
-) -> Result<Vec<u8>, Failure> {
-    let mut bytes = Vec::from_slice(rt.alloc(), &read.bytes)?;
-    bytes.extend_from_slice(&lines)?;
-    let text = Read::of(rt, &tracing.options, bytes)?.text_of(rt, tracing, image)?;
-    if tracing.whole {
-        return Ok(text);
-    }
-    lines.extend_from_slice(&text)?;
-    Ok(lines)
-}
-
 /// The text that is written of what is read. What stands behind calls, and what a line of BASIC calls, is added to the
 /// information file before the rest is found.
 fn text_of(
@@ -98,13 +87,20 @@ fn text_of(
     image: &Image,
 ) -> Result<Vec<u8>, Failure> {
     let map = Map::build(rt.alloc(), &read.info, image)?;
-    if !tracing.plain {
-        let lines = lines_of(rt.alloc(), &map, &read.tags, &tracing.entries)?;
-        if !lines.is_empty() {
-            return text_with(rt, tracing, read, image, lines);
-        }
+    if tracing.plain {
+        return read.text(rt, tracing, &map);
     }
-    read.text(rt, tracing, &map)
+    let mut lines = lines_of(rt.alloc(), &map, &read.tags, &tracing.entries)?;
+    if lines.is_empty() {
+        return read.text(rt, tracing, &map);
+    }
+    let read = read.with(rt, &tracing.options, &lines)?;
+    let text = read.text_of(rt, tracing, image)?;
+    if tracing.whole {
+        return Ok(text);
+    }
+    lines.extend_from_slice(&text)?;
+    Ok(lines)
 }
 
 /// The text that is written.

@@ -209,7 +209,6 @@ fn all_ranges(alloc: Global, found: &Findings) -> Result<Vec<RangeSpec>, AllocEr
 /// Reads back the information file with what is found after it. Returns where the reached instructions begin that its
 /// listing does not show, and all of that text with the comment on these.
 fn unshown_with(
-    alloc: Global,
     options: &Options,
     file: &InfoFile<'_>,
     steps: &Steps<'_, '_>,
@@ -220,6 +219,7 @@ fn unshown_with(
     ensures text { IfOk result (λ r.
         r.1.items ≡ file.now.bytes.now ++ proposals found.now r.0.items) }
 {
+    let alloc = steps.alloc();
     let mut text = Vec::from_slice(alloc, file.bytes)?;
     text.extend_from_slice(&found.proposed.text)?;
     let ranges = all_ranges(alloc, found)?;
@@ -286,7 +286,7 @@ pub fn report_of(
 {
     let steps = Steps::of(alloc, map, file.tags)?;
     let found = find(alloc, &steps, tracing)?;
-    let (unshown, text) = unshown_with(alloc, &tracing.options, file, &steps, &found)?;
+    let (unshown, text) = unshown_with(&tracing.options, file, &steps, &found)?;
     need_groups(alloc, &text)?;
     let text = written(alloc, tracing.whole, file, text)?;
     Ok(Report {

@@ -2,10 +2,11 @@
 
 ghost use Rattle.std.specs.Prelude.{◌≤◌};
 
+use crate::rules::bytes::survey::Survey;
 use crate::rules::entries::starts::has_vectors;
 use crate::rules::image::{ends, word};
 use map65::{ADDRESSES, Image, Marks, is_inside};
-use std::alloc::{AllocError, Global};
+use std::alloc::AllocError;
 
 /// An image, and marks of its addresses.
 #[derive(Drop)]
@@ -35,14 +36,14 @@ fn clear_span(marks: &mut Marks, from: usize, to: usize) {
 }
 
 impl<'i> Ground<'i> {
-    /// Returns an image without words, of which these bytes are halves of addresses, and texts are known to begin here.
+    /// Returns the image of reached code, without words, of which these bytes are halves of addresses.
     pub fn of(
-        alloc: Global,
-        image: &'i Image,
+        survey: &Survey<'i>,
         taken: &'i Marks,
         numbers: Marks,
-        texts: Marks,
     ) -> Result<Ground<'i>, AllocError> {
+        let (alloc, image) = (survey.steps.alloc(), survey.steps.image());
+        let texts = survey.texts.copy(alloc)?;
         let mut plain = Marks::none(alloc)?;
         let (start, end) = ends(image);
         let (mut first, mut last) = (None, start);

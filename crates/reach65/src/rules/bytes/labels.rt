@@ -35,19 +35,29 @@ fn named_of(steps: &Steps<'_>) -> Result<Marks, AllocError> {
     Ok(marks)
 }
 
+/// What has addresses that may get labels.
+#[derive(Clone, Copy)]
+pub struct Addressed<'a> {
+    pub pairs: &'a [Pair],
+    pub variables: &'a [u16],
+    pub bases: &'a [Base],
+    /// The tables of halves, and the halves of the information file.
+    pub tables: [&'a [Split]; 2],
+}
+
 /// Returns the addresses that get labels, in order: of the pairs and the variables, of the tables from which operands
 /// are counted, in tables of halves, and those that groups HALVES and BASE give by themselves, but for those that a
 /// name of the file covers, and those that are no variable right before an address with a name or a group ENTRY: these
 /// are rather that name less one.
-pub fn labels_of(
-    survey: &Survey<'_>,
-    pairs: &[Pair],
-    variables: &[u16],
-    bases: &[Base],
-    tables: [&[Split]; 2],
-) -> Result<Vec<u16>, AllocError> {
+pub fn labels_of(survey: &Survey<'_>, addressed: Addressed<'_>) -> Result<Vec<u16>, AllocError> {
     let steps = survey.steps;
     let info = steps.map().info();
+    let Addressed {
+        pairs,
+        variables,
+        bases,
+        tables,
+    } = addressed;
     let mut wanted = Vec::from_slice(steps.alloc(), variables)?;
     for base in bases {
         wanted.push(base.table)?;

@@ -122,15 +122,21 @@ fn leading(ground: &Ground<'_>, texts: &Marks, at: usize) -> Option<u16> {
     (texts.get(word) && ground.is_plain(usize::from(word))).then_some(word)
 }
 
-/// How many words stand at this distance from each other, from the address on, that are where texts begin, each of
-/// another text than the one before.
-fn count_apart(ground: &Ground<'_>, texts: &Marks, span: (usize, usize), apart: usize) -> usize
-    requires { 0 < apart }
+/// Where the words of a row may stand: at this distance from each other, from an address to before another one.
+#[derive(Clone, Copy)]
+struct Places {
+    from: usize,
+    end: usize,
+    apart: usize,
+}
+
+/// How many words stand there that are where texts begin, each of another text than the one before.
+fn count_apart(ground: &Ground<'_>, texts: &Marks, places: Places) -> usize
+    requires { 0 < places.apart }
 {
-    let (from, end) = span;
     let mut before = None;
     let mut count = 0usize;
-    for at in (from..end).step_by(apart) {
+    for at in (places.from..places.end).step_by(places.apart) {
         let word = leading(ground, texts, at);
         if word.is_none() || word == before {
             break;
@@ -141,30 +147,30 @@ fn count_apart(ground: &Ground<'_>, texts: &Marks, span: (usize, usize), apart: 
     count
 }
 
-/// As `count_apart`, for words that all differ. `seen` has none of them before and after.
-fn count_different(
-    ground: &Ground<'_>,
-    texts: &Marks,
-    seen: &mut Marks,
-    span: (usize, usize),
-    apart: usize,
-) -> usize
-    requires { 0 < apart }
+/// Clears the marks of that many words that stand there.
+fn forget(seen: &mut Marks, image: &Image, places: Places, count: usize)
+    requires { 0 < places.apart }
 {
-    let (from, end) = span;
+    for at in (places.from..places.end).step_by(places.apart).take(count) {
+        if let Some(word) = word(image, at) {
+            seen.clear(word);
+        }
+    }
+}
+
+/// As `count_apart`, for words that all differ. `seen` has none of them before and after.
+fn count_different(ground: &Ground<'_>, texts: &Marks, seen: &mut Marks, places: Places) -> usize
+    requires { 0 < places.apart }
+{
     let mut count = 0usize;
-    for at in (from..end).step_by(apart) {
+    for at in (places.from..places.end).step_by(places.apart) {
         match leading(ground, texts, at) {
             Some(word) if !seen.get(word) => seen.set(word),
             _ => break,
         }
         count = count.saturating_add(1);
     }
-    for at in (from..end).step_by(apart).take(count) {
-        if let Some(word) = word(ground.image, at) {
-            seen.clear(word);
-        }
-    }
+    forget(seen, ground.image, places, count);
     count
 }
 
@@ -189,18 +195,11 @@ fn leading_inside(ground: &Ground<'_>, texts: &Marks, at: usize) -> Option<u16> 
 }
 
 /// As `count_different`, but that a third of the words may lead into texts.
-fn count_mixed(
-    ground: &Ground<'_>,
-    texts: &Marks,
-    seen: &mut Marks,
-    span: (usize, usize),
-    apart: usize,
-) -> usize
-    requires { 0 < apart }
+fn count_mixed(ground: &Ground<'_>, texts: &Marks, seen: &mut Marks, places: Places) -> usize
+    requires { 0 < places.apart }
 {
-    let (from, end) = span;
     let (mut count, mut inside) = (0usize, 0usize);
-    for at in (from..end).step_by(apart) {
+    for at in (places.from..places.end).step_by(places.apart) {
         let mut word = leading(ground, texts, at);
         if word.is_none() {
             word = leading_inside(ground, texts, at);
@@ -212,11 +211,7 @@ fn count_mixed(
         }
         count = count.saturating_add(1);
     }
-    for at in (from..end).step_by(apart).take(count) {
-        if let Some(word) = word(ground.image, at) {
-            seen.clear(word);
-        }
-    }
+    forget(seen, ground.image, places, count);
     if inside.saturating_mul(3) <= count {
         count
     } else {
@@ -310,32 +305,24 @@ impl Row {
     }
 }
 
-/// How many words a row has that begins at the address, at this distance from each other. The first one leads to a
-/// text.
-fn row_count(
-    ground: &Ground<'_>,
-    found: &Beginnings,
-    seen: &mut Marks,
-    span: (usize, usize),
-    apart: usize,
-) -> usize
-    requires { 0 < apart }
+/// How many words a row has that stands there. The first one leads to a text.
+fn row_count(ground: &Ground<'_>, found: &Beginnings, seen: &mut Marks, places: Places) -> usize
+    requires { 0 < places.apart }
 {
-    let (from, _) = span;
-    let next = from.saturating_add(apart);
+    let next = places.from.saturating_add(places.apart);
     let mut count = 0;
     if leading(ground, &found.texts, next).is_some() {
-        count = count_apart(ground, &found.texts, span, apart);
+        count = count_apart(ground, &found.texts, places);
     }
     let begins = leading(ground, &found.any, next).is_some();
     if count < ROW && begins {
-        count = count_different(ground, &found.any, seen, span, apart);
+        count = count_different(ground, &found.any, seen, places);
     }
-    if found.named.get_at(from)
-        && apart <= CLOSE
+    if found.named.get_at(places.from)
+        && places.apart <= CLOSE
         && (begins || leading_inside(ground, &found.any, next).is_some())
     {
-        count = count.max(count_mixed(ground, &found.any, seen, span, apart));
+        count = count.max(count_mixed(ground, &found.any, seen, places));
     }
     count
 }
@@ -373,7 +360,8 @@ pub fn mark_pointers(
             continue;
         }
         for apart in 2..=APART {
-            let count = row_count(ground, &beginnings, &mut seen, (from, end), apart);
+            let places = Places { from, end, apart };
+            let count = row_count(ground, &beginnings, &mut seen, places);
             if ROW <= count {
                 for at in (from..end).step_by(apart).take(count) {
                     ground.put_words(0, at, at.saturating_add(2));

@@ -15,7 +15,8 @@ fn is_leading(ground: &Ground<'_>, survey: &Survey<'_>, less: u16, at: usize) ->
 
 /// How many words a row has that begins at the address: each is the address of a routine, less so much, and there are
 /// three at least.
-fn row_len(ground: &Ground<'_>, survey: &Survey<'_>, less: u16, from: usize, end: usize) -> usize {
+fn row_len(ground: &Ground<'_>, survey: &Survey<'_>, less: u16, from: usize) -> usize {
+    let (_, end) = ends(ground.image);
     let words = (from..end).step_by(2);
     let count = words
         .take_while(|at| is_leading(ground, survey, less, *at))
@@ -31,14 +32,14 @@ fn leads(ground: &Ground<'_>, survey: &Survey<'_>, less: u16, at: usize) -> bool
     })
 }
 
-/// Marks the words of a row of so many at the address, and those right behind and right before them that lead to code.
-fn put_row(
-    ground: &mut Ground<'_>,
-    survey: &Survey<'_>,
-    less: u16,
-    (start, from, end): (usize, usize, usize),
-    count: usize,
-) {
+/// Marks the words of the row that begins at the address, if one does, and those right behind and right before them that
+/// lead to code.
+fn put_row(ground: &mut Ground<'_>, survey: &Survey<'_>, less: u16, from: usize) {
+    let count = row_len(ground, survey, less, from);
+    if count == 0 {
+        return;
+    }
+    let (start, end) = ends(ground.image);
     let behind = from.saturating_add(count.saturating_mul(2));
     let more = (behind..end).step_by(2);
     let more = more
@@ -112,17 +113,11 @@ pub fn words_of(ground: &Ground<'_>, survey: &Survey<'_>) -> Result<Words, Alloc
 /// one, with the words beside them that lead to any code. The first two words of a row differ. `words` has where rows
 /// may begin.
 pub fn mark_rows(ground: &mut Ground<'_>, survey: &Survey<'_>, words: &[u16]) {
-    let (start, end) = ends(ground.image);
     for &first in words {
         let at = usize::from(first);
-        if word(ground.image, at) == word(ground.image, at.saturating_add(2)) {
-            continue;
-        }
-        for less in [0u16, 1] {
-            let count = row_len(ground, survey, less, at, end);
-            if 0 < count {
-                put_row(ground, survey, less, (start, at, end), count);
-            }
+        if word(ground.image, at) != word(ground.image, at.saturating_add(2)) {
+            put_row(ground, survey, 0, at);
+            put_row(ground, survey, 1, at);
         }
     }
 }

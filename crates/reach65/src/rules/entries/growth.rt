@@ -3,7 +3,7 @@
 use crate::rules::entries::declared::{addresses_of, declared_of};
 use crate::rules::entries::halves::{may_begin, pairs_at};
 use crate::rules::entries::obstacles::{Obstacle, worst_of};
-use crate::rules::entries::readers::Table;
+use crate::rules::entries::readers::{Table, tables_of};
 use crate::rules::entries::search::{Least, Search};
 use crate::rules::entries::sound::is_passed;
 use crate::rules::entries::starts::pointers_of;
@@ -148,7 +148,7 @@ impl Search<'_> {
     /// operand of a reached `bit`. Returns whether code begins there.
     fn join_entry(&mut self, to: u16, least: usize) -> Result<bool, AllocError> {
         let least = if self.code.get(to) { 1 } else { least };
-        Ok(self.marks.get(to) || self.join(to, Least::Count(least))?)
+        self.has(to, least)
     }
 
     /// Lets the sound beginnings join to which the entries of a table lead that reached code reads, up to one that
@@ -179,10 +179,9 @@ impl Search<'_> {
     /// Looks for the tables that reached code reads, unless nothing has joined since.
     fn read_tables(&mut self) -> Result<(), AllocError> {
         if self.tabled != self.joined.len() {
-            let left = &mut self.entries_left;
-            self.tables = self
-                .readers
-                .tables(self.steps, &self.marks, &self.code, left)?;
+            let mut left = self.entries_left;
+            self.tables = tables_of(self, &mut left)?;
+            self.entries_left = left;
             self.tabled = self.joined.len();
         }
         Ok(())

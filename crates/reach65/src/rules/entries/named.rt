@@ -1,7 +1,7 @@
 //! Words behind texts, one record behind the other, as names of commands with the routines that do them.
 
 use crate::rules::entries::growth::IN_TABLE;
-use crate::rules::entries::search::{Least, Search};
+use crate::rules::entries::search::Search;
 use crate::rules::entries::words::{DataWords, ROW, begins_code};
 use crate::rules::image::{address, byte, ends};
 use map65::{Image, Marks};
@@ -65,9 +65,7 @@ impl Search<'_> {
             let found = self.named_words(words, usize::from(from))?;
             for &(at, to) in &found {
                 seen.set(at);
-                if ROW <= found.len()
-                    && (self.marks.get(to) || self.join(to, Least::Count(IN_TABLE))?)
-                {
+                if ROW <= found.len() && self.has(to, IN_TABLE)? {
                     self.words.push(at)?;
                 }
             }

@@ -2,6 +2,7 @@
 
 use crate::rules::entries::growth::IN_TABLE;
 use crate::rules::entries::halves::stored_to;
+use crate::rules::entries::search::Search;
 use crate::rules::entries::sound::reads_on;
 use crate::rules::image::{address, byte};
 use crate::rules::{Placed, Step, Steps};
@@ -410,49 +411,43 @@ impl Readers {
         }
         Ok(())
     }
+}
 
-    /// Returns the tables that reached code reads, which has these bytes, each once, in order.
-    /// `left` is how many entries may still be looked at.
-    pub fn tables(
-        &self,
-        steps: &Steps<'_>,
-        reached: &Marks,
-        code: &Marks,
-        left: &mut usize,
-    ) -> Result<Vec<Table>, AllocError> {
-        let alloc = steps.alloc();
-        let (mut read, mut copies) = (Vec::new(alloc), Vec::new(alloc));
-        for &at in &self.readers {
-            if let Some(table) = self.table_at(steps, reached, at) {
-                read.push(table.number())?;
-            } else if let Some(copy) = copies_at(steps, reached, at) {
-                copies.push(copy)?;
-            }
+/// Returns the tables that reached code reads, each once, in order. `left` is how many entries may still be looked at.
+pub fn tables_of(search: &Search<'_>, left: &mut usize) -> Result<Vec<Table>, AllocError> {
+    let (steps, reached, readers) = (search.steps, &search.marks, &search.readers);
+    let alloc = steps.alloc();
+    let (mut read, mut copies) = (Vec::new(alloc), Vec::new(alloc));
+    for &at in &readers.readers {
+        if let Some(table) = readers.table_at(steps, reached, at) {
+            read.push(table.number())?;
+        } else if let Some(copy) = copies_at(steps, reached, at) {
+            copies.push(copy)?;
         }
-        self.put_copied(alloc, &mut read, &copies)?;
-        let read = in_order(read)?;
-        let (mut found, mut moved) = (Vec::with_capacity(alloc, read.len())?, Vec::new(alloc));
-        for &number in &read {
-            let table = Table::of_number(number);
-            let behind = table.behind(code, left);
-            let is_better = behind.low != table.low && behind.is_whole(steps, left);
-            let best = if is_better { behind } else { table };
-            let best = best.from_first(steps).of_records(steps).number();
-            if best == number {
-                found.push(best)?;
-            } else {
-                moved.push(best)?;
-            }
-        }
-        if !moved.is_empty() {
-            // Both are in order, which makes the sort quick.
-            found.extend_from_slice(&in_order(moved)?)?;
-            found = in_order(found)?;
-        }
-        let mut tables = Vec::with_capacity(alloc, found.len())?;
-        for &number in &found {
-            tables.push(Table::of_number(number))?;
-        }
-        Ok(tables)
     }
+    readers.put_copied(alloc, &mut read, &copies)?;
+    let read = in_order(read)?;
+    let (mut found, mut moved) = (Vec::with_capacity(alloc, read.len())?, Vec::new(alloc));
+    for &number in &read {
+        let table = Table::of_number(number);
+        let behind = table.behind(&search.code, left);
+        let is_better = behind.low != table.low && behind.is_whole(steps, left);
+        let best = if is_better { behind } else { table };
+        let best = best.from_first(steps).of_records(steps).number();
+        if best == number {
+            found.push(best)?;
+        } else {
+            moved.push(best)?;
+        }
+    }
+    if !moved.is_empty() {
+        // Both are in order, which makes the sort quick.
+        found.extend_from_slice(&in_order(moved)?)?;
+        found = in_order(found)?;
+    }
+    let mut tables = Vec::with_capacity(alloc, found.len())?;
+    for &number in &found {
+        tables.push(Table::of_number(number))?;
+    }
+    Ok(tables)
 }

@@ -379,6 +379,12 @@ impl<'a> Search<'a> {
         self.tries(address, least, true)
     }
 
+    /// Returns whether code begins at the address: it is marked, or it joins as a sound beginning of so many instructions
+    /// at least.
+    pub fn has(&mut self, address: u16, least: usize) -> Result<bool, AllocError> {
+        Ok(self.marks.get(address) || self.join(address, Least::Count(least))?)
+    }
+
     /// Returns whether the address is a sound beginning of so many instructions at least. The search is as before.
     pub fn would_join(&mut self, address: u16, least: Least) -> Result<bool, AllocError> {
         self.tries(address, least, false)

@@ -32,11 +32,15 @@ fn pointer_at(map: &Map<'_>, address: u16) -> Option<u16> {
 pub fn pointers_of(steps: &Steps<'_>) -> Result<Vec<u16>, AllocError> {
     let map = steps.map();
     let mut found = Vec::new(steps.alloc());
-    if map.info().ranges().is_empty() {
-        return Ok(found);
-    }
     let (start, end) = ends(map.image());
-    for at in start..end {
+    let (mut from, mut to) = (end, start);
+    for range in map.info().ranges() {
+        if matches!(range.role, RangeType::AddrTable | RangeType::RtsTable) {
+            from = from.min(usize::from(range.first));
+            to = to.max(usize::from(range.last) + 1);
+        }
+    }
+    for at in from.max(start)..to.min(end) {
         if let Some(address) = pointer_at(map, at as u16) {
             found.push(address)?;
         }

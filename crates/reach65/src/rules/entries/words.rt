@@ -89,6 +89,28 @@ pub fn begins_code(search: &mut Search<'_>, less: u16, address: u16) -> Result<b
     search.would_join(address, Least::Count(IN_TABLE))
 }
 
+/// Where the words of rows begin that are this much less than the addresses to which they lead.
+#[derive(Drop)]
+struct Rows {
+    less: u16,
+    marks: Marks,
+}
+
+impl Rows {
+    /// Marks that a word of a row begins there.
+    fn put(&mut self, at: usize) {
+        self.marks.set_span(at, at.saturating_add(1));
+    }
+}
+
+/// Returns what `Search::has` does of the address, if there is one.
+fn joins(search: &mut Search<'_>, to: Option<u16>, least: usize) -> Result<bool, AllocError> {
+    match to {
+        Some(to) => search.has(to, least),
+        None => Ok(false),
+    }
+}
+
 impl<'i> DataWords<'i> {
     /// Looks at an image of which these instructions are reached. What leads to the end of a routine is hopeful, as far
     /// as that is known from the instructions after it: few bytes of data do. That saves trials, and no more.
@@ -164,9 +186,8 @@ impl<'i> DataWords<'i> {
             return Ok(());
         }
         for &at in &self.fields {
-            if let Some(to) = self.target(search, 0, usize::from(at))
-                && (search.marks.get(to) || search.join(to, Least::Count(1))?)
-            {
+            let to = self.target(search, 0, usize::from(at));
+            if joins(search, to, 1)? {
                 search.words.push(at)?;
             }
         }
@@ -208,52 +229,35 @@ impl<'i> DataWords<'i> {
         Ok(false)
     }
 
-    /// Lets the sound beginning join to which the word at the address leads, of so many instructions at least. Marks
-    /// where the word begins, and returns whether it leads to code.
-    fn join_word(
-        &self,
-        search: &mut Search<'_>,
-        rows: &mut Marks,
-        less: u16,
-        at: usize,
-        least: usize,
-    ) -> Result<bool, AllocError> {
-        let Some(to) = self.target(search, less, at) else {
-            return Ok(false);
-        };
-        if !search.marks.get(to) && !search.join(to, Least::Count(least))? {
-            return Ok(false);
-        }
-        rows.set_span(at, at.saturating_add(1));
-        Ok(true)
-    }
-
     /// Lets the sound beginnings among the words of a row join, up to one that leads to no code, and among those before
     /// it. Behind the first three, and before them, code of any length counts. Marks where the words begin.
     fn join_row(
         &self,
         search: &mut Search<'_>,
-        rows: &mut Marks,
-        less: u16,
+        rows: &mut Rows,
         from: usize,
     ) -> Result<(), AllocError> {
         let (start, end) = ends(self.image);
         let sure = from.saturating_add(2 * ROW);
         for at in (from..end).step_by(2) {
             let least = if at < sure { IN_TABLE } else { 1 };
-            if !self.join_word(search, rows, less, at, least)? {
+            let to = self.target(search, rows.less, at);
+            if !joins(search, to, least)? {
                 if at < sure {
                     return Ok(());
                 }
                 break;
             }
+            rows.put(at);
         }
         let mut at = from;
         for _ in start..from {
             at = at.saturating_sub(2);
-            if at < start || !self.join_word(search, rows, less, at, 1)? {
+            let to = self.target(search, rows.less, at);
+            if at < start || !joins(search, to, 1)? {
                 break;
             }
+            rows.put(at);
         }
         Ok(())
     }
@@ -261,11 +265,12 @@ impl<'i> DataWords<'i> {
     /// Lets the sound beginnings among the words of rows join.
     pub fn join_rows(&self, search: &mut Search<'_>) -> Result<(), AllocError> {
         for less in [0u16, 1] {
-            let mut rows = Marks::none(search.steps.alloc())?;
+            let marks = Marks::none(search.steps.alloc())?;
+            let mut rows = Rows { less, marks };
             for &at in &self.worth {
                 let from = usize::from(at);
-                if !rows.get(at) && self.begins_row(search, less, from)? {
-                    self.join_row(search, &mut rows, less, from)?;
+                if !rows.marks.get(at) && self.begins_row(search, less, from)? {
+                    self.join_row(search, &mut rows, from)?;
                 }
             }
         }
