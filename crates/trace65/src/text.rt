@@ -1,5 +1,6 @@
 //! What is found of an image, as text of an information file: comments, groups, and lines `#: ..`.
 
+mod beside;
 mod calls;
 mod likely;
 mod misplaced;
@@ -81,6 +82,9 @@ impl<'a> Text<'a> {
         self.put_words()?;
         self.put_firsts()?;
         self.put_cells()?;
+        self.put_beside()?;
+        self.put_jumps()?;
+        self.put_zeros()?;
         self.put_bases()?;
         self.put_digits()?;
         self.put_unreached()?;

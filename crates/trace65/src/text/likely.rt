@@ -7,8 +7,8 @@ use map65::is_inside;
 use reach65::rules::image::{byte, word};
 use std::alloc::AllocError;
 
-/// Whether the address is that of a routine, or that of a name, in the image.
-fn is_meant(advice: &Advice<'_>, address: u16) -> bool {
+/// Returns whether the address is that of a routine, or that of a name, in the image.
+pub fn is_meant(advice: &Advice<'_>, address: u16) -> bool {
     let map = advice.steps.map();
     let at = usize::from(address);
     let name = map.info().covering(address);
