@@ -293,8 +293,8 @@ impl Text<'_> {
         Ok(())
     }
 
-    /// Adds a comment for each stretch of words in bytes of which each is zero or the address of other such bytes, if so
-    /// many of them rise that chance has no part in it.
+    /// Adds a comment for each stretch of words in bytes of which each is zero or the address of other such bytes, if
+    /// so many of them rise that chance has no part in it.
     pub fn put_zeros(&mut self) -> Result<(), AllocError> {
         let Some(least) = self.least() else {
             return Ok(());

@@ -32,8 +32,8 @@ fn leads(ground: &Ground<'_>, survey: &Survey<'_>, less: u16, at: usize) -> bool
     })
 }
 
-/// Marks the words of the row that begins at the address, if one does, and those right behind and right before them that
-/// lead to code.
+/// Marks the words of the row that begins at the address, if one does, and those right behind and before them that lead
+/// to code.
 fn put_row(ground: &mut Ground<'_>, survey: &Survey<'_>, less: u16, from: usize) {
     let count = row_len(ground, survey, less, from);
     if count == 0 {

@@ -379,8 +379,7 @@ impl<'a> Search<'a> {
         self.tries(address, least, true)
     }
 
-    /// Returns whether code begins at the address: it is marked, or it joins as a sound beginning of so many instructions
-    /// at least.
+    /// Returns whether code begins at the address: it is marked, or joins as a sound beginning of so many instructions.
     pub fn has(&mut self, address: u16, least: usize) -> Result<bool, AllocError> {
         Ok(self.marks.get(address) || self.join(address, Least::Count(least))?)
     }
