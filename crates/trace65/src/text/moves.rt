@@ -6,7 +6,7 @@ use reach65::rules::image::ends;
 use std::alloc::AllocError;
 use text65::put_address;
 
-/// How many instructions that have far operands are told.
+/// How many instructions are told that have operands behind the image.
 const TOLD: usize = 256;
 
 /// How many of them stand in a line.
@@ -99,7 +99,7 @@ impl Text<'_> {
     }
 
     /// Adds a comment for operands that would be variables if the file had no name there, and that lie behind what is
-    /// proposed, unless the file says what lies after the image.
+    /// proposed, with the instructions that have them, unless the file says what lies after the image.
     pub fn put_named(&mut self) -> Result<(), AllocError> {
         let variables = &self.advice.addresses.variables;
         let proposed = self.last_after().unwrap_or(0);
@@ -114,7 +114,8 @@ impl Text<'_> {
             self.put_name(variables.name_at)?;
             self.put(b" has a name: ")?;
             self.put_span(last)?;
-            self.put(b"?\n")?;
+            self.put(b"?")?;
+            self.put_users(rest)?;
         }
         Ok(())
     }
@@ -147,7 +148,6 @@ impl Text<'_> {
         let (Some(&first), Some(&last)) = (far.first(), far.last()) else {
             return Ok(());
         };
-        let advice = self.advice;
         self.put_address(b"# the operands $", first)?;
         self.put_address(b" to $", last)?;
         self.put_decimal(b" lie ", usize::from(first).saturating_sub(end))?;
@@ -155,10 +155,18 @@ impl Text<'_> {
         self.put(b": ")?;
         self.put_span(last)?;
         self.put(b"?")?;
+        self.put_users(far)
+    }
+
+    /// Ends a line of these operands, which are in order, and adds lines with the instructions that have them.
+    fn put_users(&mut self, operands: &[u16]) -> Result<(), AllocError> {
+        let advice = self.advice;
         let mut count = 0usize;
         for &at in &advice.survey.users {
             let operand = advice.steps.at(at).and_then(|step| step.operand);
-            if count < TOLD && operand.is_some_and(|operand| far.binary_search(&operand).is_ok()) {
+            if count < TOLD
+                && operand.is_some_and(|operand| operands.binary_search(&operand).is_ok())
+            {
                 self.put(if count % IN_LINE == 0 {
                     b"\n#  used by"
                 } else {
