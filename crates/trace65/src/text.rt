@@ -83,6 +83,7 @@ impl<'a> Text<'a> {
         self.put_firsts()?;
         self.put_cells()?;
         self.put_beside()?;
+        self.put_behind()?;
         self.put_jumps()?;
         self.put_zeros()?;
         self.put_bases()?;

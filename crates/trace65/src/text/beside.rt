@@ -1,16 +1,22 @@
-//! Comments for what stands beside what is known: words between words that are addresses, and jumps behind jumps; and
-//! for words of which each is zero or an address.
+//! Comments for what stands beside what is known: words between and behind words that are addresses, and jumps behind
+//! jumps; and for words of which each is zero or an address.
 
 use crate::text::Text;
 use crate::text::likely::is_meant;
 use info65::{RangeSpec, RangeType};
 use isa65::{Mnemonic, Mode};
 use map65::is_inside;
-use reach65::rules::image::{address, byte, word};
+use reach65::rules::image::{address, byte, ends, word};
 use std::alloc::AllocError;
 
 /// How far apart the words may stand between which another one stands.
 const FAR: usize = 16;
+
+/// How many words a row has at least.
+const ROW: usize = 3;
+
+/// How many words behind a row that are the same get a comment.
+const SAME: usize = 4;
 
 /// How many bytes a jump has.
 const JUMP: usize = 3;
@@ -168,6 +174,39 @@ impl Text<'_> {
                 told = told.saturating_add(count);
             }
             before = here;
+        }
+        Ok(())
+    }
+
+    /// Adds a comment for the word right behind each row of three addresses, if it is an address of the image, or up to
+    /// the end of its variables, and for those behind it that are the same.
+    pub fn put_behind(&mut self) -> Result<(), AllocError> {
+        let ground = &self.advice.data.ground;
+        let (start, _) = ends(ground.image);
+        let end = self.last_end();
+        let mut told = 0usize;
+        for &range in self.ranges {
+            let is_row = range.role == RangeType::AddrTable
+                && ROW <= usize::from(range.last.saturating_sub(range.first)) / 2 + 1;
+            let place = usize::from(range.last).saturating_add(1);
+            let Some(word) = ground.word(place) else {
+                continue;
+            };
+            let is_address = (start..end.saturating_add(1)).contains(&usize::from(word));
+            if !is_row || !is_address || word / 256 == word % 256 {
+                continue;
+            }
+            let places = (place..place.saturating_add(2 * SAME)).step_by(2);
+            for at in places.take_while(|at| ground.word(*at) == Some(word)) {
+                if told < TOLD
+                    && let Some(at) = address(at)
+                {
+                    told += 1;
+                    self.put_address(b"# the word at $", at)?;
+                    self.put_address(b" is $", word)?;
+                    self.put(b", behind words that are addresses: AddrTable?\n")?;
+                }
+            }
         }
         Ok(())
     }

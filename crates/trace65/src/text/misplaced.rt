@@ -96,8 +96,8 @@ impl Text<'_> {
             && map.info().covering(address).is_none()
     }
 
-    /// Where the image ends, or what the file says or is proposed to lie after it.
-    fn last_end(&self) -> usize {
+    /// Returns where the image ends, or what the file says or is proposed to lie after it.
+    pub fn last_end(&self) -> usize {
         let (_, image_end) = ends(self.advice.steps.image());
         let proposed = self.last_after();
         let mut end = proposed.map_or(image_end, |last| usize::from(last).saturating_add(1));
