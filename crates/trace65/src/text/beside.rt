@@ -42,6 +42,13 @@ struct Between {
     count: usize,
 }
 
+impl Between {
+    /// Where the word begins to which so many steps lead.
+    fn place(self, index: usize) -> usize {
+        self.from.saturating_add(self.step.saturating_mul(index))
+    }
+}
+
 /// Words of which each is zero or the address of data: where the first address begins and the last one ends, how many
 /// there are, how many of them are above all before them, and the highest one.
 #[derive(Clone, Copy)]
@@ -134,19 +141,18 @@ impl Text<'_> {
         words: Between,
         ends: Option<(u16, u16)>,
     ) -> Result<usize, AllocError> {
-        let Between { from, step, count } = words;
-        let place = |index: usize| from.saturating_add(step.saturating_mul(index));
-        if !(1..count).all(|index| self.is_beside(place(index), ends)) {
+        if !(1..words.count).all(|index| self.is_beside(words.place(index), ends)) {
             return Ok(0);
         }
-        for index in 1..count {
-            if let (Some(at), Some(word)) = (address(place(index)), self.address_at(place(index))) {
+        for index in 1..words.count {
+            let place = words.place(index);
+            if let (Some(at), Some(word)) = (address(place), self.address_at(place)) {
                 self.put_address(b"# the word at $", at)?;
                 self.put_address(b" is $", word)?;
                 self.put(b", between words that are addresses: AddrTable?\n")?;
             }
         }
-        Ok(count)
+        Ok(words.count)
     }
 
     /// Adds a comment for each word that stands between words that are proposed as addresses, as far from one as from
