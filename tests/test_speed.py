@@ -281,6 +281,14 @@ def test_html65(html65, shows, text):
     assert len(read("a.html")) <= 5.3 * len(listing)
 
 
+def test_html65_page(html65, lines, most):
+    """A page of so many empty lines has at most so many bytes: an empty line is no element."""
+    html65(f"-S 0 -o a.html {write('a.s', lines * chr(10) + 'nop')}")
+    page = read("a.html")
+    assert page.count(b"\n") > lines and page.count(b'id="a') == 1
+    assert len(page) <= most, f"{len(page)} bytes of page, more than {most}"
+
+
 def test_move65(move65, record_property, request, limit, routines):
     """Routines that call each other until their steps are used up. Half as many take half of it."""
     def count(number):
