@@ -36,13 +36,13 @@ const MOST: u32 = 32;
 /// Words that stand between others: where the one before them begins, how far one is behind the other, and how many
 /// such steps lead to the one behind them.
 #[derive(Clone, Copy)]
-struct Between {
+struct Middle {
     from: usize,
     step: usize,
     count: usize,
 }
 
-impl Between {
+impl Middle {
     /// Where the word begins to which so many steps lead.
     fn place(self, index: usize) -> usize {
         self.from.saturating_add(self.step.saturating_mul(index))
@@ -102,7 +102,7 @@ fn is_word(range: RangeSpec) -> bool {
 
 /// Where words may stand between two ranges of addresses: as far apart as the words of a range, or, if both have but
 /// one, one in the middle.
-fn between(one: RangeSpec, other: RangeSpec) -> Option<Between> {
+fn between(one: RangeSpec, other: RangeSpec) -> Option<Middle> {
     let from = usize::from(one.last).checked_sub(1)?;
     let distance = usize::from(other.first).checked_sub(from)?;
     let is_middle = is_word(one) && is_word(other);
@@ -112,7 +112,7 @@ fn between(one: RangeSpec, other: RangeSpec) -> Option<Between> {
         (2, distance / 2)
     };
     let fits = 4 <= distance && distance <= FAR && distance % 2 == 0;
-    fits.then_some(Between { from, step, count })
+    fits.then_some(Middle { from, step, count })
 }
 
 impl Text<'_> {
@@ -138,7 +138,7 @@ impl Text<'_> {
     /// Adds a comment for each of these words, if all are addresses. Returns how many words got one.
     fn put_between(
         &mut self,
-        words: Between,
+        words: Middle,
         ends: Option<(u16, u16)>,
     ) -> Result<usize, AllocError> {
         if !(1..words.count).all(|index| self.is_beside(words.place(index), ends)) {
