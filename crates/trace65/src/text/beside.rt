@@ -24,7 +24,7 @@ const JUMP: usize = 3;
 /// How many words, jumps and stretches of words get a comment.
 const TOLD: usize = 256;
 
-/// Words stand by chance in fewer than one of two to this power of places.
+/// Words that are told stand by chance in fewer than one of two to this power of places.
 const CHANCE: u32 = 20;
 
 /// How many of them are addresses that rise, at least.
@@ -152,7 +152,7 @@ impl Text<'_> {
                 self.put(b", between words that are addresses: AddrTable?\n")?;
             }
         }
-        Ok(words.count)
+        Ok(words.count.saturating_sub(1))
     }
 
     /// Adds a comment for each word that stands between words that are proposed as addresses, as far from one as from
