@@ -1,12 +1,15 @@
-"""share/repair.mk: what it makes of an image and of what has been edited, and that it writes over nothing else."""
-import os, time
+"""share/repair.mk: what it makes of an image and of what has been edited; and that nothing is lost, whenever a person
+saves a file or ends it. tests/kills.py does so at random moments."""
+import os, re, shutil, time
 import pytest
+import kills
 from conftest import MADE, ROOT, Program, holds, read, write
 
 SUM = bytes.fromhex("A9 02 18 69 14 85 20 A9 20 69 00 85 21 A0 00 B1 20 8D 00 04 60 01 02 03")
 GLOBAL = 'GLOBAL { INPUTNAME "sum.bin"; STARTADDR $2000; };\n'
 FOUND = 'LABEL { ADDR $2014; NAME "L2014"; };\n#: HALVES { LOW $2004; HIGH $2008; }; # $200F reads $2016\n'
 TABLE = "RANGE { START $2015; END $2017; TYPE ByteTable; };\n"
+FIRST = 'LABEL { ADDR $2000; NAME "first"; };\n'
 SAYS = "sum.s is edited: it is the source, and is not written again\n"
 PARTS = ("sum.info", "sum.traced.info", "sum.s", "sum.html", "sum.out")
 
@@ -19,11 +22,25 @@ def repair(folder, request):
         os.symlink(request.getfixturevalue(name).path, "programs/" + name)
     write("sum.bin", SUM)
 
-    def run(words="IMAGE=sum.bin START=0x2000", status=0, programs="programs"):
-        words = f"-f {ROOT}/share/repair.mk PROGRAMS={programs} {words}"
-        ran = Program("make").run(words).gives(status, None, None)
+    def run(words="IMAGE=sum.bin START=0x2000", status=0, programs="programs", file=f"{ROOT}/share/repair.mk", **how):
+        ran = Program("make").run(f"-f '{file}' 'PROGRAMS={programs}' {words}", **how)
+        if status is not None:
+            ran.gives(status, None, None)
+        assert not [left for left in os.listdir() if left.startswith(".repair.")]
         return (ran.out + ran.err).decode()
     return run
+
+
+def meanwhile(name, commands):
+    """From now on these commands run when repair.mk calls this program. With `mv` that is at the last moment before a
+    file is replaced."""
+    path = f"programs/{name}"
+    real = os.path.realpath(path) if os.path.exists(path) else shutil.which(name)
+    if os.path.exists(path):
+        os.remove(path)
+    write(path, f'#!/bin/sh\n{commands}\nexec {real} "$@"\n')
+    os.chmod(path, 0o755)
+    return {"env": {"PATH": f"{os.getcwd()}/programs:{os.environ['PATH']}"}}
 
 
 def edit(name, before, after):
@@ -134,7 +151,6 @@ def test_what_was_not_made_here_stays(repair, name):
     os.utime(name, (0, 0))
     repair(status=2)
     holds(name, "my own\n")
-    assert not [left for left in os.listdir() if left.endswith(".new")]
 
 
 @pytest.mark.parametrize("name", PARTS[1:])
@@ -152,14 +168,176 @@ def test_a_faulty_information_file(repair):
     edit("sum.info", "$2000", "2000h")
     assert "trace65: info:1: bad number\n" in repair(status=2)
     assert before == {name: read(name) for name in PARTS[1:]}
-    assert not [left for left in os.listdir() if left.endswith(".new")]
+
+
+@pytest.mark.parametrize("moment, commands", (("move65", "echo '# mine' >>sum.info"), (
+    "mv", "case $* in */sum.info) echo '# mine' >>sum.info; esac"), (
+    "mv", "case $* in */sum.info) { cat sum.info; echo '# mine'; } >new; /bin/mv new sum.info; esac")),
+                         ids=("while move65 runs", "in place at the last moment", "by mv at the last moment"))
+def test_the_information_file_is_saved_while_moves_works(repair, moment, commands):
+    """It stays as it was saved, and what move65 finds is in a file of its own."""
+    write("sum.info", GLOBAL + TABLE)
+    said = repair("IMAGE=sum.bin moves", 2, **meanwhile(moment, commands))
+    holds("sum.info", GLOBAL + TABLE + "# mine\n")
+    found = re.match(r"sum.info has been edited meanwhile, and stays: what move65 finds is in (sum.moves\.\w+)\n", said)
+    holds(found[1], FOUND)
+
+
+@pytest.mark.parametrize("moment, commands", (("name65", "sed -i 's/#$02/#$03/' sum.s"), ("mv", """
+case $* in */sum.s) sed -i 's/#$02/#$03/' sum.s; esac"""), ("mv", """
+case $* in */sum.s) sed 's/#$02/#$03/' sum.s >new; cat new >sum.s; rm new; esac"""), ("mv", """
+case $* in */sum.s) exec 3<>sum.s; sed 's/#$02/#$03/' sum.s >new; /bin/mv "$@"; cat new >&3; rm new; exit; esac""")),
+                         ids=("while name65 runs", "by mv at the last moment", "in place at the last moment",
+                              "in place during the move"))
+def test_the_listing_is_saved_while_it_is_made(repair, moment, commands):
+    """It is the source from then on, in the same run."""
+    repair()
+    edited = read("sum.s").replace(b"#$02", b"#$03")
+    edit("sum.info", GLOBAL, GLOBAL + FIRST)
+    assert repair(**meanwhile(moment, commands)) == SAYS + "$2001: 02 -> 03, line 5: lda     #$03\n"
+    holds("sum.s", edited)
+    holds("sum.out", SUM.replace(b"\xa9\x02", b"\xa9\x03"))
+
+
+@pytest.mark.parametrize("signal", ("INT", "TERM", "HUP"))
+def test_ended_after_the_listing_was_saved(repair, signal):
+    """The listing stays, and nothing else is left: as after Ctrl-C, or when the terminal is closed."""
+    os.mkdir("tmp")
+    repair()
+    edited = read("sum.s").replace(b"#$02", b"#$03")
+    edit("sum.info", GLOBAL, GLOBAL + FIRST)
+    how = meanwhile("name65", f"sed -i 's/#$02/#$03/' sum.s; kill -{signal} 0")
+    how["env"]["TMPDIR"] = os.getcwd() + "/tmp"
+    repair(status=None, start_new_session=True, **how)
+    holds("sum.s", edited)
+    assert os.listdir("tmp") == []
+
+
+def test_files_of_one_s_own(repair):
+    names = ["sum.listed.s", "sum.moves.s", *(name + ".new" for name in PARTS)]
+    for name in names:
+        write(name, "mine\n")
+    repair("IMAGE=sum.bin START=0x2000 moves")
+    for name in names:
+        holds(name, "mine\n")
+
+
+@pytest.mark.parametrize("seed", range(4))
+def test_ended_at_random_moments_and_twice_at_once(repair, seed):
+    """Ten times and eight in all."""
+    found = list(kills.faults(os.path.abspath("programs"), 3 - seed // 2, 2, seed))
+    assert not found, found
+
+
+def test_an_older_listing(repair):
+    """What is old is told by checksums and not by times: page and image follow a listing with an older time."""
+    repair()
+    edit("sum.s", "#$02", "#$03")
+    os.utime("sum.s", (1e9, 1e9))
+    assert repair() == SAYS + "$2001: 02 -> 03, line 5: lda     #$03\n"
+    holds("sum.out", SUM.replace(b"\xa9\x02", b"\xa9\x03"))
+    assert b"#$03" in read("sum.html")
+
+
+@pytest.mark.parametrize("name, seconds", (("sum.info", 1e9), *((name, 4e9) for name in PARTS)))
+def test_an_older_information_file_and_files_of_the_future(repair, name, seconds):
+    repair()
+    edit("sum.info", GLOBAL, GLOBAL + FIRST)
+    os.utime(name, (seconds, seconds))
+    assert repair() == "" and b"first:  lda" in read("sum.s") and b"first" in read("sum.html")
+    repair("IMAGE=sum.bin moves")
+    holds("sum.info", GLOBAL + FIRST + FOUND)
+
+
+def test_an_information_file_without_a_line_feed(repair):
+    write("sum.info", GLOBAL + TABLE + "# the end")
+    repair("IMAGE=sum.bin moves")
+    holds("sum.info", GLOBAL + TABLE + "# the end\n" + FOUND)
+
+
+def test_links_and_permissions_stay(repair):
+    repair()
+    os.mkdir("source")
+    for name in "sum.info", "sum.s":
+        os.rename(name, "source/" + name)
+        os.symlink("source/" + name, name)
+        os.chmod(name, 0o600)
+    edit("sum.info", GLOBAL, GLOBAL + FIRST)
+    repair("IMAGE=sum.bin moves")
+    holds("source/sum.info", GLOBAL + FIRST + FOUND)
+    assert b"first:  lda" in read("source/sum.s")
+    for name in "sum.info", "sum.s":
+        assert os.path.islink(name) and os.stat(name).st_mode & 0o777 == 0o600
+
+
+def test_a_folder_with_a_blank_in_its_name(repair):
+    os.mkdir("my own")
+    shutil.copy(ROOT / "share/repair.mk", "my own")
+    repair("IMAGE=sum.bin START=0x2000 moves", file="my own/repair.mk")
+    holds("sum.info", GLOBAL + FOUND)
+
+
+@pytest.mark.parametrize("name", ("all", "moves", "sum", "sum.info.bin"))
+def test_an_image_with_the_name_of(repair, name):
+    """What make has a rule for; and one without a dot, which make would make of its listing."""
+    os.rename("sum.bin", name)
+    made = name.removesuffix(".bin")
+    said = repair(f"IMAGE={name} START=0x2000 moves", timeout=60)
+    assert said == f"round 1: 2 lines more in {made}.info\n# 11 of 11 instructions have run in both\n"
+    assert repair(f"IMAGE={name} all", timeout=60) == ""
+    holds(made + ".out", SUM)
+    holds(name, SUM)
+
+
+def test_another_start_later(repair):
+    repair()
+    for start in "0x2000", "8192", "'$$2000'", "":
+        assert repair(f"IMAGE=sum.bin START={start}") == ""
+    says = "START counts only when sum.info is made: change STARTADDR there\n"
+    assert repair("IMAGE=sum.bin START=0x3000") == says
+    holds("sum.info", GLOBAL)
+    write("sum.info", "# STARTADDR $3000\nglobal{inputname\"sum.bin\";startaddr 8192;}\n")
+    assert repair("IMAGE=sum.bin START=0x3000") == says and repair() == ""
+
+
+def test_another_fill_later(repair):
+    """A byte that was taken out before a segment is filled by it."""
+    repair()
+    edit("sum.info", GLOBAL, GLOBAL + 'SEGMENT { START $2015; END $2017; NAME "SUMMANDS"; };\n')
+    repair()
+    edit("sum.s", "        clc\n", "")
+    for words, filled in ("", b""), ("FILL=0xFF", b"\xff"), ("FILL='$$EE'", b"\xee"), ("", b""):
+        repair("IMAGE=sum.bin " + words)
+        holds("sum.out", SUM.replace(b"\x18", b"").replace(b"\x60", b"\x60" + filled))
+
+
+def test_programs_in_the_home_folder(repair):
+    repair(programs="~/programs", env={"HOME": os.getcwd()})
+    write("Makefile", f"IMAGE := sum.bin\nPROGRAMS := ~/programs/\ninclude {ROOT}/share/repair.mk\n")
+    Program("make")("all", 0, env={"HOME": os.getcwd()})
+
+
+def test_shellcheck():
+    if not shutil.which("shellcheck"):
+        pytest.skip("shellcheck is not installed")
+    script = re.search(r"(?ms)^define repair\n(.*?)^endef", read(ROOT / "share/repair.mk").decode())[1]
+    Program("shellcheck")("-s bash -S warning -", stdin=script)
 
 
 @pytest.mark.parametrize("words, said", (
     ("", "IMAGE is the name of one file"), ("'IMAGE=two words.bin'", "IMAGE is the name of one file"),
     ("IMAGE=it\\'s.bin", "IMAGE is the name of one file"),
     ("IMAGE=sum.s", "sum.s has the name of a file that is made of an image"),
-    ("IMAGE=lost.bin", "lost.bin"), ("IMAGE=sum.bin START=here", "invalid number")))
+    ("IMAGE=.bin", "IMAGE is the name of a file that does not begin"), ("IMAGE=-s.bin", "IMAGE is the name of a file"),
+    ("IMAGE=sum.bin START=here", "START is an address such as 0xFC00: here\n"),
+    ("IMAGE=sum.bin START=0x12345", "START is an address such as 0xFC00: 0x12345\n")))
 def test_refuses(repair, words, said):
     assert said in repair(words, 2)
+    assert sorted(os.listdir()) == ["examples", "names", "programs", "sum.bin"]
+
+
+@pytest.mark.parametrize("words", ("", "moves", "lost.s"))
+def test_an_image_that_is_not_there(repair, words):
+    said = repair("IMAGE=lost.bin " + words, 2)
+    assert re.fullmatch(r"\S+/repair.mk:\d+: \*\*\* there is no file lost.bin.  Stop.\n", said), said
     assert sorted(os.listdir()) == ["examples", "names", "programs", "sum.bin"]
