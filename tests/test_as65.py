@@ -1,5 +1,6 @@
 """as65 on real files: what it writes, where, and with which status. Most rows are in tests/rows/as65.txt."""
 import os
+import re
 import pytest
 from conftest import command, in_pieces, holds, read, tables, write
 
@@ -34,6 +35,13 @@ def refuses(as65, text, line, cause, words="-S 0x1000"):
     write("out.bin", "old\n")
     as65.refuses(f"{words} -o out.bin text.s", f"text.s:{line}: {cause}")
     holds("out.bin", "old\n")
+
+
+def test_faults(as65, text, fault, words):
+    """The text has this fault, whatever is said of it."""
+    run = as65.run([*(words or "-S 0x1000").split(), write("text.s", text)])
+    assert (run.status, run.out) == (1, b"")
+    assert re.fullmatch(rf"as65: text\.s:{fault}(:.*)?\n", run.err.decode("latin-1")), run.err
 
 
 def test_refuses(as65, text, line, cause):
@@ -74,3 +82,18 @@ def test_suggests_a_start(as65, text, labels, start):
     said = f"as65: {labels} of the labels LXXXX would be at $XXXX with -S 0x{start}\n" if labels else ""
     as65(f"--compare other.bin {write('named.s', text)}", 1, None,
          "as65: other.bin is taken to begin at $FFFD\n" + said)
+
+
+@pytest.mark.parametrize("is_all", (False, True))
+def test_segments_of_a_board_begin_where_they_did(as65, da65, is_all):
+    """A `nop` is put into the monitor, and one byte of what fills it is left out, or all that --fill puts there."""
+    da65("-i examples/board/board.info -o a.s")
+    text = read("a.s").decode().replace("        jsr     LFD0A", "        nop\n        jsr     LFD0A", 1)
+    before, after = text.split("free:", 1)
+    after = after[after.index("        .segment"):] if is_all else "free:" + after.replace("$FF,", "", 1)
+    write("a.s", before + after)
+    out = as65("-i examples/board/board.info --fill $FF --compare examples/board/monitor.bin a.s", 1, None).out.decode()
+    moved, put_in, left_out = out.splitlines()
+    assert moved == "line 58: LFC4A and what follows lie 1 byte later"
+    assert put_in == "$FC35: -> EA, line 48: nop"
+    assert left_out.startswith("$FFDE: FF ->, line ") and left_out.endswith(": jmp     tell")

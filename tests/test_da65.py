@@ -1,5 +1,5 @@
 """da65 on real files: what it writes, where, and with which status. Most rows are in tests/rows/da65.txt."""
-import re
+import re, string
 import pytest
 from conftest import ROOT, in_pieces, same, tables, write
 
@@ -45,6 +45,62 @@ def test_sizes(da65, size):
     image, listing = size * b"\xea", HEADER + size * "        nop\n"
     da65(write("sized.bin", image), 0, listing)
     da65("/dev/stdin", 0, listing, stdin=in_pieces(image[:1], image[1:], 0.02))
+
+
+def test_reads_info(da65, info, message, words):
+    """The fault of an information file. One that is accepted names no input."""
+    write("a.info", info)
+    da65.refuses(f"-i a.info {words}", message)
+
+
+PRINTED = bytes(range(0x20, 0x7F)).decode()
+EXPECTED = "info:1: something else expected"
+OPEN = "info:1: string not closed"
+# What a byte is alone, in a string and in a character constant. Each other byte is a bad one.
+CLASSES = {
+    "alone": ("", {"\t\n\r #": "no input file", string.digits + ";{}": EXPECTED, "$": "info:1: bad number", '"': OPEN,
+                   string.ascii_letters + "_": "info:1: unknown group"}),
+    "in a string": ('"', {"\n\r": OPEN, "\t" + PRINTED + "".join(map(chr, range(0x80, 0x100))): EXPECTED}),
+    "in a character constant": ("'", {PRINTED: EXPECTED}),
+}
+
+
+@pytest.mark.parametrize("kind", CLASSES)
+def test_each_byte(da65, kind):
+    quote, messages = CLASSES[kind]
+    for byte in map(chr, range(256)):
+        write("a.info", quote + byte + quote)
+        da65.refuses("-i a.info", next((text for some, text in messages.items() if byte in some), "info:1: bad byte"))
+
+
+def test_bytes(da65, image, body, info, words, warning):
+    """The lines after the header, of an image at $1000 if nothing else is said."""
+    cpu = (re.search(r"--cpu (\S+)", words) or ["", "6502"])[1]
+    write("a.info", info)
+    words = f"{words or '-S 0x1000'} -i a.info {write('a.bin', bytes.fromhex(image))}"
+    da65(words, 0, HEADER.replace("6502", cpu) + body, warning)
+
+
+def test_whole(da65, image, listing, info, words):
+    write("a.info", info)
+    da65(f"{words} -i a.info {write('a.bin', bytes.fromhex(image))}", 0, listing)
+
+
+def test_includes(da65, text, names, group):
+    """The names of an include file, with a label at 3, by their addresses; or its fault."""
+    write("k.inc", text)
+    write("a.info", f'LABEL {{ ADDR 3; NAME "go"; }};\nASMINC {{ FILE "k.inc"; {group} }};')
+    if names.startswith("include"):
+        da65.refuses("-i a.info three.bin", names)
+    else:
+        constants = "".join("{:15} := ${}\n".format(*name.split()) for name in names.split(","))
+        da65("-S 0x2000 -i a.info three.bin", 0, f"{HEADER}{constants}\n{TEXTS['THREE']}")
+
+
+def test_the_largest_offset(da65):
+    write("a.info", "GLOBAL { INPUTOFFS 16777216; INPUTSIZE $10000; PAGELENGTH 0; STARTADDR 0; }")
+    image = 16777216 * b"\0" + 65536 * b"\xea" + b"\0"
+    da65(f"-i a.info {write('large.bin', image)}", 0, HEADER + 65536 * "        nop\n")
 
 
 def test_nothing_is_read_after(da65, words, text, message):

@@ -261,10 +261,10 @@ def test_the_output_is(use, by):
         use.out = {"its name": name, "another name": "./in/../" + name, "a hard link": "in/hard", "a link": "in/link",
                    "a descriptor": f"/dev/fd/{file.fileno()}"}.get(by)
         use.go(**({"stdout": appended} if by == "appending" else {"pass_fds": [file.fileno()]}))
-    if use.kind in ("da65", "trace65") and by == "appending":
+    if by == "appending" and (use.kind == "da65" or (use.kind, use.input) == ("trace65", "info")):
         use.says(0)
         before += raw(wanted)
-    elif use.kind == "trace65":
+    elif (use.kind, use.input) == ("trace65", "info"):
         use.says(1, use.out + " exists")
     elif use.kind == "da65":
         use.says(*((1, "input is empty") if use.input == "image" else (0,)))
@@ -272,6 +272,20 @@ def test_the_output_is(use, by):
     else:
         use.says(use.trouble, "the output is an input: " + (use.out or name))
     holds(name, before)
+
+
+def test_no_input_is_written_over(request, program, words, out, given, status, said):
+    info = ('GLOBAL { STARTADDR $1000; INPUTNAME "a.bin"; };\n'
+            'ASMINC { FILE "one.inc"; };\nASMINC { FILE "two.inc"; };\n')
+    texts = {"y.info": info, "one.inc": "v1 := $1007\n", "two.inc": "v2 := $1008\n", "t.s": LISTING,
+             "a.bin": IMAGE, "b.bin": OTHER}
+    for name in texts:
+        write(name, texts[name])
+    with open(out or os.devnull, "ab") as appended, open(given or os.devnull, "rb") as stdin:
+        run = request.getfixturevalue(program).run(words, stdin=stdin, **({"stdout": appended} if out else {}))
+    run.gives(status, None, f"{program}: {said}\n")
+    for name in texts:
+        holds(name, texts[name])
 
 
 @each("input", kinds=("compare",))

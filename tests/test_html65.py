@@ -254,6 +254,18 @@ def test_lists(page_of):
     assert rows_of(inside, "Routines") == ["$1000|$1004|5|start", "calls in", "$1005|$1007|3|in", "called by start"]
 
 
+def test_links(whole, listing, links):
+    """Each operand leads where the row says, and no line has another link."""
+    found = whole(listing).links
+    assert ", ".join(f"{line}: {' '.join(map(str, found[line]))}" for line in sorted(found)) == links
+
+
+def test_entities(whole, page_of, listing, shown):
+    whole(listing)
+    first = page_of(listing).decode("latin-1").partition('<pre id="listing">')[2].partition("\n")[0]
+    assert re.sub("<i.*</i>|<[^>]*>", "", first) == shown
+
+
 def test_rows(page_of, listing, title, rows):
     assert rows_of(page_of(listing), title) == rows.split(", ")
 

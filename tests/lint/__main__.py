@@ -9,7 +9,8 @@ import sys
 
 sys.dont_write_bytecode = True
 
-import columns, contracts, edits, imports, manual, memory, page, pages, proofs, readings, rows, scripts, words, worked_rows  # noqa: E401
+import columns, contracts, edits, imports, manual, memory, moved_rows, page, pages, promises, proofs, readings, rows, scripts  # noqa: E401
+import words, worked_rows  # noqa: E401
 from source import LeftOut, Refused
 
 CHECKS = {
@@ -22,10 +23,12 @@ CHECKS = {
     manual: "docs/da65.info.5 is made from docs/INFORMATION_FILE.md",
     page: "docs/DEFINITIONS.md is made from the comments of the definitions",
     proofs: "docs/PROOFS.md is made from the comments of the clauses",
+    promises: "each call in the table of promises of README.md has its contract",
     pages: "each link of a page leads somewhere, and each name of a page about the code stands in the tree",
     columns: "no more clauses than listed are wider than 100 columns; no test or page is wider than 120, no script than 140, no man page than 80",
     rows: "each table of tests/rows has its test",
     worked_rows: "the worked rows that run are those of tests/lint/worked_rows.txt",
+    moved_rows: "each row of the lists moved_rows_*.txt is where they say",
     scripts: "shellcheck finds nothing in the scripts",
 }
 WRITTEN = {module.__name__: module for module in (contracts, manual, page, proofs)}

@@ -12,7 +12,7 @@ WIDER = {
     "isa65": 2,
     "text65": 1,
     "stmt65": 8,
-    "info65": 21,
+    "info65": 18,
     "map65": 3,
     "usage65": 1,
     "da65": 12,

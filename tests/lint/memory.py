@@ -12,14 +12,13 @@ ANSWERS = ("AllocError", "AllocFailed", "OutOfMemory", "out_of_memory")
 # Those that stand after `::` alone.
 VARIANTS = ("Memory", "MEMORY")
 ALLOWED = {
-    "as65": "Scene::meant 2, failure_of 2",
-    "da65": "all_names 2, image_message 1, list_input 1, needs_read 2, refuse_image 2, run_read 2, stop_of 2",
+    "as65": "Scene::meaning 2, failure_of 2",
+    "da65": "all_names 2, image_message 1, list_input 2, needs_read 2, refuse_image 2, run_read 2, stop_of 2",
     "files65": "Failure::from 3, FileFault::from 1, FileFault::of_error 2, FileFault::of_opening 1, address_in 2, contents 2, failure_of 4, name_in 2, read_from 2, say 1",
     "info65": "InfoFault::MEMORY 1, InfoFault::from 2, InfoFaultKind::text 1, narrow 1",
     "map65": "ImageFault::from 2, TakeFault::from 1",
     "move65": "failure_for 2, has_found 1, refused 2",
     "name65": "Failure::from 2, Refusal::from 1, with_labels_first 2",
-    "relist": "Failure::from 2",
     "step65": "program 2",
     "stmt65": "AsmFault::from 1, Symbols::define 1",
     "trace65": "failure_of 2",

@@ -24,8 +24,8 @@ SHOWN = {
     "stmt65": "Columns Line Statements Operands ReadingLaws Spelling Reading Symbols Coding Meaning Layout",
     "da65": "Groups Statements Listing Outcome RunLaw",
     "reach65": "Inlines Flow Reached Taken",
-    "name65": "Marks Changes NameFor",
-    "html65": "Pieces PageText Operands",
+    "name65": "Marks Compared Reordered",
+    "html65": "Pieces PageText",
 }
 
 

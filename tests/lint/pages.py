@@ -1,11 +1,11 @@
 """Each link of a page leads to a file, or to a heading of it. Each name that a page about the code has in back quotes stands in the tree: it
-is a file, a folder, or a word of the code, of a definition, of a proof or of a script. The README has at most 170 lines."""
+is a file, a folder, or a word of the code, of a definition, of a proof or of a script. The README has at most 160 lines."""
 
 import re
 
 from source import ROOT
 
-README_LINES = 170
+README_LINES = 160
 ABOUT_CODE = ("ARCHITECTURE", "CONTRIBUTING", "DECISIONS", "GATE", "LIBRARY", "PROOFS")
 # Names of std, of the prover's files and of an instruction.
 OUTSIDE = {"BufWriter", "HashMap", "Lts", "bbr", "bbs"}

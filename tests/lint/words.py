@@ -1,11 +1,12 @@
 """The words that an information file may have are those of docs/INFORMATION_FILE.md: each table of words in the definitions has exactly the
-words of its table on the page. The rows that the proofs of info65 compute check that a word means what the page says."""
+words of its table on the page. Rows of tests/rows check that a word means what the page says."""
 
 import re
 
 from source import ROOT
 
 SPECS = ROOT / "crates" / "info65" / "specs"
+TAG = ROOT / "crates" / "info65" / "src" / "tags" / "tag.rt"
 
 
 def defined(module, name):
@@ -19,6 +20,14 @@ def grouped(module, groups, attributes):
     """The words of the attributes of each group, by its word."""
     found = defined(module, attributes)
     return {word: set(found[kind]) for word, kind in defined(module, groups)[""].items()}
+
+
+def tagged():
+    """The same of the groups in comments, which are plain code."""
+    code = TAG.read_text()
+    rows = re.findall(r"(?m)^        (TagKind::[\w:| ]+) => tag_word!\(text;\n((?:            .*\n)+)", code)
+    words = {kind: set(re.findall(r'b"(\w+)"', text)) for kinds, text in rows for kind in re.findall(r"TagKind::(\w+)", kinds)}
+    return {word: words[kind] for word, kind in re.findall(r'b"(\w+)" => TagKind::(\w+)', code)}
 
 
 def paged(page, head):
@@ -36,7 +45,7 @@ def check(write):
     for kind, here, there in (
         ("groups", grouped("Attributes", "group_named", "attribute_named"),
          {heading: {words[0] for words in rows} for heading, rows in paged(page, "Attribute").items()}),
-        ("groups in comments", grouped("Tags", "tag_named", "tag_attribute"),
+        ("groups in comments", tagged(),
          {name: set(re.findall(r"`(\w+)`", cell)) for name, cell in tags}),
         ("type words", set(defined("Attributes", "type_named")[""]), {words[0] for rows in paged(page, "Type word").values() for words in rows}),
         ("booleans", {value: {word for word in booleans if booleans[word] == value} for value in booleans.values()}, meant),

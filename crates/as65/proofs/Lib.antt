@@ -1,4 +1,2 @@
 pub mod CommandLemmas
 pub mod PassingLemmas
-pub mod SceneLemmas
-pub mod ShownLemmas

@@ -1,5 +1,4 @@
 pub mod Assembled
-pub mod Before
 pub mod Changes
 pub mod Code
 pub mod Command

@@ -1,10 +1,8 @@
 -- The types of the code that these definitions speak of, from one place.
-pub use Rattle.as65.specs.declared.changes.Change.{Change}
 pub use Rattle.as65.specs.declared.failure.Refused.{Refused}
 pub use Rattle.as65.specs.declared.failure.Refused.TheVariants.{EmptyImage, LargeImage, Moved, OtherSize, Segment, ShortImage}
 pub use Rattle.as65.specs.declared.moves.Label.{Label}
 pub use Rattle.as65.specs.declared.origins.Reached.{Reached}
-pub use Rattle.as65.specs.declared.scene.Placed.{Placed}
 pub use Rattle.as65.specs.declared.request.Placement.{Placement}
 pub use Rattle.as65.specs.declared.request.Work.{Work}
 pub use Rattle.as65.specs.declared.request.Work.TheVariants.{Compare, Write}

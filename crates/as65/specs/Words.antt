@@ -1,9 +1,8 @@
 -- The words of clauses and proofs, here and in the crates above, from one place.
-pub use Rattle.as65.specs.Types.{Change, Label, Stretch}
+pub use Rattle.as65.specs.Types.{Stretch}
 pub use Rattle.as65.specs.Assembled.{AssembledView, seen}
-pub use Rattle.as65.specs.Before.{GaveBefore, Had, HadValue, IsBefore, IsBeside, IsBy, IsEarlierBy, IsValueBefore, SetsNames, label_before}
-pub use Rattle.as65.specs.Changes.{AreChanges, GaveBy, HasMoved, IsChange, IsDifferences, IsMovedByte, IsReplaced, IsShown, IsSource, change_line, line_begin, place_of}
-pub use Rattle.as65.specs.Code.{AreComplete, AreKnown, AreMoved, AreSources, IsPlaced, IsReached, given_of}
+pub use Rattle.as65.specs.Changes.{IsDifferences}
+pub use Rattle.as65.specs.Code.{IsReached, given_of}
 unfoldable pub use Rattle.as65.specs.Code.{ended}
 pub use Rattle.as65.specs.Command.{this_program}
 pub use Rattle.as65.specs.Comparison.{Compares, CountsWrites}

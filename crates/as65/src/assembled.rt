@@ -5,14 +5,17 @@ ghost use Rattle.std.specs.Io.KnownBytes.{Appends};
 ghost use Rattle.files65.specs.Faults.{IsEmpty};
 ghost use Rattle.map65.specs.Words.{AppendsFront, Counts};
 ghost use Rattle.stmt65.specs.Words.{source_meaning};
-ghost use Rattle.as65.specs.Words.{AssembledView, Reports, seen};
+ghost use Rattle.as65.specs.Words.{AssembledView, Reports, moves_in, seen};
 
 use crate::failure::Failure;
+use crate::moves::{Label, labels_in};
 use files65::{FileFault, failure_of, write_text};
 use map65::Sink;
 use std::alloc::{AllocError, Global};
 use std::marker::Model;
-use stmt65::{Assembly, Source, Symbols, assemble_explained, assemble_lines, line_addresses};
+use stmt65::{
+    Assembly, LineEnds, Source, Symbols, assemble_explained, assemble_lines, line_addresses,
+};
 
 /// A text that assembles, and its bytes.
 #[derive(Drop)]
@@ -92,6 +95,7 @@ impl<'s, 't, 'l, 'n> Assembled<'s, 't, 'l, 'n> {
 pub struct Listed<'s, 't, 'l, 'n> {
     assembled: Assembled<'s, 't, 'l, 'n>,
     assembly: Assembly<'t, 's, Global>,
+    ends: Vec<u64>,
 }
 
 impl<'s, 't, 'l, 'n> Model for Listed<'s, 't, 'l, 'n> {
@@ -99,7 +103,7 @@ impl<'s, 't, 'l, 'n> Model for Listed<'s, 't, 'l, 'n> {
 
     ghost view = { λ l. l.assembled };
 
-    ghost invariant = { λ l. (l.assembly.ends ≡ l.assembled.ends) × (l.assembly.names ≡ l.assembled.names) };
+    ghost invariant = { λ l. l.ends.items ≡ l.assembled.ends };
 }
 
 impl<'s, 't, 'l, 'n> Listed<'s, 't, 'l, 'n> {
@@ -117,10 +121,12 @@ impl<'s, 't, 'l, 'n> Listed<'s, 't, 'l, 'n> {
         match assemble_lines(alloc, source) {
             Ok(assembly) => {
                 let bytes = Vec::from_slice(*alloc, assembly.bytes.as_slice())?;
+                let ends = ends_of(*alloc, &assembly.ends)?;
                 let assembled = Assembled { source, bytes };
                 Ok(Listed {
                     assembled,
                     assembly,
+                    ends,
                 })
             }
             Err(explained) => Err(failure_of(*alloc, explained, name, source)),
@@ -134,24 +140,44 @@ impl<'s, 't, 'l, 'n> Listed<'s, 't, 'l, 'n> {
         &self.assembled
     }
 
-    /// The address after each line.
-    pub fn ends(&self, alloc: Global) -> Result<Vec<u64>, AllocError>
-        ensures { IfOk result (λ ends. ends.items ≡ self.now.ends) }
+    /// The bytes that the text means.
+    pub fn bytes(&self) -> &[u8]
+        ensures { result.now ≡ self.now.bytes }
     {
-        let mut ends = Vec::new(alloc);
-        let mut left = self.assembly.ends.iter();
-        'ends: while let Some(end) = left.next() {
-            ends.push(end)?;
-        }
-        Ok(ends)
+        self.assembled.bytes()
+    }
+
+    /// The address after each line.
+    pub fn ends(&self) -> &[u64]
+        ensures { result.now ≡ self.now.ends }
+    {
+        &self.ends
+    }
+
+    /// The labels `LXXXX` of the lines, in order.
+    pub fn labels(&self, alloc: Global) -> Result<Vec<Label>, AllocError>
+        ensures { IfOk result (λ labels. moves_in labels.items ≡ self.now.moves) }
+    {
+        let source = self.assembled.source();
+        labels_in(alloc, source, false, &self.ends)
     }
 
     /// What the lines define.
-    pub fn names(&self) -> &Symbols<'t, &'s Global>
-        ensures { result.now ≡ self.now.names }
-    {
+    pub fn names(&self) -> &Symbols<'t, &'s Global> {
         &self.assembly.names
     }
+}
+
+/// The address after each line, one after the other.
+fn ends_of(alloc: Global, ends: &LineEnds<&Global>) -> Result<Vec<u64>, AllocError>
+    ensures { IfOk result (λ found. found.items ≡ ends.now) }
+{
+    let mut found = Vec::new(alloc);
+    let mut left = ends.iter();
+    'ends: while let Some(end) = left.next() {
+        found.push(end)?;
+    }
+    Ok(found)
 }
 
 /// Refuses a listing of this name that has no operation and so gives no byte.

@@ -1,145 +1,129 @@
 //! What differs between an image and a listing in which labels have left the address in their
 //! name, apart from what has only moved.
 //!
-//! Each label `LXXXX` stands for the address in its name. What lies between two labels is compared with what
-//! the image has between their addresses:
+//! Each label `LXXXX` stands for the address in its name. What lies from one to the next is a part, and is compared
+//! with what the image has from that address to the next one of a label (`parts`):
 //!
-//! - If both have moved equally far, byte by byte. A byte has only moved if the image has it at its earlier address, or
-//!   if its line gave that byte there (`scene`).
-//! - Else bytes were put in or taken out between them. The first lines that have only moved with the label before, and
-//!   the last ones that have only moved with the one after, are left out; the rest is one change.
-//!
-//! If the image has not both addresses in this order and no label's between, as in a routine that was put elsewhere,
-//! the bytes are compared by the label before.
-//!
-//! What is found so is advice: `shown` adds what it leaves out.
+//! - If it has as many bytes, byte by byte. A byte has only moved if the image has it, or if its line gave that byte
+//!   there (`before`).
+//! - Else bytes were put in or taken out. The first lines that have only moved are left out, and so are the last ones;
+//!   the rest is one change.
 
-use crate::moves::{IN_PLACE, Label, is_alike};
-use crate::scene::{Moved, Placed, Scene};
+use crate::lines::PlacedLine;
+use crate::parts::Part;
+use crate::scene::Scene;
 use crate::stretches::Stretch;
-use map65::Marks;
+use files65::at_most;
 use std::alloc::AllocError;
+use std::ops::Range;
 
-/// Bytes of the image in whose place a listing has others, as offsets from the first byte of each.
-#[derive(Clone, Copy)]
-pub struct Change {
-    pub was: Stretch,
-    pub is: Stretch,
-}
-
-/// What is compared, what has only moved, and what differs.
+/// What is compared, and what was found.
 #[derive(Drop)]
-struct Search<'c, 's, 'a, 't, 'l, 'n> {
-    scene: &'c Scene<'s, 'a, 't, 'l, 'n>,
-    moved: &'c Moved,
-    /// The addresses in the names of the labels, sorted.
-    named: Vec<u64>,
-    changes: Vec<Change>,
+struct Search<'s, 'c, 'a, 't, 'l, 'n> {
+    scene: &'s Scene<'c, 'a, 't, 'l, 'n>,
+    /// The bytes of the listing; where its lines have only moved, those that they gave.
+    gave: Vec<u8>,
+    changes: Vec<Part>,
 }
 
-/// The bytes of a stretch, or none.
-fn part(bytes: &[u8], stretch: Stretch) -> &[u8] {
-    bytes.get(stretch.at..stretch.end).unwrap_or(&[])
-}
-
-/// A change without the bytes that are alike at its beginning and its end.
-fn trimmed(image: &[u8], bytes: &[u8], mut change: Change) -> Change {
-    let pairs = part(image, change.was)
-        .iter()
-        .zip(part(bytes, change.is).iter());
+/// A part without the bytes that are alike at its beginning and its end.
+fn trimmed(scene: &Scene<'_, '_, '_, '_, '_>, mut part: Part) -> Part {
+    let (image, bytes) = (scene.image.bytes(), scene.bytes());
+    let pairs = part.was.of(image).iter().zip(part.is.of(bytes).iter());
     let first = pairs.take_while(|(byte, other)| byte == other).count();
-    change.was.at = change.was.at.saturating_add(first);
-    change.is.at = change.is.at.saturating_add(first);
-    let pairs = part(image, change.was)
-        .iter()
-        .rev()
-        .zip(part(bytes, change.is).iter().rev());
-    let last = pairs.take_while(|(byte, other)| byte == other).count();
-    change.was.end = change.was.end.saturating_sub(last);
-    change.is.end = change.is.end.saturating_sub(last);
-    change
+    part.was.at = part.was.at.saturating_add(first);
+    part.is.at = part.is.at.saturating_add(first);
+    let (was, is) = (
+        part.was.of(image).iter().rev(),
+        part.is.of(bytes).iter().rev(),
+    );
+    let last = was
+        .zip(is)
+        .take_while(|(byte, other)| byte == other)
+        .count();
+    part.was.end = part.was.end.saturating_sub(last);
+    part.is.end = part.is.end.saturating_sub(last);
+    part
 }
 
-/// Whether all offsets from one to before another are marked.
-fn are_marked(marks: &Marks, at: usize, end: usize) -> bool {
-    for offset in at..end {
-        if !marks.get_at(offset) {
-            return false;
+impl<'s, 'c, 'a, 't, 'l, 'n> Search<'s, 'c, 'a, 't, 'l, 'n> {
+    /// The offsets of the bytes of a line.
+    fn stretch(&self, line: &PlacedLine<'t>) -> Stretch {
+        let start = u64::from(self.scene.image.start());
+        Stretch {
+            at: line.at.saturating_sub(start) as usize,
+            end: line.end.saturating_sub(start) as usize,
         }
     }
-    true
-}
 
-impl<'c, 's, 'a, 't, 'l, 'n> Search<'c, 's, 'a, 't, 'l, 'n> {
-    /// An address as an offset in the image, up to its end.
-    fn offset(&self, address: u64) -> Option<usize> {
-        let offset = address.checked_sub(u64::from(self.scene.start()))? as usize;
-        let _ = self.scene.image().get(offset..)?;
-        Some(offset)
+    /// The places of the lines that begin in a stretch.
+    fn places_in(&self, stretch: Stretch) -> Range<usize> {
+        let start = u64::from(self.scene.image.start());
+        let at = start.saturating_add(stretch.at as u64);
+        let end = start.saturating_add(stretch.end as u64);
+        let lines = self.scene.lines;
+        lines.partition_point(|line| line.at < at)..lines.partition_point(|line| line.at < end)
     }
 
-    /// The offset of an address in the listing.
-    fn place(&self, address: u64) -> usize {
-        address.saturating_sub(u64::from(self.scene.start())) as usize
+    /// The bytes of a line; in place of those that the image does not have from an offset on, those that the line gave
+    /// there, if the image has them.
+    fn earlier(&self, line: &PlacedLine<'t>, at: usize) -> Result<Vec<u8>, AllocError> {
+        let is = self.stretch(line);
+        let old = at_most(self.scene.image.bytes().get(at..).unwrap_or(&[]), is.len());
+        let mut bytes = Vec::from_slice(self.scene.alloc, is.of(self.scene.bytes()))?;
+        if bytes.as_slice() == old {
+            return Ok(bytes);
+        }
+        let gave = self.scene.gave(line, at, old)?;
+        if gave.len() == is.len() {
+            for ((byte, gave), old) in bytes.iter_mut().zip(gave.iter()).zip(old.iter()) {
+                if gave == old {
+                    *byte = *gave;
+                }
+            }
+        }
+        Ok(bytes)
     }
 
-    /// Whether the line has only moved with the label before or after it, within a stretch of the image.
-    fn has_only_moved(
-        &self,
-        placed: &Placed<'t>,
-        label: Label,
-        within: Stretch,
-        by_later: bool,
-    ) -> bool {
-        let marks = if by_later {
-            &self.moved.back
-        } else {
-            &self.moved.front
-        };
-        let Some(first) = label.earlier(placed.at).and_then(|at| self.offset(at)) else {
-            return false;
-        };
-        let (at, end) = (self.place(placed.at), self.place(placed.end));
-        within.at <= first
-            && first.saturating_add(end.saturating_sub(at)) <= within.end
-            && are_marked(marks, at, end)
+    /// Takes down what lines gave from an offset of the listing on.
+    fn keep(&mut self, at: usize, bytes: &[u8]) {
+        for (offset, byte) in bytes.iter().enumerate() {
+            if let Some(place) = self.gave.get_mut(at.saturating_add(offset)) {
+                *place = *byte;
+            }
+        }
     }
 
     /// Adds a byte that differs, or makes the last change longer, if that has as many bytes of both and ends there.
-    /// Past the end of the image nothing is in its place.
     fn add(&mut self, was: usize, is: usize) -> Result<(), AllocError> {
-        let len = self.scene.image().len();
-        let was = Stretch {
-            at: was.min(len),
-            end: was.saturating_add(1).min(len),
+        let byte = Part {
+            was: Stretch::of_byte(was),
+            is: Stretch::of_byte(is),
         };
-        let is = Stretch {
-            at: is,
-            end: is.saturating_add(1),
-        };
-        if let Some(last) = self.changes.last_mut() {
-            let had = last.was.end.saturating_sub(last.was.at);
-            let has = last.is.end.saturating_sub(last.is.at);
-            let wanted = if was.at < was.end { has } else { 0 };
-            if had == wanted && last.was.end == was.at && last.is.end == is.at {
-                last.was.end = was.end;
-                last.is.end = is.end;
-                return Ok(());
-            }
+        if let Some(last) = self.changes.last_mut()
+            && last.is_even()
+            && last.was.end == was
+            && last.is.end == is
+        {
+            (last.was.end, last.is.end) = (byte.was.end, byte.is.end);
+            return Ok(());
         }
-        self.changes.push(Change { was, is })?;
+        self.changes.push(byte)?;
         Ok(())
     }
 
-    /// Adds what differs in lines that have moved with the label before them. If the image does not have its address,
-    /// nothing has moved.
-    fn add_lines(&mut self, lines: &[Placed<'t>]) -> Result<(), AllocError> {
-        for placed in lines {
-            let label = self.scene.label_at(placed.at, false);
-            for at in placed.at..placed.end {
-                let is = self.place(at);
-                if !self.moved.front.get_at(is) {
-                    let was = label.earlier(at).map_or(usize::MAX, |at| self.place(at));
+    /// Adds what differs in a part that has as many bytes as it had.
+    fn compare_bytes(&mut self, part: Part) -> Result<(), AllocError> {
+        let scene = self.scene;
+        for line in scene.lines.get(self.places_in(part.is)).unwrap_or(&[]) {
+            let at = self.stretch(line).at;
+            let was = part.was.at.saturating_add(at.saturating_sub(part.is.at));
+            let earlier = self.earlier(line, was)?;
+            let earlier = at_most(&earlier, part.is.end.saturating_sub(at));
+            self.keep(at, earlier);
+            for (offset, byte) in earlier.iter().enumerate() {
+                let (was, is) = (was.saturating_add(offset), at.saturating_add(offset));
+                if self.scene.image.bytes().get(was) != Some(byte) {
                     self.add(was, is)?;
                 }
             }
@@ -147,109 +131,86 @@ impl<'c, 's, 'a, 't, 'l, 'n> Search<'c, 's, 'a, 't, 'l, 'n> {
         Ok(())
     }
 
-    /// Adds the one change between two labels that have not moved equally far, whose addresses are the ends of a
-    /// stretch of the image. The first lines that have only moved with the label before are left out, and the last
-    /// ones that have with the label after.
-    fn add_change_between(
-        &mut self,
-        lines: &[Placed<'t>],
-        front: Label,
-        back: Label,
-        mut was: Stretch,
-    ) -> Result<(), AllocError> {
-        let within = Stretch { at: 0, ..was };
+    /// Whether a line has only moved from a stretch of the image. Then takes down what it gave there.
+    fn takes(&mut self, line: &PlacedLine<'t>, was: Stretch) -> Result<bool, AllocError> {
+        let earlier = self.earlier(line, was.at)?;
+        if earlier.as_slice() != was.of(self.scene.image.bytes()) {
+            return Ok(false);
+        }
+        self.keep(self.stretch(line).at, &earlier);
+        Ok(true)
+    }
+
+    /// Adds the one change of a part that has not as many bytes as it had: what is left between its first lines that
+    /// have only moved and its last ones.
+    fn compare_ends(&mut self, part: Part) -> Result<(), AllocError> {
+        let Part { mut was, mut is } = part;
+        let scene = self.scene;
+        let lines = scene.lines.get(self.places_in(is)).unwrap_or(&[]);
         let mut first = 0usize;
-        for placed in lines {
-            if !self.has_only_moved(placed, front, within, false) {
+        for line in lines {
+            let [taken, rest] = was.halves(self.stretch(line).len());
+            if !self.takes(line, taken)? {
                 break;
             }
+            (was, is.at) = (rest, self.stretch(line).end);
             first = first.saturating_add(1);
         }
-        let rest = lines.get(first..).unwrap_or(&[]);
-        let begin = rest.first().map_or(back.at, |placed| placed.at);
-        was.at = front
-            .earlier(begin)
-            .and_then(|at| self.offset(at))
-            .unwrap_or(was.at);
-        let whole = Stretch {
-            end: self.scene.image().len(),
-            ..was
-        };
-        let mut end = back.at;
-        for placed in rest.iter().rev() {
-            if !self.has_only_moved(placed, back, whole, true) {
+        for line in lines.get(first..).unwrap_or(&[]).iter().rev() {
+            let len = was.len().saturating_sub(self.stretch(line).len());
+            let [rest, taken] = was.halves(len);
+            if !self.takes(line, taken)? {
                 break;
             }
-            end = placed.at;
+            (was, is.end) = (rest, self.stretch(line).at);
         }
-        was.end = back
-            .earlier(end)
-            .and_then(|end| self.offset(end))
-            .unwrap_or(was.end);
-        let is = Stretch {
-            at: self.place(begin),
-            end: self.place(end),
-        };
-        let change = trimmed(self.scene.image(), self.scene.bytes(), Change { was, is });
-        self.changes.push(change)?;
+        self.changes.push(trimmed(self.scene, Part { was, is }))?;
         Ok(())
     }
 
-    /// Adds what differs in the lines between two labels. If the image has the address of a label between
-    /// theirs, the lines are in another order.
-    fn add_between(
-        &mut self,
-        lines: &[Placed<'t>],
-        front: Label,
-        back: Label,
-    ) -> Result<(), AllocError> {
-        let from = self.named.partition_point(|named| *named < front.named);
-        let to = self.named.partition_point(|named| *named < back.named);
-        let is_between = usize::from(front.number != 0) < to.saturating_sub(from);
-        match (self.offset(front.named), self.offset(back.named)) {
-            (Some(at), Some(end)) if at <= end && !is_alike(front, back) && !is_between => {
-                self.add_change_between(lines, front, back, Stretch { at, end })
+    /// The image with the changes in it, by the parts of the listing; each byte of it is in one.
+    fn applied(&self) -> Result<Vec<u8>, AllocError> {
+        let mut out = Vec::new(self.scene.alloc);
+        let mut rest = self.changes.as_slice();
+        for part in self.scene.parts {
+            let own = rest.iter().take_while(|change| change.is_within(*part));
+            let count = own.count();
+            let mut was = part.was;
+            for change in rest.get(..count).unwrap_or(&[]) {
+                was.end = change.was.at;
+                out.extend_from_slice(was.of(self.scene.image.bytes()))?;
+                out.extend_from_slice(change.is.of(self.scene.bytes()))?;
+                was = Stretch {
+                    at: change.was.end,
+                    end: part.was.end,
+                };
             }
-            _ => self.add_lines(lines),
-        }
-    }
-
-    /// Adds all that differs apart from what has only moved.
-    fn add_all(&mut self, lines: &[Placed<'t>]) -> Result<(), AllocError> {
-        let at = u64::from(self.scene.start());
-        let mut front = Label {
-            named: at,
-            at,
-            ..IN_PLACE
-        };
-        let mut rest = lines;
-        for back in self.scene.labels() {
-            let count = rest.iter().take_while(|placed| placed.at < back.at).count();
-            self.add_between(rest.get(..count).unwrap_or(&[]), front, *back)?;
-            front = *back;
+            out.extend_from_slice(was.of(self.scene.image.bytes()))?;
             rest = rest.get(count..).unwrap_or(&[]);
         }
-        self.add_lines(rest)
+        Ok(out)
     }
 }
 
-/// What differs, of the lines that give bytes, apart from what has only moved. Fails only if memory ran out.
-pub fn changes_in<'t>(
-    scene: &Scene<'_, '_, 't, '_, '_>,
-    lines: &[Placed<'t>],
-    moved: &Moved,
-) -> Result<Vec<Change>, AllocError> {
-    let mut named = Vec::new(scene.alloc());
-    for label in scene.labels() {
-        named.push(label.named)?;
-    }
-    named.sort()?;
+/// What differs, in the order of the listing, apart from what has only moved. None if these changes of the image do not
+/// give the listing with the bytes that its lines gave before. Fails only if memory ran out.
+pub fn changes(scene: &Scene<'_, '_, '_, '_, '_>) -> Result<Option<Vec<Part>>, AllocError> {
     let mut search = Search {
         scene,
-        moved,
-        named,
-        changes: Vec::new(scene.alloc()),
+        gave: Vec::from_slice(scene.alloc, scene.bytes())?,
+        changes: Vec::new(scene.alloc),
     };
-    search.add_all(lines)?;
-    Ok(search.changes)
+    for part in scene.parts {
+        if part.is_even() {
+            search.compare_bytes(*part)?;
+        } else {
+            search.compare_ends(*part)?;
+        }
+    }
+    let parts = scene.parts.iter();
+    let taken = parts.fold(0usize, |sum, part| sum.saturating_add(part.was.len()));
+    if taken != scene.image.bytes().len() || search.applied()? != search.gave {
+        return Ok(None);
+    }
+    Ok(Some(search.changes))
 }

@@ -1,8 +1,8 @@
 //! Assembles a listing: `as65 [options] [listing]`.
 //!
 //! In order: the options, then help or version, whether the output is an input, the information file and whether the
-//! output is its input, the image to compare with, the listing, its bytes, whether its segments have a place and its
-//! labels are in place, and the output, which is created only now. With `--compare` nothing is written but the
+//! output is what it names, the image to compare with, the listing, its bytes, whether its segments have a place and
+//! its labels are in place, and the output, which is created only now. With `--compare` nothing is written but the
 //! differences from the image, on standard output. `status` has the statuses.
 #![tactic(auto)]
 
@@ -15,14 +15,15 @@ mod failure;
 mod image;
 mod information;
 mod labels;
+mod lines;
 mod message;
 mod moves;
 mod named_start;
 mod origins;
+mod parts;
 mod request;
 mod scene;
 mod segments;
-mod shown;
 mod sizes;
 mod status;
 mod stretches;
@@ -31,7 +32,8 @@ use assembled::{Assembled, Listed, need_bytes};
 use comparison::compare;
 use failure::{Failure, Refused};
 use files65::{
-    Output, Placeholders, keep_apart, keep_inputs, layout_of, read_listing, repair, write_text,
+    Output, Placeholders, keep_apart, keep_inputs, keep_named, layout_of, read_listing, repair,
+    write_text,
 };
 use image::image;
 use info65::Info;
@@ -82,12 +84,11 @@ fn len_in(rt: &HostRuntime, listing: &str, info: &Info) -> Result<Option<usize>,
     }
 }
 
-/// Reads the listing, and writes its bytes or its names. The output may not be the input of the information file
-/// either, and is created once they are there.
+/// Reads the listing, and writes its bytes or its names. The output may not be what the information file names either,
+/// and is created once they are there.
 fn write_listing(rt: &HostRuntime, writing: &mut Writing, info: &Info) -> Result<Ended, Failure> {
     let names = &mut writing.names;
-    let inputs = [info.settings().input.as_deref()];
-    keep_inputs(rt, names.output.as_deref(), &inputs)?;
+    keep_named(rt, names.output.as_deref(), info)?;
     let start = start_in(rt, names, info)?;
     let layout = layout_of(rt.alloc(), info.segments(), writing.place.fill)?;
     let name = names.listing.as_str();
@@ -122,7 +123,7 @@ fn write_image(rt: &HostRuntime, writing: &mut Writing) -> Result<Ended, Failure
 
 /// Reads the image and the listing, and writes on standard output where their bytes differ.
 fn compare_under(rt: &HostRuntime, comparing: &Comparing, info: &Info) -> Result<Ended, Failure> {
-    keep_inputs(rt, None, &[info.settings().input.as_deref()])?;
+    keep_named(rt, None, info)?;
     let image = image(rt, comparing.image.as_str(), info)?;
     let layout = layout_of(rt.alloc(), info.segments(), comparing.place.fill)?;
     let name = comparing.names.listing.as_str();

@@ -2,7 +2,7 @@
 
 ghost use Rattle.std.specs.Prelude.{◌≡◌, ◌<◌, ◌++◌, [], IfErr, IfOk, IfSome, OnOk, flat_map};
 ghost use Rattle.stmt65.specs.Words.{parts, reading_of, source_readings};
-ghost use Rattle.as65.specs.Words.{IsBy, IsMoved, address_in_name, bytes_text, digit, distance_text, is_alike, label_in_line, labels_in, move_line, move_text, moves_in, what_lies};
+ghost use Rattle.as65.specs.Words.{IsMoved, address_in_name, bytes_text, digit, distance_text, is_alike, label_in_line, labels_in, move_line, move_text, moves_in, what_lies};
 
 use crate::assembled::Assembled;
 use crate::failure::{Failure, Refused};
@@ -27,9 +27,7 @@ pub const IN_PLACE: Label = Label {
 
 impl Label {
     /// The address that something had, by how far this label lies from the address in its name.
-    pub fn earlier(self, at: u64) -> Option<u64>
-        ensures { IfSome result (IsBy self at) }
-    {
+    pub fn earlier(self, at: u64) -> Option<u64> {
         at.checked_add(self.named)?.checked_sub(self.at)
     }
 }

@@ -1,7 +1,6 @@
 //! The start that the names of a listing speak for: da65 calls an address `LXXXX` that has no name.
 
 use crate::assembled::Listed;
-use crate::moves::labels_in;
 use map65::Image;
 use std::alloc::{AllocError, Global};
 
@@ -19,8 +18,7 @@ pub fn named_start(
     image: &Image,
     listed: &Listed<'_, '_, '_, '_>,
 ) -> Result<Option<NamedStart>, AllocError> {
-    let source = listed.assembled().source();
-    let labels = labels_in(alloc, source, false, &listed.ends(alloc)?)?;
+    let labels = listed.labels(alloc)?;
     let taken = u64::from(image.start());
     let Some(start) = labels.first().and_then(|label| label.earlier(taken)) else {
         return Ok(None);

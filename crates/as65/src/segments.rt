@@ -28,6 +28,20 @@ fn segment_in<'t>(
     }
 }
 
+/// The START of the segment that a line enters, if it begins there.
+pub fn start_entered(
+    alloc: Global,
+    source: &Source<'_, '_, '_>,
+    line: &[u8],
+) -> Result<Option<u64>, AllocError> {
+    let entered = segment_in(alloc, source.language, line)?;
+    Ok(
+        entered
+            .and_then(|name| source.layout.start_of(name))
+            .map(u64::from),
+    )
+}
+
 /// The segments that a line `.segment` places, from the start on, by their STARTs: of those with one name the first.
 fn placed<'n>(
     alloc: Global,

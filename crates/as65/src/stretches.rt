@@ -10,6 +10,42 @@ pub struct Stretch {
     pub end: usize,
 }
 
+impl Stretch {
+    /// One byte.
+    pub fn of_byte(at: usize) -> Stretch {
+        let end = at.saturating_add(1);
+        Stretch { at, end }
+    }
+
+    /// How many bytes it has.
+    pub fn len(self) -> usize {
+        self.end.saturating_sub(self.at)
+    }
+
+    /// Its bytes, if these go so far.
+    pub fn of(self, bytes: &[u8]) -> &[u8] {
+        bytes.get(self.at..self.end).unwrap_or(&[])
+    }
+
+    /// Whether it has no byte outside of another.
+    pub fn is_within(self, whole: Stretch) -> bool {
+        whole.at <= self.at && self.end <= whole.end
+    }
+
+    /// Its first bytes, at most this many, and the rest.
+    pub fn halves(self, len: usize) -> [Stretch; 2] {
+        let middle = self.at.saturating_add(len.min(self.len()));
+        let (first, rest) = (
+            Stretch {
+                end: middle,
+                ..self
+            },
+            Stretch { at: middle, ..self },
+        );
+        [first, rest]
+    }
+}
+
 /// The first offset from this one on where the bytes differ, or where they don't; else the end of the shorter row.
 fn first_where(one: &[u8], other: &[u8], from: usize, differ: bool) -> usize
     requires one { from ≤ length one.now }

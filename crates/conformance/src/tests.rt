@@ -10,6 +10,7 @@ mod files;
 mod include_files;
 mod inputs;
 mod large_rows;
+mod library;
 mod maps;
 mod marks;
 mod memory;

@@ -5,6 +5,4 @@ pub mod StepLemmas
 pub mod ShapeLemmas
 pub mod InsideLemmas
 pub mod DefinedLemmas
-pub mod PieceLines
-pub mod BeginLaws
 pub mod SkipLemmas

@@ -4,4 +4,3 @@ pub mod ValueLaws
 pub mod WorthLaws
 pub mod OperandLaws
 pub mod ModeLaws
-pub mod ForcedLaws

@@ -7,5 +7,4 @@ pub mod Statements
 pub mod Blocks
 pub mod Reentry
 pub mod Outcomes
-pub mod Worked
 pub mod Rules

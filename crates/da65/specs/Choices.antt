@@ -1,7 +1,24 @@
 -- The program's command line.
-use Rattle.std.specs.Prelude.{[], ◌∷◌, None, Some, codes}
+use Rattle.std.specs.Prelude.{ℕ, [], ◌∷◌, None, Option, Some, codes}
 use Rattle.clap.specs.Words.{App, Text}
-use Rattle.usage65.specs.Words.{ChoiceView, ProgramView, command_of, cpu_choice, help_choice, info_choice, output_choice, start_choice, version_choice}
+use Rattle.usage65.specs.Words.{ChoiceView, ProgramView, command_of}
+
+-- the letter of a text of one letter
+abbrev letter : Text → Option ℕ
+letter [] = None
+letter (c ∷ cs) = Some c
+
+abbrev pub info_choice : ChoiceView
+info_choice = record { id = codes "info"; short = letter (codes "i"); long = Some (codes "info"); value = Some (codes "name"); purpose = codes "information file" }
+
+abbrev pub output_choice : ChoiceView
+output_choice = record { id = codes "output"; short = letter (codes "o"); long = None; value = Some (codes "name"); purpose = codes "output file" }
+
+abbrev pub start_choice : ChoiceView
+start_choice = record { id = codes "start"; short = letter (codes "S"); long = Some (codes "start-addr"); value = Some (codes "addr"); purpose = codes "start address" }
+
+abbrev pub cpu_choice : ChoiceView
+cpu_choice = record { id = codes "cpu"; short = None; long = Some (codes "cpu"); value = Some (codes "type"); purpose = codes "6502, 65SC02 or 65C02" }
 
 -- an option that takes a number
 abbrev number_choice : Text → Text → ChoiceView
@@ -27,6 +44,12 @@ label_break_choice = number_choice (codes "label-break") (codes "longest label b
 
 abbrev pub hexoffs_choice : ChoiceView
 hexoffs_choice = record { id = codes "hexoffs"; short = None; long = Some (codes "hexoffs"); value = None; purpose = codes "offsets in hexadecimal" }
+
+abbrev pub help_choice : ChoiceView
+help_choice = record { id = codes "help"; short = letter (codes "h"); long = Some (codes "help"); value = None; purpose = codes "this text" }
+
+abbrev pub version_choice : ChoiceView
+version_choice = record { id = codes "version"; short = letter (codes "V"); long = Some (codes "version"); value = None; purpose = codes "version" }
 
 -- the id of the input name, which is no option
 abbrev pub input_id : Text

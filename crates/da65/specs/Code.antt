@@ -1,6 +1,5 @@
 -- What ties the code to the rules: what its parts have done, for each of their results.
 pub mod Bases
-pub mod KeySet
 pub mod Layout
 pub mod ListedGroups
 pub mod NamedCells

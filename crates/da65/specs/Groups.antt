@@ -4,12 +4,11 @@
 -- a line. The items of a piece are counted from 0 at its start, and again from 0 at each item that is defined by name;
 -- item k belongs to group k divided by the limit. So a group breaks before an item that is defined by name. An item of
 -- code and a leftover byte of a table stand alone.
-use Rattle.std.specs.Prelude.{◌≡◌, ◌↔◌, ◌⊎◌, ℕ, zero, suc, ◌+◌, ◌-◌, ◌*◌, ◌%◌, ◌<◌, ◌≤◌, ◌==◌, ◌&&◌, not, Bool, true, false, List, length, take, if◌then◌else◌}
+use Rattle.std.specs.Prelude.{◌≡◌, ℕ, zero, suc, ◌+◌, ◌-◌, ◌≤◌, ◌==◌, ◌&&◌, not, Bool, List, length, take, if◌then◌else◌}
 use Rattle.std.specs.List.{filter, list_any}
 use Rattle.info65.specs.Words.{layout_of}
 use Rattle.da65.specs.Types.{RangeSpec, RangeType}
-use Rattle.info65.specs.declared.information.range.RangeType.TheVariants as role
-use Rattle.map65.specs.Words.{AreOnePiece, IsFirst, MapView, addresses, bytes_from, is_inside, is_joined, is_skip, item_len, item_start, left_at, role_of, unit_of}
+use Rattle.map65.specs.Words.{MapView, addresses, bytes_from, is_inside, is_joined, is_skip, item_len, item_start, left_at, role_of, unit_of}
 use Rattle.da65.specs.BaseNames.{is_base, names_of}
 
 -- how many items a line takes at most
@@ -84,34 +83,3 @@ skips m = list_any (λ a. is_skip (role_of m.info a)) (addresses (length m.image
 -- the bytes of a range are skipped
 abbrev pub is_skip_range : RangeSpec → Bool
 is_skip_range r = is_skip r.role
-
--- ---- the law
-
--- the items of a piece are counted from here: the address is the first of the piece, or is defined by name
-abbrev pub IsStart : MapView → ℕ → Type 0
-IsStart m a = IsFirst m a ⊎ (is_defined m a ≡ true)
-
--- the address is where item k begins, counted from the last such address, if all
--- items before it are of their table's unit
-pub record IsItemOf (m : MapView) (a k : ℕ) : Type 0 where
-  pub first : ℕ
-  pub is_start : IsStart m first
-  pub one_piece : AreOnePiece m first a
-  pub unnamed : (x : ℕ) → first < x → x ≤ a → is_defined m x ≡ false
-  pub place : a ≡ first + k * unit_of (role_of m.info a)
-
--- it is where item k begins, and the number of items that a line takes divides k
-pub record BeginsFullLine (m : MapView) (a limit : ℕ) : Type 0 where
-  pub index : ℕ
-  pub item : IsItemOf m a index
-  pub divides : index % limit ≡ 0
-
--- the item at an address is the first of its line
-abbrev pub BeginsLine : MapView → ℕ → RangeType → Type 0
-BeginsLine m a role.Code = Unit {0}
-BeginsLine m a r = (is_whole m a ≡ false) ⊎ BeginsFullLine m a (limit_of r)
-
--- A group begins at an address exactly when an item begins there that is of code, is left over, or is item k of its
--- piece, counted again from each item that is defined by name, and the number of items that a line takes divides k.
-abbrev pub GroupLaw : MapView → Type 0
-GroupLaw m = (a : ℕ) → (begins m a ≡ true) ↔ ((0 < item_len m a) × BeginsLine m a (role_of m.info a))

@@ -21,6 +21,5 @@ pub mod Shapes
 pub mod Statements
 pub mod Style
 pub mod Usage
-pub mod ListingRows
 pub mod Types
 pub mod Words

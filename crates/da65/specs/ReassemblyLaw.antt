@@ -2,7 +2,7 @@
 --
 -- From the statement of a group to its bytes, from the lines of the listing to the image, and from its text to the
 -- image, for images without skipped bytes.
-use Rattle.std.specs.Prelude.{◌≡◌, ◌↔◌, ℕ, ◌+◌, ◌-◌, ◌<◌, ◌≤◌, Bool, true, false, List, [], ◌∷◌, length, map, take, Option, Some, None, Ok}
+use Rattle.std.specs.Prelude.{◌≡◌, ℕ, ◌+◌, ◌-◌, ◌<◌, ◌≤◌, Bool, true, false, List, ◌∷◌, length, map, take, Option, Some, None, Ok, []}
 use Rattle.isa65.specs.Words.{Table, encoded, row_of, table_of}
 use Rattle.da65.specs.Types.{Mode, Op, OperandKind, RangeType, Row}
 use Rattle.isa65.specs.declared.row.OperandKind.TheVariants as kind
@@ -12,7 +12,7 @@ use Rattle.stmt65.specs.Words.{Definition, Distance, ExprView, Fixed, Fragment, 
 use Rattle.stmt65.specs.declared.source_line.Minus.TheVariants.{One}
 use Rattle.info65.specs.Names as given
 use Rattle.info65.specs.Words.{AreSegments}
-use Rattle.map65.specs.Words.{AreBytes, Base, ImageView, IsPlaced, MapView, code_size, end_of, opcodes, role_of, target_of, operand_word}
+use Rattle.map65.specs.Words.{AreBytes, Base, ImageView, IsPlaced, MapView, code_size, end_of, opcodes, role_of, target_of}
 use Rattle.da65.specs.BaseNames.{AreSound, AddressNames, base_name, is_base, names_of}
 use Rattle.da65.specs.Groups.{begins, group_bytes, group_len, skips}
 use Rattle.da65.specs.Instructions.{instruction_in}
@@ -92,13 +92,8 @@ pub record IsWritten (m : AddressNames) (t : Table) (a : ℕ) (bytes : List ℕ)
   pub begins : instruction_in t bytes ≡ Some op
   pub has : operands_of m op.mode a bytes ≡ Some os
 
--- The statement of an item is its instruction, if that can be written.
-abbrev pub WrittenIsInstruction : Type 0
-WrittenIsInstruction = (m : AddressNames) (t : Table) (a : ℕ) (bytes : List ℕ) (op : Op) (os : OperandsView)
-    → IsWritten m t a bytes op os → statement_in m t a bytes ≡ view.instr op (is_forced t op bytes) os
-
--- Otherwise it is the item's bytes: of an undefined and a cut opcode, and of an instruction whose
--- target lies outside the address space.
+-- If the instruction of an item can't be written, its statement is the item's bytes: of an undefined and a cut opcode,
+-- and of an instruction whose target lies outside the address space.
 abbrev pub UnwrittenIsBytes : Type 0
 UnwrittenIsBytes = (m : AddressNames) (t : Table) (a : ℕ) (bytes : List ℕ) → AreBytes bytes → ((op : Op) (os : OperandsView) → IsWritten m t a bytes op os → ⊥)
     → statement_in m t a bytes ≡ view.bytes (item_in t bytes)
@@ -108,18 +103,6 @@ UnwrittenIsBytes = (m : AddressNames) (t : Table) (a : ℕ) (bytes : List ℕ) �
 abbrev pub ModeIsChosenBack : Type 0
 ModeIsChosenBack = (image : ImageView) (m : AddressNames) (p : ℕ → Bool) (s : State) (a : ℕ) (bytes : List ℕ) (op : Op) (os : OperandsView)
     → AreSound image m → KnowsConstants m p s.above → IsWritten m (table_of s.cpu) a bytes op os → CodesInMode s op (is_forced (table_of s.cpu) op bytes) os
-
--- an address without a name, or with one whose base a constant line defines: an assembler
--- knows whether it lies in the zero page
-abbrev pub HasKnownSize : AddressNames → ℕ → Type 0
-HasKnownSize m a = (b : Base) → m.base_at a ≡ Some b → m.has_constant b.address ≡ true
-
--- `a:` stands exactly where without it another mode would be taken, unless the operand goes by the name of a label,
--- which is never taken for an address in the zero page.
-abbrev pub ForcedWhereNeeded : Type 0
-ForcedWhereNeeded = (image : ImageView) (m : AddressNames) (p : ℕ → Bool) (s : State) (a : ℕ) (bytes : List ℕ) (op : Op) (os : OperandsView)
-    → AreSound image m → KnowsConstants m p s.above → IsWritten m (table_of s.cpu) a bytes op os → HasKnownSize m (operand_word bytes)
-    → CodesInMode s op false os ↔ (is_forced (table_of s.cpu) op bytes ≡ false)
 
 -- A target that is written lies in the address space and in range, and its distance is the byte that was decoded.
 abbrev pub TargetIsInRange : Type 0

@@ -2,8 +2,8 @@
 use Rattle.std.specs.Prelude.{ℕ, List, Result, Ok}
 use Rattle.clap.specs.Words.{Row, Text, first_of}
 use Rattle.info65.specs.Words.{OptionsView}
-use Rattle.da65.specs.Choices.{app, argument_column_choice, comment_column_choice, comments_choice, hexoffs_choice, input_id, label_break_choice, mnemonic_column_choice, text_column_choice}
-use Rattle.usage65.specs.Words.{accepted, address_in, cpu_choice, cpu_in, decimal_in, given, help_choice, info_choice, is_set, output_choice, start_choice, version_choice, ◌>>=◌}
+use Rattle.da65.specs.Choices.{app, argument_column_choice, comment_column_choice, comments_choice, cpu_choice, help_choice, hexoffs_choice, info_choice, input_id, label_break_choice, mnemonic_column_choice, output_choice, start_choice, text_column_choice, version_choice}
+use Rattle.usage65.specs.Words.{accepted, address_in, cpu_in, decimal_in, given, is_set, ◌>>=◌}
 use Rattle.da65.specs.declared.command_line.usage.Layout.{Layout}
 use Rattle.da65.specs.Types.{UsageFault}
 

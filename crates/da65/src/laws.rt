@@ -1,22 +1,7 @@
 //! The laws of the listing and of its reassembly.
 
 ghost use Rattle.map65.specs.Words.{MapView};
-ghost use Rattle.da65.specs.Words.{ExpressionsHaveTheirValues, ForcedWhereNeeded, GroupGivesItsBytes, GroupLaw, GroupsAreGroups, ItemGivesItsBytes, ListingGivesImage, ModeIsChosenBack, NamesAreDefinedOnce, NamesAreSound, TargetIsInRange, TextGivesImage, UnwrittenIsBytes, WorkedListings, WrittenIsInstruction};
-
-#[tactic(auto, using(crate::proofs::Worked::ListingRows::worked_listings))]
-pub fn worked_listings()
-    /// The worked examples have their listings, byte for byte. The proof computes each listing with constant lines
-    /// only up to address $FF, and for all but two without the four header lines. The tests compare whole listings.
-    ensures { WorkedListings }
-{}
-
-#[tactic(auto, using(crate::proofs::Groups::BeginLaws::group_law))]
-pub fn group_law()
-    /// A group begins exactly where an item begins that is code, or is left over, or has a number k that the number
-    /// of items on a line divides. Items are numbered from 0, from the start of the piece or the last item defined
-    /// by name.
-    ensures { (m : MapView) → GroupLaw m }
-{}
+ghost use Rattle.da65.specs.Words.{ExpressionsHaveTheirValues, GroupGivesItsBytes, GroupsAreGroups, ItemGivesItsBytes, ListingGivesImage, ModeIsChosenBack, NamesAreDefinedOnce, NamesAreSound, TargetIsInRange, TextGivesImage, UnwrittenIsBytes};
 
 pub fn groups_are_groups()
     /// The bytes of each group are one item of code, a line of a table of its role, or a leftover byte.
@@ -44,11 +29,6 @@ pub fn expressions_have_their_values()
     ensures { ExpressionsHaveTheirValues }
 {}
 
-pub fn written_is_instruction()
-    /// The statement of an item of code is its instruction, if that can be written.
-    ensures { WrittenIsInstruction }
-{}
-
 #[tactic(auto, using(crate::proofs::Statements::Reassembly::unwritten_is_bytes, std::proofs::lemmas::Grind::common_steps))]
 pub fn unwritten_is_bytes()
     /// If the instruction of an item of code can't be written, its statement is the item's bytes.
@@ -59,12 +39,6 @@ pub fn unwritten_is_bytes()
 pub fn mode_is_chosen_back()
     /// Each instruction is coded in the mode that it was decoded from.
     ensures { ModeIsChosenBack }
-{}
-
-pub fn forced_where_needed()
-    /// Unless the operand is the name of a label, `a:` stands exactly where an assembler would take another mode
-    /// without it.
-    ensures { ForcedWhereNeeded }
 {}
 
 pub fn target_is_in_range()

@@ -16,10 +16,9 @@ pub use command_line::command::this_program;
 pub use command_line::usage::options_of;
 pub use info65::{Info, InfoFault, Options, read_info};
 pub use laws::{
-    expressions_have_their_values, forced_where_needed, group_gives_its_bytes, group_law,
-    groups_are_groups, item_gives_its_bytes, listing_gives_image, mode_is_chosen_back,
-    names_are_defined_once, names_are_sound, target_is_in_range, text_gives_image,
-    unwritten_is_bytes, worked_listings, written_is_instruction,
+    expressions_have_their_values, group_gives_its_bytes, groups_are_groups, item_gives_its_bytes,
+    listing_gives_image, mode_is_chosen_back, names_are_defined_once, names_are_sound,
+    target_is_in_range, text_gives_image, unwritten_is_bytes,
 };
 pub use listing::lines::{Lines, write_lines};
 pub use map65::{DeviceFault, Sink, Source, Told, write_whole};

@@ -6,7 +6,7 @@ mod constant_lines;
 mod group;
 mod group_lines;
 pub(crate) mod grouping;
-mod heading_lines;
+pub(crate) mod heading_lines;
 pub(crate) mod lines;
 mod listed_image;
 mod marks;

@@ -1,7 +1,6 @@
 //! From an information file, include files and an input to a listing and messages.
 
 pub(crate) mod files;
-mod key_set;
 mod messages;
 pub(crate) mod needs;
 pub(crate) mod outcome;

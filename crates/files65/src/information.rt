@@ -6,7 +6,7 @@ ghost use Rattle.files65.specs.Faults.{IsRefused, options_at};
 
 use crate::failure::Failure;
 use crate::named_twice::named_twice;
-use info65::{Info, InfoFaultKind, MOST_BYTES, Options, Tag, read_info, read_tags};
+use info65::{Info, InfoFaultKind, Options, Tag, read_info, read_tags};
 use std::alloc::Global;
 
 /// What these bytes say under the options, without include files. Refuses a file that da65 refuses.
@@ -44,10 +44,7 @@ pub fn information_at<R>(
     information_of(alloc, &options, bytes)
 }
 
-/// The groups of the lines `#: ..` of an information file that is not too large.
+/// The groups of the lines `#: ..` of an information file.
 pub fn tags_of<R>(alloc: Global, bytes: &[u8]) -> Result<Vec<Tag>, Failure<R>> {
-    if MOST_BYTES < bytes.len() {
-        return Ok(Vec::new(alloc));
-    }
     Ok(read_tags(alloc, bytes)?)
 }

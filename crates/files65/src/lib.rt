@@ -2,11 +2,11 @@
 //!
 //! [`Input::open`] opens what is read and [`Output::create`] creates what is written, by [`write_text`].
 //! [`read_information`] and [`read_listing`] read such a file up to its limit, [`contents`] any other. [`Placeholders`]
-//! stand for standard streams that are closed. [`keep_inputs`], [`keep_apart`] and [`need_plain`] refuse an output that
-//! is an input, a stream that is two inputs, and an output that is no file. [`obey`] does what a command line asks for.
-//! [`say`] says why a program gives up, a [`Failure`], and [`end`] ends it; a [`FileFault`] is what can go wrong with a
-//! file. [`information_of`] and [`tags_of`] are what an information file says; [`layout_of`] and [`start_or_end`] say
-//! where the bytes of a listing belong.
+//! stand for standard streams that are closed. [`keep_inputs`] and [`keep_named`], [`keep_apart`] and [`need_plain`]
+//! refuse an output that is an input, a stream that is two inputs, and an output that is no file. [`obey`] does what a
+//! command line asks for. [`say`] says why a program gives up, a [`Failure`], and [`end`] ends it; a [`FileFault`] is
+//! what can go wrong with a file. [`information_of`] and [`tags_of`] are what an information file says; [`layout_of`]
+//! and [`start_or_end`] say where the bytes of a listing belong.
 //!
 //! [`assembled`] is what a listing means. [`failure_of`] says which line of it has a fault, with the line and a hint:
 //! what the assembler found it to be about, or a guess from its text (`hint`, and what it names). The hint is advice.
@@ -49,5 +49,5 @@ pub use placeholders::Placeholders;
 pub use reading::{
     INFORMATION_LIMIT, contents, needed_contents, read_from, read_information, read_listing,
 };
-pub use same::{keep_apart, keep_files, keep_inputs, need_plain};
+pub use same::{keep_apart, keep_files, keep_inputs, keep_named, need_plain};
 pub use shown::{at_most, put_dots, put_shown, trimmed};

@@ -1,6 +1,7 @@
 //! Whether names are of one file: an output that is an input, and a stream that two inputs would be read from.
 
 use crate::fault::FileFault;
+use info65::Info;
 use std::fs::{Metadata, metadata};
 use std::os::unix::fs::MetadataExt;
 use usage65::FileNames;
@@ -49,6 +50,16 @@ pub fn keep_inputs(
             let name = String::from_str(rt.alloc(), output.unwrap_or(input))?;
             return Err(FileFault::OutputIsInput(name));
         }
+    }
+    Ok(())
+}
+
+/// Refuses an output that is the image or an include file which an information file names, whether they are read or
+/// not.
+pub fn keep_named(rt: &HostRuntime, output: Option<&str>, info: &Info) -> Result<(), FileFault> {
+    keep_inputs(rt, output, &[info.settings().input.as_deref()])?;
+    for include in info.includes() {
+        keep_inputs(rt, output, &[Some(include.file.as_str())])?;
     }
     Ok(())
 }

@@ -1,4 +1,3 @@
 mod CommandLemmas
 mod LinkLemmas
 mod PieceLemmas
-mod Rows

@@ -1,22 +1,17 @@
 -- What stands in a tag and in a page, step by step, and the numbers of ids.
-use Rattle.std.proofs.Common.{◌≡◌, ◌+◌, ◌-◌, ◌<◌, ℕ, Bool, Bor, List, [], ◌∷◌, None, Some, drop, length, take, true, false, refl, sym, ap, arith, ◌&&◌, ◌∙◌, get_or, min, suc, zero, ◌≢◌, ◌++◌, ◌≤◌, append_assoc, Option, option_to_list, inl, inr}
-use Rattle.std.specs.Prelude.{codes, nat_eq, nat_le, not, set, ◌==◌, ◌||◌}
-use Rattle.std.specs.List.{filter_map, list_any, prefix_len, slice_get, starts_with}
+use Rattle.std.proofs.Common.{◌≡◌, ◌+◌, ◌-◌, ◌<◌, ℕ, Bor, List, [], ◌∷◌, None, Some, drop, length, take, true, false, refl, sym, ap, arith, ◌∙◌, get_or, min, suc, zero, ◌≢◌, ◌++◌, ◌≤◌, append_assoc, Option, option_to_list, inl, inr}
+use Rattle.std.specs.Prelude.{codes, nat_eq, nat_le, set}
+use Rattle.std.specs.List.{filter_map, prefix_len, starts_with}
 use Rattle.std.specs.Str.{bytes_eq}
 use Rattle.std.proofs.lemmas.Slice.Eq.{bytes_eq-Decides}
-use Rattle.std.proofs.lemmas.Bool.{and_parts, eq-eqb, eqb-true, false_from_ne_true, leb-true, ne_eqb}
+use Rattle.std.proofs.lemmas.Bool.{and_parts, eq-eqb, false_from_ne_true, leb-true, ne_eqb}
 use Rattle.std.proofs.lemmas.Bool.{cases_eq}
 use Rattle.std.proofs.lemmas.Bool.Decides.{eqb_tells}
 use Rattle.std.proofs.lemmas.List.{append-nil, get_or-set_other, get_or-set_same, length-set, length-take, take-append-drop, take_rest}
 use Rattle.html65.specs.Links.{are_ascending, count_in, is_found, kind_of, number_in, quoted_after, texts}
-use Rattle.html65.specs.Operands.{PlacedView, defines, is_line_of, placed_by, placed_from}
-use Rattle.html65.specs.PageText.{after_tag, kept, region_after, text_from}
+use Rattle.html65.specs.PageText.{after_tag, kept, text_from}
 use Rattle.html65.specs.Pieces.{Piece, Tag, Text, is_other}
-use Rattle.html65.specs.Views.{places_of}
 use Rattle.html65.specs.declared.faults.Region.{Region}
-use Rattle.html65.specs.declared.operands.Placed.{Placed}
-use Rattle.stmt65.specs.Words.{parts}
-use Rattle.stmt65.specs.declared.language.Language.TheVariants.{Repair}
 
 pub quoted_none : (key tag : List ℕ) → length tag ≡ 0 → None ≡ quoted_after key tag
 unfolding quoted_after
@@ -126,27 +121,6 @@ passed_whole place (b ∷ bs) listing whole ps none empty before = absurd (omega
 
 pub ruleset read_back = (taken_more, taken_whole, passed_on, passed_whole)
 
--- ---- what is taken down of the pieces of the listing
-
--- a piece, and what is left
-pub placed_more : (key : List ℕ) (place behind : Region) (left left' : List ℕ) (taken new whole : List PlacedView) (p : Piece) (ps rest : List Piece) → ps ≡ p ∷ rest → behind ≡ region_after place p
-    → ((more : List Piece) → text_from behind more ≡ left' → text_from place (p ∷ more) ≡ left) → (text_from place ps ≡ left → taken ++ placed_from key place ps ≡ whole)
-    → new ≡ taken ++ placed_by key behind left' p → text_from behind rest ≡ left' → new ++ placed_from key behind rest ≡ whole
-unfolding placed_from
-placed_more key place behind left left' taken new whole p ps rest step next passes before is same =
-    let all = before (rw step (passes rest same)) in
-    let all' = rw (step, ← next, same) at all in
-    rw (is, append_assoc) all'
-
--- no piece is left
-pub placed_whole : (key : List ℕ) (place : Region) (left : List ℕ) (taken whole : List PlacedView) (ps : List Piece) → ps ≡ [] → length left ≡ 0
-    → (text_from place ps ≡ left → taken ++ placed_from key place ps ≡ whole) → taken ≡ whole
-unfolding placed_from text_from
-placed_whole key place [] taken whole ps none empty before = rw (none, append-nil) at (before (rw none refl))
-placed_whole key place (b ∷ bs) taken whole ps none empty before = absurd (omega arith)
-
-pub ruleset placed_back = (placed_more, placed_whole)
-
 -- ---- the numbers of ids
 
 -- the least numbers after an id
@@ -220,25 +194,3 @@ once id least (suc i) (x ∷ xs) d four are lt is =
 pub one_is_found : (ids : List (Bor (List ℕ))) (id : List ℕ) (i : ℕ) (d : Bor (List ℕ)) → are_ascending (0 ∷ 0 ∷ 0 ∷ 0 ∷ []) (texts ids) ≡ true → i < length ids
     → bytes_eq (get_or ids i d).now id ≡ true → is_found (texts ids) id ≡ true
 one_is_found ids id i d are lt same = rw (once id (0 ∷ 0 ∷ 0 ∷ 0 ∷ []) i ids d refl are lt ((bytes_eq-Decides (get_or ids i d).now id).0 same)).0 refl
-
--- ---- the number of an address
-
--- a number that is held is itself, if it is below 2^32
-pub same_number : (n m : ℕ) → (min n 18446744073709551615 == m) ≡ true → m < 4294967296 → (n == m) ≡ true
-same_number n m is lt =
-    let e : min n 18446744073709551615 ≡ m = eqb-true _ m is in
-    let same : n ≡ m = omega arith in
-    eq-eqb n m same
-
--- ---- the line of a name
-
-or_true : (b : Bool) → (b || true) ≡ true
-or_true true = refl
-or_true false = refl
-
--- a line of the target that defines the name is one of them
-pub line_at : (lines : List Placed) (i : ℕ) (d : Placed) (target name : List ℕ) → i < length lines → bytes_eq (get_or lines i d).name.now target ≡ true
-    → defines name (parts Repair (get_or lines i d).text.now) ≡ true → list_any (is_line_of target name) (places_of lines) ≡ true
-line_at [] i d target name lt same is = absurd (omega arith)
-line_at (x ∷ xs) zero d target name lt same is = rw (same, is) refl
-line_at (x ∷ xs) (suc i) d target name lt same is = rw (line_at xs i d target name (omega arith) same is) (or_true _)

@@ -1,6 +1,5 @@
 pub mod Command
 pub mod Links
-pub mod Operands
 pub mod PageText
 pub mod Pieces
 pub mod Request

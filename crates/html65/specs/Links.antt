@@ -1,5 +1,5 @@
 -- The links within a page.
-use Rattle.std.specs.Prelude.{◌++◌, map, true, IsTrue, ◌≡◌, ℕ, Bool, cond, ◌&&◌, ◌+◌, ◌*◌, ◌%◌, List, [], ◌∷◌, Option, option_to_list, None, Some, codes, drop, fold, get_or, length, nat_eq, nat_le, take, set, not, ◌==◌, if◌then◌else◌}
+use Rattle.std.specs.Prelude.{◌++◌, map, true, IsTrue, ◌≡◌, ℕ, Bool, cond, ◌&&◌, ◌+◌, ◌*◌, ◌%◌, List, [], ◌∷◌, Option, option_to_list, None, Some, codes, drop, fold, get_or, length, nat_eq, nat_le, take, set, ◌==◌, if◌then◌else◌}
 use Rattle.std.specs.Char.{digit_value, is_ascii_hexdigit}
 use Rattle.std.specs.List.{filter_map, list_all, prefix_len, starts_with}
 use Rattle.std.specs.Str.{bytes_eq}

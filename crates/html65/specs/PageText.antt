@@ -15,11 +15,6 @@ after_tag Listing tag = if bytes_eq tag (codes "i") || starts_with nat_eq tag (c
 after_tag Remark tag = if bytes_eq tag (codes "/i") then Listing else Remark
 after_tag After tag = After
 
--- where what follows a piece stands
-abbrev pub region_after : Region → Piece → Region
-region_after place (Tag tag) = after_tag place tag
-region_after place (Text text) = place
-
 -- what of a text is the listing's
 abbrev pub kept : Region → List ℕ → List ℕ
 kept Listing text = text

@@ -9,30 +9,21 @@ use std::alloc::{AllocError, Global};
 /// The most that the number of an id may be for it to be found again.
 const MOST: usize = 4_194_304;
 
-/// Where ids are, by their kinds and numbers. Nothing of it is trusted: whoever asks looks whether the id is there.
+/// The place of no id.
+const NOWHERE: usize = usize::MAX;
+
+/// The place of each id among all, by its kind and its number. Nothing of it is trusted: whoever asks looks whether the
+/// id is there.
 #[derive(Drop)]
 pub struct Index {
-    names: Vec<Place>,
-    lines: Vec<Place>,
-    rows: Vec<Place>,
-    lists: Vec<Place>,
+    names: Vec<usize>,
+    lines: Vec<usize>,
+    rows: Vec<usize>,
+    lists: Vec<usize>,
 }
-
-/// The place of an id among all, and among those of its kind.
-#[derive(Clone, Copy)]
-pub struct Place {
-    pub among_all: u32,
-    pub of_kind: u32,
-}
-
-/// That of no id.
-const NOWHERE: Place = Place {
-    among_all: u32::MAX,
-    of_kind: u32::MAX,
-};
 
 impl Index {
-    pub fn new(alloc: Global) -> Index {
+    fn new(alloc: Global) -> Index {
         Index {
             names: Vec::new(alloc),
             lines: Vec::new(alloc),
@@ -41,9 +32,9 @@ impl Index {
         }
     }
 
-    /// Takes down the next id of a kind, which has a number.
-    fn note(&mut self, kind: usize, number: u32, among_all: usize) -> Result<(), AllocError> {
-        let ids = match kind {
+    /// Takes down the place of the next id of a kind, which has a number.
+    fn note(&mut self, kind: usize, number: u32, place: usize) -> Result<(), AllocError> {
+        let places = match kind {
             0 => &mut self.names,
             1 => &mut self.lines,
             2 => &mut self.rows,
@@ -53,30 +44,25 @@ impl Index {
         if MOST < number {
             return Ok(());
         }
-        let among_all = among_all.min(0xFFFF_FFFF) as u32;
-        let of_kind = ids.last().map_or(0, |last| last.of_kind.saturating_add(1));
-        if ids.len() < number {
-            ids.resize(
-                number,
-                Place {
-                    of_kind: of_kind.saturating_sub(1),
-                    ..NOWHERE
-                },
-            )?;
+        if places.len() < number {
+            places.resize(number, NOWHERE)?;
         }
-        ids.push(Place { among_all, of_kind })?;
+        places.push(place)?;
         Ok(())
     }
 
     /// Where an id should be.
-    pub fn place_of(&self, id: &[u8]) -> Place {
-        let ids = match kind_of(id) {
+    fn place_of(&self, id: &[u8]) -> usize {
+        let places = match kind_of(id) {
             0 => &self.names,
             1 => &self.lines,
             2 => &self.rows,
             _ => &self.lists,
         };
-        ids.get(number_in(id) as usize).copied().unwrap_or(NOWHERE)
+        places
+            .get(number_in(id) as usize)
+            .copied()
+            .unwrap_or(NOWHERE)
     }
 }
 
@@ -147,7 +133,7 @@ fn is_found(ids: &[&[u8]], index: &Index, target: &[u8]) -> bool
     requires { are_ascending (0 ∷ 0 ∷ 0 ∷ 0 ∷ []) (texts ids.now) ≡ true }
     ensures { IsTrue result → IsTrue (is_found (texts ids.now) target.now) }
 {
-    let place = index.place_of(target).among_all as usize;
+    let place = index.place_of(target);
     place < ids.len() && ids[place] == target
 }
 

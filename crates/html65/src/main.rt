@@ -2,11 +2,11 @@
 //!
 //! In order: the options, then help or version, whether the output is an input, the information file, the listing, its
 //! page, and the output, which is created only now. `page` has the promise: the text of the page is the listing, and
-//! each link leads to one line. The status is 0 if the page, the help text or the version was written, otherwise 1.
+//! each link leads to one element. The status is 0 if the page, the help text or the version was written, otherwise 1.
 //!
 //! `survey` reads each of the `lines` once: the names, who refers to them and to numbers, by `way`, and what
 //! `kind` the bytes are. `head`, `map`, `tables`, `calls`, `listing`, `uses` and `pictures` write the page, with
-//! `markup`. `pieces` and `faults` read it back, with `ids` and `operands`.
+//! `markup`. `pieces` and `faults` read it back, with `ids`.
 #![tactic(auto)]
 
 mod calls;
@@ -20,7 +20,6 @@ mod lines;
 mod listing;
 mod map;
 mod markup;
-mod operands;
 mod order;
 mod page;
 mod pictures;
@@ -33,7 +32,7 @@ mod way;
 
 use failure::Failure;
 use files65::{
-    FileFault, Output, end, information_at, keep_files, keep_inputs, layout_of, obey,
+    FileFault, Output, end, information_at, keep_files, keep_named, layout_of, obey,
     read_information, read_listing, repair, start_or_end, write_text,
 };
 use info65::Info;
@@ -61,11 +60,10 @@ fn listing_in(rt: &HostRuntime, name: &str) -> Result<Vec<u8>, Failure> {
     Ok(text)
 }
 
-/// The page of the listing, whose information file says this. The output may not be the input of that file either.
+/// The page of the listing, whose information file says this. The output may not be what that file names either.
 fn page_under(rt: &HostRuntime, showing: &Showing, info: &Info) -> Result<Vec<u8>, Failure> {
     let names = &showing.names;
-    let inputs = [info.settings().input.as_deref()];
-    keep_inputs(rt, names.output.as_deref(), &inputs)?;
+    keep_named(rt, names.output.as_deref(), info)?;
     let text = listing_in(rt, names.listing.as_str())?;
     let layout = layout_of(rt.alloc(), info.segments(), showing.fill)?;
     let start = start_or_end(rt.alloc(), info.settings().start, &layout, &text)?;

@@ -4,7 +4,6 @@ ghost use Rattle.std.specs.Prelude.{◌≡◌, IfErr, IfOk};
 ghost use Rattle.std.specs.String.{string_bytes};
 ghost use Rattle.files65.specs.FaultyLine.{MayReport};
 ghost use Rattle.html65.specs.Links.{AreLinksWhole};
-ghost use Rattle.html65.specs.Operands.{AreOperandsLed};
 ghost use Rattle.html65.specs.PageText.{text_of};
 
 use crate::calls::put_routines;
@@ -71,7 +70,7 @@ fn unchecked_page(
 /// Returns the page of the listing. Fails with the first fault of the listing, and if it has no byte.
 ///
 /// Nothing is trusted for what the page promises: it is read back, and unless its text is the listing and each of its
-/// links leads where it should, there is none.
+/// links leads to one element, there is none.
 pub fn page_of(
     alloc: Global,
     showing: &Showing,
@@ -82,9 +81,6 @@ pub fn page_of(
     ensures text { IfOk result (λ page. text_of page.items ≡ source.now.text.now) }
     /// Each link within the page, an attribute `href` that begins with `#`, is the `id` of exactly one element.
     ensures links { IfOk result (λ page. AreLinksWhole page.items) }
-    /// Each link of an operand leads to the element of the line that defines the name there, or to the row of the
-    /// address: one whose id is `r` and the address.
-    ensures operands { IfOk result (λ page. AreOperandsLed page.items) }
     /// If a line of the listing is reported, it is the line of the first fault, with the name of the listing, a hint or
     /// none, and the beginning of the line, as as65 reports it.
     ensures fault { IfErr result (MayReport (string_bytes showing.now.names.listing) source.now) }

@@ -9,8 +9,7 @@ use Rattle.std.proofs.lemmas.List.{append-nil, at_drop_all, at_drop_more}
 use Rattle.std.proofs.lemmas.List.Elements.{All-append, All-cons, All-nil}
 use denote.Enum.Bare.{same_true}
 use Rattle.info65.specs.contracts.syntax.attribute.Attribute as attribute_type
-use Rattle.info65.specs.Words.{AreAllFormed, AreFormed, AreGroups, AreIncludes, AreNew, AssignmentView, Attribute, Group, GroupKind, GroupView, HasForm, IncludeView, IncludesSaid, InfoFaultKind, IsGivenOr, SaysInclude, ValueView, a_boolean, a_character, a_name, as_boolean, as_character, as_name, closing_fault, form_of, group_seen, has_room, include_from, include_in, include_part, includes_of, is_file_name, is_of, tokens_of, value_in}
-use Rattle.info65.specs.IncludeLaws.{AreSaid}
+use Rattle.info65.specs.Words.{AreAllFormed, AreFormed, AreGroups, AreIncludes, AreNew, AssignmentView, Attribute, Group, GroupKind, GroupView, HasForm, IncludeView, InfoFaultKind, ValueView, a_name, as_boolean, as_character, as_name, closing_fault, form_of, group_seen, has_room, include_from, include_in, include_part, includes_of, is_file_name, is_of, tokens_of, value_in}
 use Rattle.info65.specs.declared.syntax.attribute.Attribute.TheVariants as attribute
 use Rattle.info65.specs.declared.syntax.attribute.ValueForm.TheVariants as form
 use Rattle.info65.specs.declared.syntax.attribute.GroupKind.TheVariants as kind
@@ -103,45 +102,3 @@ none_few = omega arith
 
 pub includes_sound : (groups : List GroupView) → AreRead groups → AreIncludes (includes_of groups)
 includes_sound groups r = record { few = read_keeps (λ gs. length (includes_of gs) ≤ 16) (λ before k given g f few. few_more before k given g.new few) none_few groups r; each = all_named groups r.formed }
-
--- ---- what the groups say
-
-character_or : (v : Option ValueView) → IfSome v (HasForm form.Character) → IsGivenOr v (a_character 59) (a_character (unwrap_or (as_character v) 59))
-character_or (Some (a_character b)) h = inl refl
-character_or (Some _) h = absurd h
-character_or None h = inr (refl, refl)
-
-boolean_or : (v : Option ValueView) → IfSome v (HasForm form.Boolean) → IsGivenOr v (a_boolean false) (a_boolean (unwrap_or (as_boolean v) false))
-boolean_or (Some (a_boolean b)) h = inl refl
-boolean_or (Some _) h = absurd h
-boolean_or None h = inr (refl, refl)
-
-record IsFrom (given : List AssignmentView) (i : IncludeView) : Type 0 where
-  start : i.comment_start ≡ unwrap_or (as_character (value_in attribute.CommentStart given)) 59
-  ignore : i.ignore_unknown ≡ unwrap_or (as_boolean (value_in attribute.IgnoreUnknown given)) false
-
-from : (given : List AssignmentView) (i : IncludeView) → include_in given ≡ Ok i → IsFrom given i
-unfolding include_in
-from given i is = grind arith
-
-says : (given : List AssignmentView) (i : IncludeView) → AreFormed given → include_in given ≡ Ok i → SaysInclude given i
-unfolding form_of
-says given i f is = grind (arith, from, file_in, character_or, found_formed, boolean_or)
-
-closes : (before : List GroupView) (given : List AssignmentView) → closing_fault before kind.Include given ≡ None → (i : IncludeView) × (include_in given ≡ Ok i)
-unfolding closing_fault
-closes before given h = grind arith
-
-said_more : (before : List GroupView) (k : GroupKind) (given : List AssignmentView) (gs : List GroupView) → AreFormed given → closing_fault before k given ≡ None → AreSaid gs (includes_of gs) → AreSaid (record { kind = k; given = given } ∷ gs) (include_part (record { kind = k; given = given }) ++ includes_of gs)
-said_more before kind.Include given gs f h said = let c = closes before given h in rw c.1 (says given c.0 f c.1, said)
-said_more before _ given gs f h said = said
-
-groups_said : (before gs : List GroupView) → AreGroups before gs → AreAllFormed gs → AreSaid gs (includes_of gs)
-unfolding includes_of
-groups_said before [] h f = refl
-groups_said before (g ∷ gs) h f = said_more before g.kind g.given gs f.0 h.0.closes (groups_said (before ++ g ∷ []) gs h.1 f.1)
-
-pub includes_said : IncludesSaid
-includes_said o bytes info i =
-    let r = accepted_read o (tokens_of 1 bytes).tokens i.groups i.accepts in
-    rw i.says (groups_said [] i.groups r.keeps r.formed, includes_sound i.groups r)

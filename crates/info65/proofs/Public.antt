@@ -3,5 +3,4 @@ pub use Rattle.info65.proofs.CoveringLemmas.{Last, last_name, none_covers, own_a
 pub use Rattle.info65.proofs.DefaultNames.{like_default}
 pub use Rattle.info65.proofs.LayoutLemmas.{layout_entry, layout_line, layout_some}
 pub use Rattle.info65.proofs.NumberLemmas.{number_great, number_none, number_small}
-pub use Rattle.info65.proofs.SegmentKeys.{covering_keyed, none_keyed, one_key, some_keyed}
 pub use Rattle.info65.proofs.TailLemmas.{IsKept, alike}

@@ -8,8 +8,8 @@ use Rattle.std.proofs.lemmas.List.Elements.{All-append, All-cons, All-nil}
 use Rattle.std.proofs.lemmas.List.Folds.{Any-from_list_any, list_any_at, list_any-from_Any}
 use Rattle.std.proofs.lemmas.List.Quantifiers.{all_pairs_push}
 use Rattle.std.proofs.lemmas.Grind.{flat_map-append}
-use Rattle.info65.specs.Words.{AreAllFormed, AreFormed, AreGroups, AreRanges, AssignmentView, GroupKind, GroupView, InfoFaultKind, NameView, OverlapsShare, RangeSpec, RangeType, RangesApart, RangesOverlap, SaysRange, ValueView, a_number, a_type, an_address, as_number, as_type, closing_fault, form_of, last_from, name_fault, names_said, optional_name_fault, overlaps, range_between, range_fault, range_from, range_in, range_name, range_of_parts, range_part, ranges_of, tokens_of, value_in}
-use Rattle.info65.specs.Laws.{AreSaid, Share}
+use Rattle.info65.specs.Words.{AreAllFormed, AreFormed, AreGroups, AreRanges, AssignmentView, GroupKind, GroupView, InfoFaultKind, NameView, RangeSpec, RangeType, RangesApart, SaysRange, ValueView, a_number, a_type, an_address, as_number, as_type, closing_fault, form_of, last_from, name_fault, names_said, optional_name_fault, has_address, overlaps, range_between, range_fault, range_from, range_in, range_name, range_of_parts, range_part, ranges_of, tokens_of, value_in}
+use Rattle.info65.specs.Laws.{AreSaid}
 use Rattle.info65.specs.Ranges.{AreApart}
 use Rattle.info65.specs.Values.{as_address}
 use Rattle.info65.specs.declared.syntax.attribute.Attribute.TheVariants as attribute
@@ -117,6 +117,10 @@ ranges_ordered (g ∷ gs) = All-append (λ r. r.first ≤ r.last) (range_part g)
 
 -- ---- two ranges overlap where they share an address
 
+-- an address belongs to both ranges
+abbrev pub Share : RangeSpec → RangeSpec → Type 0
+Share r q = (a : ℕ) × (has_address r a ≡ true) × (has_address q a ≡ true)
+
 pub overlap_shared : (r q : RangeSpec) → r.first ≤ r.last → q.first ≤ q.last → overlaps r q ≡ true → Share r q
 unfolding overlaps
 overlap_shared r q ro qo h = (max r.first q.first, grind (arith, nat_tests), grind (arith, nat_tests))
@@ -128,25 +132,6 @@ shared_overlap r q h = grind (arith, nat_tests, h.1, h.2)
 -- an overlap with one of some ranges
 pub any_shared : (r : RangeSpec) (rs : List RangeSpec) → r.first ≤ r.last → Ordered rs → Any (λ q. overlaps r q ≡ true) rs → Any (Share r) rs
 any_shared r rs ro so h = grind (arith, overlap_shared)
-
-shared_any : (r : RangeSpec) (rs : List RangeSpec) → Any (Share r) rs → Any (λ q. overlaps r q ≡ true) rs
-shared_any r rs h = (h.0, h.1, h.2, h.3, shared_overlap r h.1 h.4)
-
--- a name is not refused for an overlap
-other_fault : (names : List NameView) (n : NameView) → name_fault names n ≡ Some RangesOverlap → ⊥
-unfolding name_fault
-other_fault names n h = grind arith
-
-other_fault_of : (names : List NameView) (n : Option NameView) → optional_name_fault names n ≡ Some RangesOverlap → ⊥
-other_fault_of names None h = absurd cc
-other_fault_of names (Some n) h = other_fault names n h
-
-refused_overlap : (r : RangeSpec) (rs : List RangeSpec) (names : List NameView) (given : List AssignmentView) → range_fault rs names given (Ok r) ≡ Some RangesOverlap → list_any (overlaps r) rs ≡ true
-refused_overlap r rs names given h = grind (arith, other_fault_of names (range_name given r))
-
-pub overlaps_share : OverlapsShare
-unfolding closing_fault
-overlaps_share before given r is = grind (arith, any_shared, bounded_in, ranges_ordered, Any-from_list_any, refused_overlap, list_any-from_Any, shared_any)
 
 -- ---- no two share an address
 

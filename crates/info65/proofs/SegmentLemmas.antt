@@ -8,9 +8,9 @@ use Rattle.std.proofs.lemmas.List.Elements.{All-append, All-cons, All-map, All-n
 use Rattle.std.proofs.lemmas.List.Folds.{Any-from_list_any, list_any-append, list_any-from_Any, list_any_at}
 use Rattle.std.proofs.lemmas.List.Quantifiers.{all_pairs_push}
 use Rattle.std.proofs.lemmas.Grind.{flat_map-append}
-use Rattle.info65.specs.Words.{AreFormed, AreGroups, AreMarked, AreSegments, AssignmentView, Group, GroupKind, GroupView, HasForm, InfoFaultKind, IsSegment, RangeSpec, SaysSegment, SegmentView, SegmentsApart, SegmentsOverlap, SegmentsShare, ValueView, a_name, an_address, any_in, as_name, closing_fault, contains, form_of, group_seen, has_address, meets, overlaps, parts_seen, segment_fault, segment_from, segment_in, segment_part, segments_of, tokens_of, value_in}
-use Rattle.info65.specs.Types.{SegmentParts}
-use Rattle.info65.specs.SegmentLaws.{AreSaid, Share}
+use Rattle.info65.specs.Words.{AreFormed, AreGroups, AreMarked, AreSegments, AssignmentView, Group, GroupKind, GroupView, HasForm, InfoFaultKind, IsSegment, RangeSpec, SaysSegment, SegmentView, SegmentsApart, ValueView, a_name, an_address, any_in, as_name, closing_fault, contains, form_of, group_seen, has_address, meets, overlaps, parts_seen, segment_fault, segment_from, segment_in, segment_part, segments_of, tokens_of, value_in}
+use Rattle.info65.specs.Types.{SegmentParts, SegmentsOverlap}
+use Rattle.info65.specs.SegmentLaws.{AreSaid}
 use Rattle.info65.specs.Segments.{AreApart}
 use Rattle.info65.specs.Values.{as_address}
 use Rattle.info65.specs.declared.syntax.attribute.Attribute.TheVariants as attribute
@@ -21,7 +21,6 @@ use Rattle.info65.proofs.Cases.{by_test, or_last}
 use Rattle.info65.proofs.FormLemmas.{AreRead, accepted_read, found_formed, read_keeps}
 use Rattle.info65.proofs.IndexLemmas.{overlaps_marked}
 use Rattle.info65.proofs.NamesLemmas.{name_formed}
-use Rattle.info65.proofs.RangeLemmas.{overlap_shared, shared_overlap}
 
 -- ---- group by group
 
@@ -181,22 +180,3 @@ groups_said before (g ∷ gs) h = said_more before g.kind g.given gs h.0.closes 
 pub segments_apart : SegmentsApart
 segments_apart o bytes info i =
     rw i.says (groups_said [] i.groups i.accepts.keeps, segments_sound i.groups (accepted_read o (tokens_of 1 bytes).tokens i.groups i.accepts))
-
-segments_ordered : (groups : List GroupView) → All (λ (s : SegmentView). s.first ≤ s.last) (segments_of groups)
-unfolding segments_of
-segments_ordered [] = All-nil (λ (x : SegmentView). x.first ≤ x.last)
-segments_ordered (g ∷ gs) = All-append (λ (s : SegmentView). s.first ≤ s.last) (segment_part g) (segments_of gs) (ordered_part g.kind g.given (segment_in g.given) refl) (segments_ordered gs)
-
-any_shares : (s : SegmentView) (ss : List SegmentView) → s.first ≤ s.last → All (λ (t : SegmentView). t.first ≤ t.last) ss → Any (λ t. meets s t ≡ true) ss → Any (Share s) ss
-unfolding meets overlaps
-any_shares s ss so to h =
-    let t : SegmentView = h.1 in
-    let ordered : t.first ≤ t.last = subst (λ (x : SegmentView). x.first ≤ x.last) h.3 (to h.0 t h.2) in (h.0, t, h.2, h.3, overlap_shared (extent s) (extent t) so ordered h.4)
-
-shares_any : (s : SegmentView) (ss : List SegmentView) → Any (Share s) ss → Any (λ t. meets s t ≡ true) ss
-unfolding meets overlaps
-shares_any s ss h = (h.0, h.1, h.2, h.3, shared_overlap (extent s) (extent h.1) h.4)
-
-pub segments_share : SegmentsShare
-unfolding closing_fault
-segments_share before given s is = grind (arith, any_shares, segment_is, segments_ordered, Any-from_list_any, list_any-from_Any, shares_any)

@@ -15,4 +15,3 @@ pub mod SegmentTable
 pub mod Segments
 pub mod Steps
 pub mod Texts
-pub mod Turns

@@ -1,17 +1,15 @@
 -- Laws of information files.
-use Rattle.std.specs.Prelude.{◌≡◌, ◌⊎◌, ◌↔◌, ◌≤◌, ◌<◌, ◌+◌, ◌-◌, ◌&&◌, ℕ, true, false, List, [], ◌∷◌, ◌++◌, Ok, Err, Some, Result, Any, length}
-use Rattle.std.specs.List.{AllByRecursion}
-use Rattle.info65.specs.Closing.{closing_fault}
+use Rattle.std.specs.Prelude.{◌≡◌, ◌⊎◌, ◌↔◌, ◌≤◌, ◌<◌, ◌+◌, ◌-◌, ℕ, List, [], ◌∷◌, ◌++◌, Ok, Err, Some, Result, length}
 use Rattle.info65.specs.Faults.{fault}
-use Rattle.info65.specs.Grammar.{Accepts, IsInformation}
-use Rattle.info65.specs.Groups.{AssignmentView, GroupView, global_given, has, value_in}
-use Rattle.info65.specs.Ranges.{AreRanges, has_address, range_in, ranges_of}
+use Rattle.info65.specs.Grammar.{IsInformation}
+use Rattle.info65.specs.Groups.{AssignmentView, GroupView, value_in}
+use Rattle.info65.specs.Ranges.{AreRanges}
 use Rattle.info65.specs.Reader.{Stage, State, information, outside, read_from, step}
 use Rattle.info65.specs.Tokens.{TokenView, tokens_of}
 use Rattle.info65.specs.Values.{a_number, a_type, an_address}
 use Rattle.info65.specs.Views.{InfoView, OptionsView}
 use Rattle.info65.specs.declared.syntax.attribute.Attribute.TheVariants as attribute
-use Rattle.info65.specs.Types.{Expected, GroupKind, InfoFault, RangeSpec, RangesOverlap, TooLarge}
+use Rattle.info65.specs.Types.{Expected, GroupKind, InfoFault, RangeSpec, TooLarge}
 use Rattle.info65.specs.declared.syntax.attribute.GroupKind.TheVariants as group
 
 -- A text is accepted, and says this, exactly where it is an information file that says this.
@@ -60,24 +58,6 @@ RefusesFirst = (o : OptionsView) (bytes : List ℕ) (e : InfoFault) → informat
     → ((1_048_576 < length bytes) × (e ≡ fault 1 TooLarge))
     ⊎ ((length bytes ≤ 1_048_576) × (IsOfToken o outside [] (tokens_of 1 bytes).tokens e ⊎ IsOfEnd o outside [] (tokens_of 1 bytes).tokens (tokens_of 1 bytes).ending e))
 
--- no attribute stands twice
-abbrev pub AreOnce : List AssignmentView → Type 0
-AreOnce [] = Unit {0}
-AreOnce (g ∷ gs) = (has g.attribute gs ≡ false) × AreOnce gs
-
--- In an accepted file no attribute of the groups GLOBAL stands twice, be it in one group or in two.
-abbrev pub GlobalOnce : Type 0
-GlobalOnce = (o : OptionsView) (ts : List TokenView) (groups : List GroupView) → Accepts o ts groups → AreOnce (global_given groups)
-
--- no attribute stands twice in a group, and not both END and SIZE do
-pub record IsOnce (g : GroupView) : Type 0 where
-  pub once : AreOnce g.given
-  pub either : (has attribute.End g.given && has attribute.Size g.given) ≡ false
-
--- In an accepted file no group has an attribute twice, nor both END and SIZE.
-abbrev pub GivenOnce : Type 0
-GivenOnce = (o : OptionsView) (ts : List TokenView) (groups : List GroupView) → Accepts o ts groups → AllByRecursion IsOnce groups
-
 -- What is given in a group RANGE says this range: START is its first address, TYPE its role, and END is
 -- its last address or SIZE the number of its addresses.
 pub record SaysRange (given : List AssignmentView) (r : RangeSpec) : Type 0 where
@@ -100,13 +80,3 @@ AreSaid (g ∷ gs) rs = Says g.kind g.given rs (AreSaid gs)
 -- no address belongs to two of them.
 abbrev pub RangesApart : Type 0
 RangesApart = (o : OptionsView) (bytes : List ℕ) (info : InfoView) (i : IsInformation o bytes info) → AreSaid i.groups info.ranges × AreRanges info.ranges
-
--- an address belongs to both ranges
-abbrev pub Share : RangeSpec → RangeSpec → Type 0
-Share r q = (a : ℕ) × (has_address r a ≡ true) × (has_address q a ≡ true)
-
--- A group RANGE that says a range is refused for an overlap exactly where the range shares an address with
--- that of a group before it.
-abbrev pub OverlapsShare : Type 0
-OverlapsShare = (before : List GroupView) (given : List AssignmentView) (r : RangeSpec) → range_in given ≡ Ok r
-    → (closing_fault before group.Range given ≡ Some RangesOverlap) ↔ Any (Share r) (ranges_of before)

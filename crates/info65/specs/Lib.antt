@@ -7,7 +7,6 @@ pub mod Faults
 pub mod Grammar
 pub mod Groups
 pub mod IncludeGroups
-pub mod IncludeLaws
 pub mod Includes
 pub mod Labels
 pub mod Laws
@@ -25,6 +24,5 @@ pub mod Standing
 pub mod Tokens
 pub mod Values
 pub mod Views
-pub mod Tags
 pub mod Types
 pub mod Words

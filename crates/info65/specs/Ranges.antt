@@ -25,7 +25,7 @@ pub record AreRanges (ranges : List RangeSpec) : Type 0 where
   pub disjoint : AreDisjoint ranges
   pub ordered : All (λ r. r.first ≤ r.last) ranges
 
--- neither of two ranges lies whole below the other
+-- the ranges share an address: neither lies whole below the other
 unfoldable pub overlaps : RangeSpec → RangeSpec → Bool
 overlaps r q = nat_le r.first q.last && nat_le q.first r.last
 

@@ -1,13 +1,12 @@
 -- Laws of segments.
-use Rattle.std.specs.Prelude.{◌≡◌, ◌↔◌, ◌<◌, ◌∷◌, [], ℕ, All, Any, List, Some, None, Ok, length, true, false}
-use Rattle.info65.specs.Closing.{closing_fault}
+use Rattle.std.specs.Prelude.{◌≡◌, ◌<◌, ◌∷◌, [], ℕ, All, List, Some, None, length, true, false}
 use Rattle.info65.specs.Grammar.{IsInformation}
 use Rattle.info65.specs.Groups.{AssignmentView, GroupView, value_in}
-use Rattle.info65.specs.Segments.{AreSegments, contains, segment_at, segment_covering, segment_in, segments_of}
+use Rattle.info65.specs.Segments.{AreSegments, contains, segment_at, segment_covering}
 use Rattle.info65.specs.Values.{a_name, an_address}
 use Rattle.info65.specs.Views.{InfoView, OptionsView, SegmentView}
 use Rattle.info65.specs.declared.syntax.attribute.Attribute.TheVariants as attribute
-use Rattle.info65.specs.Types.{GroupKind, SegmentsOverlap}
+use Rattle.info65.specs.Types.{GroupKind}
 use Rattle.info65.specs.declared.syntax.attribute.GroupKind.TheVariants as group
 
 -- What is given in a group SEGMENT says this segment: START is its first address, END its last, and NAME
@@ -33,16 +32,6 @@ AreSaid (g ∷ gs) ss = Says g.kind g.given ss (AreSaid gs)
 abbrev pub SegmentsApart : Type 0
 SegmentsApart =
     (o : OptionsView) (bytes : List ℕ) (info : InfoView) (i : IsInformation o bytes info) → AreSaid i.groups info.segments × AreSegments info.segments
-
--- an address belongs to both segments
-abbrev pub Share : SegmentView → SegmentView → Type 0
-Share s t = (a : ℕ) × (contains s a ≡ true) × (contains t a ≡ true)
-
--- A group SEGMENT that says a segment is refused for an overlap exactly where the segment shares an address
--- with that of a group before it.
-abbrev pub SegmentsShare : Type 0
-SegmentsShare = (before : List GroupView) (given : List AssignmentView) (s : SegmentView) → segment_in given ≡ Ok s
-    → (closing_fault before group.Segment given ≡ Some SegmentsOverlap) ↔ Any (Share s) (segments_of before)
 
 -- a segment that contains the address, and no other does
 pub record IsOnly (segments : List SegmentView) (a : ℕ) (name : List ℕ) : Type 0 where

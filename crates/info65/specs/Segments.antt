@@ -1,11 +1,9 @@
 -- Segments: their addresses, the segment of an address, what a group SEGMENT says, and what holds of all
 -- segments of a file.
 --
--- Both ends belong to a segment, and no address belongs to two. The key of a name is where
--- the first segment of that name begins.
-use Rattle.std.specs.Prelude.{◌≡◌, ◌≤◌, ◌&&◌, ℕ, Bool, true, List, [], ◌∷◌, Option, Some, Result, Ok, Err, All, AllPairs, get_or, nat_le, option_map, option_and_then, if◌then◌else◌}
+-- Both ends belong to a segment, and no address belongs to two.
+use Rattle.std.specs.Prelude.{◌≡◌, ◌≤◌, ◌&&◌, ℕ, Bool, true, List, [], ◌∷◌, Option, Some, Result, Ok, Err, All, AllPairs, get_or, nat_le, option_map, if◌then◌else◌}
 use Rattle.std.specs.List.{find, flat_map}
-use Rattle.std.specs.Str.{bytes_eq}
 use Rattle.text65.specs.Names.{has_name_form}
 use Rattle.info65.specs.Groups.{AssignmentView, GroupView, value_in}
 use Rattle.info65.specs.Values.{as_address, as_name}
@@ -21,14 +19,6 @@ contains s a = nat_le s.first a && nat_le a s.last
 -- the name of the segment that contains the address; in an information file no address belongs to two
 unfoldable pub segment_covering : List SegmentView → ℕ → Option (List ℕ)
 segment_covering segments a = option_map (λ s. s.name) (find (λ s. contains s a) segments)
-
--- where the first segment of this name begins; no other name has a segment that begins there
-unfoldable pub first_named : List SegmentView → List ℕ → Option ℕ
-first_named segments name = option_map (λ s. s.first) (find (λ s. bytes_eq s.name name) segments)
-
--- the same of the name of the segment that contains the address, as a key of that name
-unfoldable pub segment_key : List SegmentView → ℕ → Option ℕ
-segment_key segments a = option_and_then (first_named segments) (segment_covering segments a)
 
 abbrev pub blank_segment : SegmentView
 blank_segment = record { first = 0; last = 0; name = [] }
@@ -51,7 +41,7 @@ pub record AreSegments (segments : List SegmentView) : Type 0 where
   pub each : All IsSegment segments
   pub apart : AllPairs AreApart segments
 
--- neither of two segments lies whole below the other
+-- the segments share an address: neither lies whole below the other
 unfoldable pub meets : SegmentView → SegmentView → Bool
 meets s t = nat_le s.first t.last && nat_le t.first s.last
 

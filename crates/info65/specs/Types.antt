@@ -26,9 +26,6 @@ pub use Rattle.info65.specs.declared.syntax.lexeme.TheConstants.{CLASSES}
 pub use Rattle.info65.specs.declared.syntax.lexer.Next.{Next}
 pub use Rattle.info65.specs.declared.syntax.token.Token.{Token}
 pub use Rattle.info65.specs.declared.syntax.token.TokenKind.{TokenKind}
-pub use Rattle.info65.specs.declared.tags.tag.Tag.{Tag}
-pub use Rattle.info65.specs.declared.tags.tag.TagAttribute.{TagAttribute}
-pub use Rattle.info65.specs.declared.tags.tag.TagKind.{TagKind}
 pub use Rattle.isa65.specs.declared.byte_order.ByteOrder.{ByteOrder}
 pub use Rattle.isa65.specs.declared.byte_order.ByteOrder.TheVariants.{BigEndian, LittleEndian}
 pub use Rattle.isa65.specs.declared.cpu.Cpu.{Cpu}

@@ -75,26 +75,6 @@ pub record SettingsView : Type 0 where
   pub newline_after_jmp : Bool
   pub newline_after_rts : Bool
 
--- what is set where neither the command line nor the file says anything
-abbrev pub default_settings : SettingsView
-default_settings = record {
-  input = None;
-  output = None;
-  offset = 0;
-  size = None;
-  start = None;
-  cpu = M6502;
-  comments = 0;
-  mnemonic_column = 9;
-  argument_column = 17;
-  comment_column = 49;
-  text_column = 81;
-  label_break = 7;
-  hexoffs = false;
-  newline_after_jmp = false;
-  newline_after_rts = false;
-}
-
 -- the limits of the numbers of the settings
 pub record AreSettingNumbers (from level mnemonic argument comment text label : ℕ) (taken : Option ℕ) : Type 0 where
   pub offset : from ≤ 16_777_216

@@ -1,6 +1,6 @@
 //! Laws of information files.
 
-ghost use Rattle.info65.specs.Words.{AcceptsFiles, CoversHighest, CoversOne, GivenOnce, GlobalOnce, IncludesSaid, NamesGiven, OverlapsShare, OwnAddressWins, RangesApart, RefusesFirst, SegmentsApart, SegmentsShare, TokensStand};
+ghost use Rattle.info65.specs.Words.{AcceptsFiles, CoversHighest, CoversOne, NamesGiven, OwnAddressWins, RangesApart, RefusesFirst, SegmentsApart, TokensStand};
 
 pub fn accepts_files()
     /// A file is accepted exactly when its tokens are groups that meet every condition.
@@ -22,25 +22,9 @@ pub fn tokens_stand()
     ensures { TokensStand }
 {}
 
-pub fn global_once()
-    /// No attribute of GLOBAL is given twice.
-    ensures { GlobalOnce }
-{}
-
-pub fn given_once()
-    /// No attribute of another group is given twice in it, and never both END and SIZE.
-    ensures { GivenOnce }
-{}
-
 pub fn ranges_apart()
     /// The ranges are those of the groups RANGE, and no two share an address.
     ensures { RangesApart }
-{}
-
-#[tactic(auto, using(crate::proofs::RangeLemmas::overlaps_share))]
-pub fn overlaps_share()
-    /// A group RANGE is refused as overlapping exactly when its range shares an address with an earlier one.
-    ensures { OverlapsShare }
 {}
 
 #[tactic(auto, using(crate::proofs::CoveringLemmas::covers_highest))]
@@ -66,20 +50,8 @@ pub fn segments_apart()
     ensures { SegmentsApart }
 {}
 
-#[tactic(auto, using(crate::proofs::SegmentLemmas::segments_share))]
-pub fn segments_share()
-    /// A group SEGMENT is refused as overlapping exactly when its segment shares an address with an earlier one.
-    ensures { SegmentsShare }
-{}
-
 #[tactic(auto, using(crate::proofs::SegmentCovering::covers_one))]
 pub fn covers_one()
     /// The segment name of an address is that of the one segment that contains it.
     ensures { CoversOne }
-{}
-
-pub fn includes_said()
-    /// The include files are those of the groups ASMINC, one for each group, in their order, with its FILE,
-    /// COMMENTSTART and IGNOREUNKNOWN; at most 16.
-    ensures { IncludesSaid }
 {}

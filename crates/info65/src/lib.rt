@@ -33,9 +33,8 @@ pub use information::range::{Entry, Layout, RangeSpec, RangeType};
 pub use information::segment::SegmentSpec;
 pub use information::settings::Settings;
 pub use laws::{
-    accepts_files, covers_highest, covers_one, given_once, global_once, includes_said, names_given,
-    overlaps_share, own_address_wins, ranges_apart, refuses_first, segments_apart, segments_share,
-    tokens_stand,
+    accepts_files, covers_highest, covers_one, names_given, own_address_wins, ranges_apart,
+    refuses_first, segments_apart, tokens_stand,
 };
 pub use syntax::digits::number_of_digits;
 pub use syntax::lexer::{Lexer, MOST_BYTES};

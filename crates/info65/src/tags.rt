@@ -1,7 +1,6 @@
 //! The lines `#: ..` of an information file: groups for programs beside da65, which takes them as comments.
 
 mod numbers;
-mod place;
 mod reader;
 mod tag;
 mod tagged_text;

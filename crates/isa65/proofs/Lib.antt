@@ -1,5 +1,4 @@
 mod Matrix
-mod Rows
 pub mod Opcodes
 mod CandidateLaws
 mod FilledLemmas

@@ -1,5 +1,5 @@
 -- How many bytes an instruction has: one to three.
-use Rattle.std.proofs.Common.{ℕ, ◌≤◌, arith}
+use Rattle.std.proofs.Common.{◌≤◌, arith}
 use Rattle.isa65.specs.Words.{Imp, Mode, len_of}
 
 pub len-positive : (x : Mode) → 1 ≤ len_of x

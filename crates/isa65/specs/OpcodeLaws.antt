@@ -4,7 +4,7 @@
 -- mnemonic in a mode has an opcode if and only if that opcode stands for them, so no opcode stands for two pairs and no
 -- pair has two; and of two modes of a mnemonic that are written alike one is the zero-page mode of the other, so an
 -- operand's text and its size decide the mode.
-use Rattle.std.specs.Prelude.{◌≡◌, ◌⊎◌, ◌↔◌, ◌<◌, ◌||◌, not, nat_lt, IsSome, ℕ, Bool, true, false, ◌&&◌, [], ◌∷◌, ◌++◌, map, Option, Some, None, ◌==◌, refl}
+use Rattle.std.specs.Prelude.{◌≡◌, ◌⊎◌, ◌↔◌, ◌<◌, ◌||◌, not, nat_lt, IsSome, ℕ, Bool, true, false, ◌&&◌, [], ◌∷◌, map, Option, Some, None, ◌==◌, refl}
 use Rattle.std.proofs.Common.{inl, inr, ap}
 use Rattle.std.proofs.lemmas.Bool.{cond_both, eqb-true, ltb-true, and_parts, or_cases, both_ways, not-true}
 use Rattle.std.proofs.lemmas.Slice.Eq.{bytes_eq-Decides}
@@ -114,16 +114,3 @@ module _ (t : Table) (sound : IsSound t) where
       let second = some_entry t m y (encoded t m y) refl q in
       let e : Entry = (first.0, m, x) in
       two_modes first.0 second.0 m x y (list_all_at (differ_in_size e) t (second.0, m, y) (map_at (λ f. list_all (differ_in_size f) t) (λ f. true) t e sound.sizes first.1) second.1) same
-
--- where the first table says what an opcode stands for, the second says the same
-abbrev pub Keeps : Table → Table → Type 0
-Keeps t u = (b : ℕ) (op : Op) → decoded t b ≡ Some op → decoded u b ≡ Some op
-
--- an entry of a table is one of a longer table
-in_longer : (additions t : Table) (e : Entry) → InTable e t → InTable e (additions ++ t)
-in_longer [] t e here = here
-in_longer (x ∷ additions) t e here = inr (in_longer additions t e here)
-
--- a sound table of additions and an earlier table keeps what the earlier one says
-pub additions-keep : (additions t : Table) → IsSound (additions ++ t) → Keeps t (additions ++ t)
-additions-keep additions t sound b op h = map_at (λ e. decoded (additions ++ t) e.0) (λ e. Some (record { mnemonic = e.1; mode = e.2 })) (additions ++ t) (b, op.mnemonic, op.mode) sound.by_opcode (in_longer additions t (b, op.mnemonic, op.mode) (decoded-entry t b op h))

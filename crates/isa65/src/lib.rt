@@ -4,8 +4,7 @@
 //! and an [`OpcodeSet`] says which byte stands for which `Op`, by laws that every set keeps. [`Mos6502`],
 //! [`Cmos65Sc02`] and [`Rockwell65C02`] are the sets of three CPUs, each with the opcodes of the one before and more.
 //! A [`Cpu`] is the set of the CPU that it names, a [`DecodeTable`] is the same as a table by byte, and an
-//! [`EncodeTable`] as one by mnemonic and mode. [`later_keep_earlier`] is the law between the sets. [`ByteOrder`] is
-//! the order in which a number of several bytes stands.
+//! [`EncodeTable`] as one by mnemonic and mode. [`ByteOrder`] is the order in which a number of several bytes stands.
 #![tactic(auto)]
 
 mod byte_order;
@@ -13,7 +12,6 @@ mod cmos_65sc02;
 mod cpu;
 mod decode_table;
 mod encode_table;
-mod laws;
 mod mnemonic;
 mod mode;
 mod mos_6502;
@@ -27,7 +25,6 @@ pub use cmos_65sc02::Cmos65Sc02;
 pub use cpu::Cpu;
 pub use decode_table::DecodeTable;
 pub use encode_table::EncodeTable;
-pub use laws::later_keep_earlier;
 pub use mnemonic::Mnemonic;
 pub use mode::Mode;
 pub use mos_6502::Mos6502;

@@ -2,7 +2,7 @@
 use Rattle.std.proofs.Common.{◌≡◌, ◌≢◌, ◌∙◌, ℕ, ◌/◌, ◌%◌, ◌<◌, Bool, true, false, List, Option, Some, None, length, get_or, set, refl, ap, arith}
 use Rattle.std.proofs.lemmas.Bool.{eq-eqb, ne_eqb}
 use Rattle.std.proofs.lemmas.List.{get_or-set_other, get_or-set_same}
-use Rattle.map65.specs.Words.{AreNamed, CellLaw, Code, RangeType, bit, cell_of, code_of, coded, has_border, is_named, is_wide_cell, is_wide_role, len_in_cell, role_in_cell, with_border, with_len, with_name}
+use Rattle.map65.specs.Words.{AreNamed, Code, RangeType, bit, cell_of, code_of, coded, has_border, is_named, is_wide_cell, is_wide_role, len_in_cell, role_in_cell, with_border, with_len, with_name}
 
 -- ---- one cell
 
@@ -32,9 +32,6 @@ cell-len c r n small is = omega (arith, is, code-small r)
 pub cell-small : (r : Option RangeType) (n : ℕ) → n < 8 → cell_of r n < 128
 unfolding cell_of
 cell-small r n small = omega (arith, code-small r)
-
-pub cell_law : CellLaw
-cell_law r n small = grind (arith, cell-small, cell-role, cell-len)
 
 pub cell-wide : (c : ℕ) (r : Option RangeType) (n : ℕ) → n < 8 → c % 128 ≡ cell_of r n → is_wide_cell c ≡ is_wide_role r
 cell-wide c r n small is = ap is_wide_role (cell-role c r n small is)

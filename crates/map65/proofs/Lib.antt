@@ -3,9 +3,6 @@ mod CellLemmas
 mod ChangeLemmas
 mod ItemLaws
 mod ItemLemmas
-mod MapRows
-mod ItemRows
-mod NameRows
 mod NameLemmas
 mod NameLaws
 mod NamingLemmas

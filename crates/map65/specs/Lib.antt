@@ -4,7 +4,6 @@ pub mod Device
 pub mod Image
 pub mod ImageView
 pub mod Items
-pub mod MapRows
 pub mod MapView
 pub mod Marks
 pub mod Names

@@ -11,8 +11,6 @@ pub use Rattle.info65.specs.declared.information.range.Entry.TheVariants.{Skippe
 pub use Rattle.info65.specs.declared.information.range.RangeSpec.{RangeSpec}
 pub use Rattle.info65.specs.declared.information.range.RangeType.{RangeType}
 pub use Rattle.info65.specs.declared.information.range.RangeType.TheVariants.{Code}
-pub use Rattle.isa65.specs.declared.cpu.Cpu.{Cpu}
-pub use Rattle.isa65.specs.declared.cpu.Cpu.TheVariants.{M6502, M65C02}
 pub use Rattle.isa65.specs.declared.mnemonic.Mnemonic.{Mnemonic}
 pub use Rattle.isa65.specs.declared.mnemonic.Mnemonic.TheVariants.{Jmp, Jsr}
 pub use Rattle.isa65.specs.declared.mode.Mode.{Mode}

@@ -1,8 +1,7 @@
-//! The laws of runs, pieces, items, cells and names, and the worked examples, each
-//! stated by a function that does nothing.
+//! The laws of runs, pieces, items and names, each stated by a function that does nothing.
 
 ghost use Rattle.info65.specs.Words.{AreNames};
-ghost use Rattle.map65.specs.Words.{BaseLaw, CellLaw, EntryStartLaw, ItemLaw, MapView, NameLaw, PieceLaw, PlaceLaw, ReferenceLaw, RunLaw, WorkedMaps};
+ghost use Rattle.map65.specs.Words.{BaseLaw, EntryStartLaw, ItemLaw, MapView, NameLaw, PieceLaw, PlaceLaw, ReferenceLaw, RunLaw};
 
 #[tactic(auto, using(crate::proofs::PieceLaws::run_law))]
 pub fn run_law()
@@ -23,11 +22,6 @@ pub fn item_law()
     /// item of the same piece ends just before it. The item has its full length if its piece has room, otherwise
     /// one byte. No other lengths obey this rule.
     ensures { (m : MapView) → ItemLaw m }
-{}
-
-pub fn cell_law()
-    /// A role and a length that are packed into a cell are read back from it.
-    ensures { CellLaw }
 {}
 
 #[tactic(auto, using(crate::proofs::NameLaws::entry_start_law))]
@@ -61,13 +55,4 @@ pub fn base_law()
     /// A base is not after the addresses that it names, and is the name of its own address. Two bases with one text
     /// are one.
     ensures { (m : MapView) → AreNames m.info.names → BaseLaw m }
-{}
-
-#[tactic(auto, using(crate::proofs::MapRows::worked_maps))]
-pub fn worked_maps()
-    /// Worked examples: the codes of the types; the targets of instructions, of branches to the ends of the address
-    /// space and of entries of tables; the names and offsets of addresses; the image or fault of a few bytes. And
-    /// what no reading may do: read after a failure, fail twice, make up a failure, end early, read a byte too
-    /// many.
-    ensures { WorkedMaps }
 {}

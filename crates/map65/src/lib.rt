@@ -26,8 +26,7 @@ mod target;
 pub use devices::{DeviceFault, Sink, Source, TakeFault, Told, take_up_to, write_whole};
 pub use image::{ADDRESSES, Image, ImageFault};
 pub use laws::{
-    base_law, cell_law, entry_start_law, item_law, name_law, piece_law, place_law, reference_law,
-    run_law, worked_maps,
+    base_law, entry_start_law, item_law, name_law, piece_law, place_law, reference_law, run_law,
 };
 pub use map::Map;
 pub use marks::Marks;

@@ -15,7 +15,7 @@ use crate::runs::{Both, Runs, run_all};
 use crate::scene::Scene;
 use crate::variables::{limit_of, move_found, move_variables, take_defined};
 use crate::world::World;
-use files65::{assembled, information_of, layout_of, repair, start_or_end, tags_of};
+use files65::{assembled, information_of, keep_named, layout_of, repair, start_or_end, tags_of};
 use info65::{Info, Tag, TagKind, without_numbers};
 use map65::Marks;
 use run65::{Machine, Registers};
@@ -197,7 +197,7 @@ fn report_of_text(rt: &HostRuntime, setup: &Setup<'_>, text: &[u8]) -> Result<Mo
     report_of_source(rt, setup, &repair(&layout, start, text))
 }
 
-/// What is written of a listing, and of the information file of these bytes.
+/// What is written of a listing, and of the information file of these bytes. The output may not be what that names.
 pub fn report_of(
     rt: &HostRuntime,
     moving: &Moving,
@@ -205,11 +205,12 @@ pub fn report_of(
     text: &[u8],
 ) -> Result<Moved, Failure>
     /// The information file is accepted under the options of the command line with a line feed and the text that is
-    /// returned after it, and so are the groups in its lines `#: ..`.
+    /// returned after it.
     ensures accepted { IfOk result (λ moved.
         IsAccepted moving.now.options bytes.now (string_bytes moved.text)) }
 {
     let info: Info = information_of(rt.alloc(), &moving.options, bytes)?;
+    keep_named(rt, moving.names.output.as_deref(), &info)?;
     // Halves that a NUMBER takes back count for nothing.
     let tags = without_numbers(rt.alloc(), &tags_of(rt.alloc(), bytes)?)?;
     let setup = Setup {

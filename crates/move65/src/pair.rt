@@ -6,7 +6,7 @@ use run65::{Operation, Value};
 const MOST: usize = 6;
 
 /// Places of the image, in order, each once. Of more than fit there are `MOST` + 1, of which none is known.
-#[derive(Clone, Copy, Debug, PartialEq, Eq)]
+#[derive(Clone, Copy, PartialEq, Eq)]
 pub struct Places {
     count: u8,
     at: [u16; MOST],
@@ -55,7 +55,7 @@ impl Places {
 }
 
 /// A byte of both runs: where the image belongs, and in the image that lies later.
-#[derive(Clone, Copy, Debug)]
+#[derive(Clone, Copy)]
 pub struct Pair {
     pub here: u8,
     pub later: u8,

@@ -1,11 +1,11 @@
 //! What is written is read back behind the information file.
 
 ghost use Rattle.std.specs.Prelude.{◌≡◌, IfOk, Ok, OnOk};
-ghost use Rattle.info65.specs.Words.{information, tags_of};
+ghost use Rattle.info65.specs.Words.{information};
 ghost use Rattle.move65.specs.Accepted.{IsAccepted};
 
 use crate::failure::{Failure, Refused};
-use info65::{Info, InfoFault, InfoFaultKind, MOST_BYTES, Options, Tag, read_info, read_tags};
+use info65::{Info, InfoFault, InfoFaultKind, Options, read_info, read_tags};
 use std::alloc::Global;
 
 /// The failure for a fault of the file with what is found.
@@ -26,22 +26,6 @@ fn info_in(alloc: Global, options: &Options, bytes: &[u8]) -> Result<Info, Failu
     }
 }
 
-/// The groups in the lines `#: ..` of an information file.
-fn groups_in(alloc: Global, bytes: &[u8]) -> Result<Vec<Tag>, Failure>
-    ensures { IfOk result (λ tags. tags_of bytes.now ≡ Ok tags.items) }
-{
-    if MOST_BYTES < bytes.len() {
-        return Err(refused(InfoFault {
-            line: 1,
-            kind: InfoFaultKind::TooLarge,
-        }));
-    }
-    match read_tags(alloc, bytes) {
-        Ok(tags) => Ok(tags),
-        Err(fault) => Err(refused(fault)),
-    }
-}
-
 /// Reads an information file with a line feed and a text behind it, and its groups in lines `#: ..`. Fails with the
 /// fault that it would be refused for.
 pub fn read_back(alloc: Global, options: &Options, bytes: &[u8], text: &[u8]) -> Result<(), Failure>
@@ -51,6 +35,8 @@ pub fn read_back(alloc: Global, options: &Options, bytes: &[u8], text: &[u8]) ->
     whole.extend_from_slice(b"\n")?;
     whole.extend_from_slice(text)?;
     let _info = info_in(alloc, options, &whole)?;
-    let _groups = groups_in(alloc, &whole)?;
-    Ok(())
+    match read_tags(alloc, &whole) {
+        Ok(_tags) => Ok(()),
+        Err(fault) => Err(refused(fault)),
+    }
 }

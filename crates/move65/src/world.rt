@@ -17,7 +17,7 @@ const MOST: usize = 24;
 const MOST_CALLS: u32 = 4096;
 
 /// What parts.
-#[derive(Clone, Copy, Debug, PartialEq, Eq)]
+#[derive(Clone, Copy, PartialEq, Eq)]
 pub enum Kind {
     /// An address of the image that does not lie later in the other run.
     Stays(Purpose),
@@ -33,7 +33,7 @@ pub enum Kind {
 }
 
 /// Where both runs part.
-#[derive(Clone, Copy, Debug, PartialEq, Eq)]
+#[derive(Clone, Copy, PartialEq, Eq)]
 pub struct Sighting {
     pub kind: Kind,
     /// The instruction.

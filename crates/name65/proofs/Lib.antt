@@ -1,8 +1,4 @@
 mod ChangeLemmas
-mod ChangeRows
 mod CommandLemmas
+mod ComparedLemmas
 mod ListingLemmas
-mod NameLemmas
-mod NameRows
-mod PlaceLemmas
-pub mod ReorderLemmas

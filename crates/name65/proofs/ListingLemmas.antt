@@ -1,5 +1,5 @@
 -- A listing as it is, by names.
-use Rattle.std.proofs.Common.{◌≡◌, ◌∙◌, ℕ, Bool, false, List, ap, refl, subst, sym}
+use Rattle.std.proofs.Common.{◌≡◌, ◌∙◌, ℕ, false, List, ap, refl, subst, sym}
 use Rattle.stmt65.specs.Words.{Layout}
 use Rattle.stmt65.specs.declared.language.Language.TheVariants.{Repair}
 use Rattle.files65.specs.Place.{layout_of, start_in}

@@ -1,10 +1,8 @@
-pub mod ByAddress
 pub mod Changes
 pub mod Command
-pub mod Known
+pub mod Compared
 pub mod Listings
 pub mod Marks
-pub mod NameFor
 pub mod NamedText
 pub mod Reordered
 pub mod Request

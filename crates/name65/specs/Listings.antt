@@ -1,10 +1,9 @@
 -- The listing by names that a command line asks for.
 use Rattle.std.specs.Prelude.{◌≡◌, ℕ, Bool, true, false, List}
-use Rattle.text65.specs.Lines.{text_lines}
 use Rattle.stmt65.specs.declared.language.Language.TheVariants.{Repair}
 use Rattle.files65.specs.Place.{layout_of, start_in}
 use Rattle.name65.specs.NamedText.{IsNamed, Listing, MeansTheSame}
-use Rattle.name65.specs.Reordered.{AreReordered}
+use Rattle.name65.specs.Reordered.{IsReordered}
 use Rattle.name65.specs.declared.setup.Setup.{Setup}
 
 -- a text as people edit it, from a start, with the segments of the information file at their START if a byte fills what
@@ -15,7 +14,7 @@ edited setup start text = record { language = Repair; layout = layout_of setup.i
 -- a listing as it is, or with its labels first
 abbrev pub IsTaken : Bool → Listing → List ℕ → Type 0
 IsTaken false l taken = taken ≡ l.text
-IsTaken true l taken = AreReordered l.language (text_lines l.text) taken
+IsTaken true l taken = IsReordered l.language l.text taken
 
 -- the start of the information file, or else the one from which the last byte is at $FFFF
 abbrev pub start_of : Setup → List ℕ → ℕ

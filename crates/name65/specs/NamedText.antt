@@ -1,14 +1,13 @@
 -- The text by names, beside the listing that it was.
-use Rattle.std.specs.Prelude.{◌≡◌, ◌++◌, ℕ, ◌-◌, Bool, List, [], length, slice_get, Result, Ok, Err}
+use Rattle.std.specs.Prelude.{◌≡◌, ◌++◌, ℕ, ◌-◌, List, length, slice_get, Ok}
 use Rattle.std.specs.Option.{unwrap_or}
-use Rattle.info65.specs.Words.{InfoView}
 use Rattle.text65.specs.Lines.{text_lines}
-use Rattle.stmt65.specs.Words.{Layout, definitions_of, held_definitions, line_addresses, meaning_in, readings}
+use Rattle.stmt65.specs.Words.{Layout, line_addresses, meaning_in, readings}
 use Rattle.stmt65.specs.declared.language.Language.{Language}
 use Rattle.stmt65.specs.declared.assembling.assembler.Source.{Source}
-use Rattle.name65.specs.Changes.{LinesBecome, Scope}
+use Rattle.name65.specs.Changes.{LinesBecome}
+use Rattle.name65.specs.Compared.{Scope}
 use Rattle.name65.specs.Marks.{is_named}
-use Rattle.name65.specs.NameFor.{KnownView, named_at}
 use Rattle.name65.specs.declared.complaint.Refusal.{Refusal}
 use Rattle.name65.specs.declared.complaint.Refusal.TheVariants as refusal
 use Rattle.name65.specs.declared.failure.Refused.{Refused}
@@ -31,34 +30,13 @@ listing_of s = record { language = s.language; layout = s.layout.now; start = s.
 abbrev pub addresses_of : Listing → List ℕ
 addresses_of l = line_addresses l.layout l.start (readings l.language l.text)
 
--- the bytes that it means
-abbrev pub bytes_in : {E : Type 0} → Result (List ℕ) E → List ℕ
-bytes_in (Ok bytes) = bytes
-bytes_in (Err fault) = []
-
--- what decides which name stands for an address: what it defines, the names of the information file, and its bytes
-abbrev pub known_of : Listing → InfoView → KnownView
-known_of l info = record {
-  at = named_at (held_definitions (definitions_of l.language l.layout l.start l.text));
-  given = info.names;
-  start = l.start;
-  bytes = bytes_in (meaning_in l.language l.layout l.start l.text);
-}
-
 -- the last address, or the start
 abbrev pub last_in : ℕ → List ℕ → ℕ
 last_in start ends = unwrap_or (slice_get ends (length ends - 1)) start
 
 -- what decides how its lines change
 abbrev pub scope_of : Listing → Setup → Scope
-scope_of l setup = record {
-  language = l.language;
-  named = is_named setup.tags.now;
-  used = setup.naming.now.used;
-  last = last_in l.start (addresses_of l);
-  tags = setup.tags.now;
-  known = known_of l setup.info.now;
-}
+scope_of l setup = record { language = l.language; named = is_named setup.tags.now; used = setup.naming.now.used; last = last_in l.start (addresses_of l) }
 
 -- Each line of a listing as it becomes, in order, by the address after each; and
 -- after the last what moves there, in order.
@@ -68,7 +46,7 @@ pub record AreLines (l : Listing) (scope : Scope) (text : List ℕ) : Type 0 whe
   pub become : LinesBecome scope l.start (text_lines l.text) (addresses_of l) lines tail
   pub whole : text ≡ lines ++ tail
 
--- so they are, by the groups and the names of the information file
+-- so they are, by the groups
 abbrev pub IsNamed : Listing → Setup → List ℕ → Type 0
 IsNamed l setup text = AreLines l (scope_of l setup) text
 

@@ -1,48 +1,21 @@
--- What is appended to a text while it is written.
-use Rattle.std.specs.Prelude.{◌≡◌, ◌++◌, ℕ, ◌+◌, true, false, List, Some}
-use Rattle.std.specs.List.{list_all}
-use Rattle.text65.specs.Names.{is_blank}
-use Rattle.stmt65.specs.Words.{PlaceAssignment, held}
-use Rattle.map65.specs.Words.{is_marked}
-use Rattle.name65.specs.Changes.{Becomes, IsList, IsNumber, IsRewritten, LineBecomes, Scope, are_named, moves, says}
-use Rattle.name65.specs.Known.{known_seen}
+-- What is appended to a text while it is written, and how its lines are read once more.
+use Rattle.std.specs.Prelude.{◌≡◌, ◌++◌, ℕ, ◌+◌, ◌<◌, true, List, Some, length}
+use Rattle.stmt65.specs.Words.{PlaceAssignment, held, part_of, parts}
+use Rattle.stmt65.specs.declared.language.Language.{Language}
+use Rattle.name65.specs.Changes.{LineBecomes, moves, says}
+use Rattle.name65.specs.Compared.{GoesOn, Renamed, Scope, cursor_of, names_one}
+use Rattle.name65.specs.Marks.{names_seen}
+use Rattle.name65.specs.declared.compared.Compared.{Compared}
+use Rattle.name65.specs.declared.compared.Piece.{Piece}
 use Rattle.name65.specs.declared.constants.Fate.{Fate}
 use Rattle.name65.specs.declared.constants.Fate.TheVariants.{Kept, LeftOut, Moved}
 use Rattle.name65.specs.declared.plan.NewText.{NewText}
 use Rattle.name65.specs.declared.plan.PlacedLine.{PlacedLine}
 use Rattle.name65.specs.declared.plan.Plan.{Plan}
-use Rattle.name65.specs.declared.rewriting.Run.{Run}
 
 -- what decides how lines change, by a plan
 abbrev pub scope_seen : Plan → Scope
-scope_seen p = record { language = p.language; named = is_marked p.marks.now; used = p.used; last = p.last; tags = p.groups.now.tags.now; known = known_seen p.groups.now.known.now }
-
--- a text of a kind was appended
-pub record AppendsOne (IsOne : List ℕ → Type 0) (old new : List ℕ) : Type 0 where
-  pub text : List ℕ
-  pub is_one : IsOne text
-  pub whole : new ≡ old ++ text
-
--- what stands in the place of a line that gives bytes was appended
-abbrev pub Rewrites : PlacedLine → List ℕ → List ℕ → Type 0
-Rewrites placed old new = AppendsOne (IsRewritten (scope_seen placed.plan.now) placed.at placed.end placed.line.now) old new
-
--- what an operand becomes was appended
-abbrev pub Replaces : Run → List ℕ → List ℕ → Type 0
-Replaces item old new = AppendsOne (Becomes (scope_seen item.plan.now) item.style item.at item.text.now) old new
-
--- what a list and what stands after it become was appended
-abbrev pub Lists : Run → List ℕ → List ℕ → Type 0
-Lists run old new = AppendsOne (IsList (scope_seen run.plan.now) run.style run.at run.end run.text.now) old new
-
--- what was appended is the beginning of the line if that list is appended to it
-abbrev pub Opens : PlacedLine → Run → List ℕ → List ℕ → Type 0
-Opens placed run old new = (whole : List ℕ) → Lists run new whole → Rewrites placed old whole
-
--- a number all of whose bytes groups name
-pub record IsNamedNumber (item : Run) : Type 0 where
-  pub number : IsNumber item.plan.now.language item.text.now
-  pub named : are_named (is_marked item.plan.now.marks.now) item.style item.at ≡ true
+scope_seen p = record { language = p.language; named = names_seen p.named.now; used = p.used; last = p.last }
 
 -- a line was appended as it becomes, and what moves behind the last line
 pub record AppendsLine (placed : PlacedLine) (old new : NewText) : Type 0 where
@@ -52,9 +25,14 @@ pub record AppendsLine (placed : PlacedLine) (old new : NewText) : Type 0 where
   pub whole : new.lines.items ≡ old.lines.items ++ text
   pub tail_is : new.tail.items ≡ old.tail.items ++ moved
 
+-- a line may stand in the place of one that gives bytes
+pub record IsRenamedLine (placed : PlacedLine) (new : List ℕ) : Type 0 where
+  pub named : names_one (names_seen placed.plan.now.named.now) placed.at placed.end ≡ true
+  pub renamed : Renamed (scope_seen placed.plan.now) (cursor_of (parts placed.plan.now.language placed.line.now) placed.at placed.end) placed.line.now new
+
 -- what becomes of the constant line of a name with a value may become of it
 abbrev pub IsFate : Scope → ℕ → Fate → Type 0
-IsFate scope value Kept = moves scope value ≡ false
+IsFate scope value Kept = Unit {0}
 IsFate scope value LeftOut = scope.used ≡ true
 IsFate scope value (Moved distance) = (moves scope value ≡ true) × (value ≡ scope.last + distance)
 
@@ -64,5 +42,21 @@ pub record IsPlaced (scope : Scope) (line name : List ℕ) (value : ℕ) : Type 
   pub reads : says scope line ≡ Some (PlaceAssignment name distance)
   pub value_is : value ≡ scope.last + held distance
 
-abbrev pub AreBlanks : List ℕ → Type 0
-AreBlanks text = list_all is_blank text ≡ true
+-- ---- two lines beside each other
+
+-- the piece is the next part of the line
+pub record IsPiece (language : Language) (line : List ℕ) (p : Piece) : Type 0 where
+  pub whole : line ≡ p.blanks.now ++ (p.text.now ++ p.rest.now)
+  pub goes_on : GoesOn language (part_of p.part) p.blanks.now p.text.now p.rest.now
+
+abbrev pub IsRenamed : Scope → Compared → Type 0
+IsRenamed scope c = Renamed scope c.cursor c.old.now c.new.now
+
+-- how much is left of both: the parts of the first, and the bytes of the second
+abbrev pub left_of : Language → Compared → ℕ
+left_of language c = length (parts language c.old.now) + length c.new.now
+
+-- if the second differ only where groups name bytes, so do the first, of which more is left
+pub record LeadsTo (scope : Scope) (first second : Compared) : Type 0 where
+  pub leads : IsRenamed scope second → IsRenamed scope first
+  pub fewer : left_of scope.language second < left_of scope.language first

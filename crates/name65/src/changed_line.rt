@@ -1,24 +1,20 @@
 //! What stands in the place of a line that gives a byte that groups name.
 
-ghost use Rattle.std.specs.Prelude.{IfOk, OnOk};
-ghost use Rattle.name65.specs.Written.{Opens, Rewrites};
-
-use crate::address_operand::put_address;
-use crate::complaint::{Refusal, after, need};
-use crate::operands::{Style, keep_free};
+use crate::complaint::{Refusal, after};
+use crate::operands::{Style, keep_free, next_item, put_operand};
 use crate::plan::PlacedLine;
-use crate::rewriting::{
-    Run, are_blank, blank_len, column_of, cut_at, has_no_comment, put_gap, put_list,
-};
+use crate::reference::{Reference, put_reference};
+use crate::rewriting::{blank_len, column_of, cut_at, put_gap, put_rest};
 use crate::wishes::{Wish, Wished, Wishes};
-use stmt65::{Half, Part, Places, Span};
+use stmt65::{Half, Language, Part, Places, Span};
 
-/// The list of operands of a line: where the `#` or the directive stands that opens it,
-/// and the parts of the line after that.
+/// The list of operands of a line: its style, where the `#` or the directive stands that opens it, whether that is a
+/// `#`, and the parts of the line after that.
 #[derive(Drop)]
-struct Listed<'t> {
+struct List<'t> {
     style: Style,
     opening: Span,
+    is_immediate: bool,
     places: Places<'t>,
 }
 
@@ -27,8 +23,8 @@ fn common_half(wishes: &Wishes<'_>, at: u64, end: u64) -> Option<Half> {
     let mut found = None;
     for address in at..end {
         match (wishes.at(address)?.wish, found) {
-            (Wish::Half(half), None) => found = Some(half),
-            (Wish::Half(half), Some(first)) if half == first => {}
+            (Wish::Half(half, _), None) => found = Some(half),
+            (Wish::Half(half, _), Some(first)) if half == first => {}
             _ => return None,
         }
     }
@@ -36,7 +32,7 @@ fn common_half(wishes: &Wishes<'_>, at: u64, end: u64) -> Option<Half> {
 }
 
 /// The list of operands of a line, if it has one. A `.byte` whose bytes all become halves of a kind is a list of these.
-fn list_of<'t>(placed: &PlacedLine<'_, 't>) -> Option<Listed<'t>> {
+fn list_of<'t>(placed: &PlacedLine<'_, 't>) -> Option<List<'t>> {
     let plan = placed.plan;
     let mut places = Places::new(plan.language, placed.line);
     let operation = places.head().operation?;
@@ -44,6 +40,7 @@ fn list_of<'t>(placed: &PlacedLine<'_, 't>) -> Option<Listed<'t>> {
         return None;
     };
     let mut opening = operation.span;
+    let mut is_immediate = false;
     let mut style = Style::Bytes;
     if word.eq_ignore_ascii_case(b".word") {
         style = Style::Words;
@@ -53,87 +50,124 @@ fn list_of<'t>(placed: &PlacedLine<'_, 't>) -> Option<Listed<'t>> {
             return None;
         }
         opening = sign.span;
+        is_immediate = true;
     } else if let Some(half) = common_half(plan.wishes, placed.at, placed.end) {
         style = Style::Halves(half);
     }
-    Some(Listed {
+    Some(List {
         style,
         opening,
+        is_immediate,
         places,
     })
 }
 
-/// Appends what stands in a line up to its list of a style, which a `#` or a directive at a place opens. A `.byte`
-/// whose bytes all become halves of a kind is `.lobytes` or `.hibytes`. The list is that of what is left.
-fn open_list<'w, 't>(
+/// Appends what stands in a line before its first operand, and returns where in the line the rest begins. A `.byte`
+/// whose bytes all become halves of a kind is `.lobytes` or `.hibytes`.
+fn open_list(out: &mut Vec<u8>, line: &[u8], list: &List<'_>) -> Result<usize, Refusal> {
+    let found = cut_at(line, list.opening.from, list.opening.to)?;
+    out.extend_from_slice(found.before)?;
+    let Style::Halves(half) = list.style else {
+        out.extend_from_slice(found.within)?;
+        return Ok(list.opening.to);
+    };
+    let directive: &[u8] = match half {
+        Half::Low => b".lobytes",
+        Half::High => b".hibytes",
+    };
+    out.extend_from_slice(directive)?;
+    let (blanks, _) = found.after.split_at(blank_len(found.after));
+    let place = list.opening.to.saturating_add(blanks.len());
+    put_gap(out, blanks, column_of(line, place))?;
+    Ok(place)
+}
+
+/// Appends a line with other operands in its list.
+fn put_list(
     out: &mut Vec<u8>,
-    placed: &PlacedLine<'w, 't>,
-    style: Style,
-    opening: Span,
-) -> Result<Run<'w, 't>, Refusal>
-    ensures { IfOk result (λ run. Opens placed.now run out.old.items out.new.items) }
-{
+    placed: &PlacedLine<'_, '_>,
+    mut list: List<'_>,
+) -> Result<(), Refusal> {
+    let PlacedLine {
+        plan,
+        line,
+        mut at,
+        ..
+    } = *placed;
+    if list.is_immediate {
+        keep_free(plan.wishes, at, 1)?;
+        at = after(at, 1)?;
+    }
+    let mut place = open_list(out, line, &list)?;
+    for _ in 0..=line.len() {
+        let Some(item) = next_item(plan, list.style, &mut list.places, at)? else {
+            break;
+        };
+        out.extend_from_slice(cut_at(line, place, item.span.from)?.within)?;
+        let text = cut_at(line, item.span.from, item.span.to)?.within;
+        put_operand(out, list.style, text, item.wish)?;
+        at = after(at, item.count)?;
+        place = item.span.to;
+    }
+    let kept = list.places.end().saturating_sub(place);
+    Ok(put_rest(out, line, cut_at(line, place, place)?.after, kept)?)
+}
+
+/// Where the operand of an instruction stands, and where its last part ends. A directive is none.
+fn operand_of(language: Language, line: &[u8]) -> Option<(Span, usize)> {
+    let mut places = Places::new(language, line);
+    let operation = places.head().operation?.part;
+    if !matches!(operation, Part::Word(word) if word.first() != Some(&b'.')) {
+        return None;
+    }
+    let span = places.operand()?.span;
+    for _ in 0..=line.len() {
+        if places.next().is_none() {
+            break;
+        }
+    }
+    Some((span, places.end()))
+}
+
+/// Appends a line with another address in the operand of its instruction.
+fn put_address(
+    out: &mut Vec<u8>,
+    placed: &PlacedLine<'_, '_>,
+    reference: Reference<'_>,
+) -> Result<(), Refusal> {
     let PlacedLine {
         plan,
         line,
         at,
         end,
     } = *placed;
-    let found = cut_at(line, opening.from, opening.to)?;
-    need(has_no_comment(found.before))?;
-    out.extend_from_slice(found.before)?;
-    let run = Run {
-        plan,
-        style,
-        at,
-        end,
-        line,
-        place: opening.to,
-        text: found.after,
-    };
-    if found.within == b"#".as_slice() {
+    let next = after(at, 1)?;
+    keep_free(plan.wishes, next, end.saturating_sub(next))?;
+    let Some((span, last)) = operand_of(plan.language, line) else {
         keep_free(plan.wishes, at, 1)?;
-        need(!plan.marks.get_at(at as usize))?;
-        out.extend_from_slice(b"#")?;
-        return Ok(Run {
-            style: Style::Bytes,
-            at: after(at, 1)?,
-            ..run
-        });
-    }
-    if style.may_keep() {
-        need(found.within.eq_ignore_ascii_case(style.directive()))?;
-        out.extend_from_slice(found.within)?;
-        return Ok(run);
-    }
-    let (blanks, text) = found.after.split_at(blank_len(found.after));
-    need(found.within.eq_ignore_ascii_case(b".byte"))?;
-    need(are_blank(blanks))?;
-    let place = opening.to.saturating_add(blanks.len());
-    out.extend_from_slice(style.directive())?;
-    put_gap(out, blanks, column_of(line, place))?;
-    Ok(Run { place, text, ..run })
+        return Err(Refusal::Changed);
+    };
+    let found = cut_at(line, span.from, span.to)?;
+    out.extend_from_slice(found.before)?;
+    put_reference(out, reference)?;
+    Ok(put_rest(out, line, found.after, last.saturating_sub(span.to))?)
 }
 
-/// Appends what stands in the place of a line that gives a byte that a group names, without a line feed.
-pub fn put_operation(out: &mut Vec<u8>, placed: &PlacedLine<'_, '_>) -> Result<(), Refusal>
-    ensures { OnOk result (Rewrites placed.now out.old.items out.new.items) }
-{
+/// Appends what stands in the place of a line that gives a byte of which something is wished, without a line feed.
+pub fn put_operation(out: &mut Vec<u8>, placed: &PlacedLine<'_, '_>) -> Result<(), Refusal> {
     let PlacedLine { plan, at, end, .. } = *placed;
     if let Some(
         Wished {
-            group,
-            wish: Wish::Address(offset),
+            wish: Wish::Address(reference),
             ..
         },
     ) = plan.wishes.at(at)
     {
-        return put_address(out, placed, group, offset);
+        return put_address(out, placed, reference);
     }
     let Some(list) = list_of(placed) else {
         keep_free(plan.wishes, at, end.saturating_sub(at))?;
         return Err(Refusal::Changed);
     };
-    let run = open_list(out, placed, list.style, list.opening)?;
-    put_list(out, &run, list.places)
+    put_list(out, placed, list)
 }

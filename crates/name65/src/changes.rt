@@ -1,19 +1,19 @@
 //! The lines of a listing, each as it becomes.
 
-ghost use Rattle.std.specs.Prelude.{◌≡◌, IfOk, Ok, OnOk};
+ghost use Rattle.std.specs.Prelude.{◌≡◌, IfOk, IsTrue, OnOk};
 ghost use Rattle.text65.specs.Lines.{text_lines};
-ghost use Rattle.stmt65.specs.Words.{held_definitions, source_addresses, source_definitions, source_meaning};
+ghost use Rattle.stmt65.specs.Words.{source_addresses};
 ghost use Rattle.name65.specs.Changes.{LinesBecome};
 ghost use Rattle.name65.specs.NamedText.{IsNamed, listing_of};
-ghost use Rattle.name65.specs.Written.{AppendsLine, scope_seen};
+ghost use Rattle.name65.specs.Written.{AppendsLine, IsRenamedLine, scope_seen};
 
 use crate::changed_line::put_operation;
-use crate::complaint::Refusal;
+use crate::compared::{Compared, are_renamed, cursor_of};
+use crate::complaint::{Refusal, need};
 use crate::constant_line::{put_idle, put_kept};
 use crate::constants::names_after;
-use crate::groups::Groups;
 use crate::known::Known;
-use crate::marks::{has_mark, mark_named};
+use crate::marks::NamedBytes;
 use crate::plan::{NewText, PlacedLine, Plan};
 use crate::setup::Setup;
 use crate::wishes::Wishes;
@@ -21,20 +21,46 @@ use std::alloc::Global;
 use stmt65::{Assembly, LineEnds, Source, Symbols};
 use text65::first_line;
 
-/// Appends what stands in the place of a line.
-#[tactic(auto, unfolding(crate::specs::Changes::is_touched))]
+/// Whether a line may stand in the place of one that gives bytes.
+fn is_renamed(placed: &PlacedLine<'_, '_>, new: &[u8]) -> Result<bool, Refusal>
+    ensures { IfOk result (λ is. IsTrue is → IsRenamedLine placed.now new.now) }
+{
+    let PlacedLine {
+        plan,
+        line,
+        at,
+        end,
+    } = *placed;
+    if !plan.named.names_one(at, end) {
+        return Ok(false);
+    }
+    let cursor = cursor_of(placed)?;
+    are_renamed(
+        plan,
+        Compared {
+            cursor,
+            old: line,
+            new,
+        },
+    )
+}
+
+/// Appends what stands in the place of a line. What changes in it is read once more: nothing is trusted of how it was
+/// written.
 fn put_line(out: &mut NewText, placed: &PlacedLine<'_, '_>) -> Result<(), Refusal>
     ensures { OnOk result (AppendsLine placed.now out.old out.new) }
 {
     if placed.end <= placed.at {
         return put_idle(out, placed);
     }
-    if !has_mark(placed.plan.marks, placed.at, placed.end) {
+    if !placed.plan.wishes.has_one(placed.at, placed.end) {
         return Ok(put_kept(&mut out.lines, placed.line)?);
     }
     out.change.clear();
     put_operation(&mut out.change, placed)?;
-    Ok(put_kept(&mut out.lines, out.change.as_slice())?)
+    let change = out.change.as_slice();
+    need(is_renamed(placed, change)?)?;
+    Ok(put_kept(&mut out.lines, change)?)
 }
 
 /// The lines of a source, each as it becomes, by the address after each.
@@ -85,25 +111,25 @@ pub fn changed_text<'t, 'b>(
     assembly: &Assembly<'t, '_, Global>,
     setup: &Setup<'_>,
 ) -> Result<Changed<'t, 'b>, Refusal>
-    requires ends { assembly.now.ends ≡ source_addresses source.now }
-    requires names { assembly.now.names ≡ held_definitions (source_definitions source.now) }
-    requires bytes { source_meaning source.now ≡ Ok assembly.now.bytes.items }
+    requires { assembly.now.ends ≡ source_addresses source.now }
     ensures { IfOk result
         (λ changed. IsNamed (listing_of source.now) setup.now changed.text.items) }
 {
     let Setup { naming, info, tags } = *setup;
     let used = naming.used;
-    let marks = mark_named(*alloc, tags)?;
+    let named = NamedBytes::new(*alloc, tags)?;
     let known = Known::new(*alloc, source.start, assembly, info)?;
-    let groups = Groups::new(*alloc, &known, tags)?;
-    let wishes = Wishes::new(*alloc, source, &groups, used)?;
+    let mut wishes = Wishes::none(*alloc);
+    if used {
+        wishes.names.take_used(*alloc, source)?;
+    }
+    wishes.take_all(&known, &named, tags)?;
     let plan = Plan {
         alloc: *alloc,
         language: source.language,
-        marks: &marks,
+        named: &named,
         used,
         last: assembly.ends.last().unwrap_or(u64::from(source.start)),
-        groups: &groups,
         wishes: &wishes,
     };
     let mut new = new_lines(&plan, source, &assembly.ends)?;

@@ -1,14 +1,16 @@
 //! Lines that give no bytes: as they were, left out, or after the last line.
 
-ghost use Rattle.std.specs.Prelude.{◌≡◌, ◌++◌, ◌∷◌, [], false, IfOk, IsTrue, MatchOption, OnOk, nat_lt};
+ghost use Rattle.std.specs.Prelude.{◌≡◌, ◌++◌, ◌∷◌, [], IfOk, IfSome, IsTrue, OnOk, Some};
 ghost use Rattle.stmt65.specs.Words.{Assignment, numeral_of};
-ghost use Rattle.name65.specs.Changes.{IsRevalued, is_touched_constant, says};
+ghost use Rattle.name65.specs.Changes.{says};
+ghost use Rattle.name65.specs.Compared.{Renamed, value_cursor};
 ghost use Rattle.name65.specs.Written.{AppendsLine, IsPlaced, scope_seen};
 
-use crate::complaint::{Refusal, need};
+use crate::compared::{Compared, Cursor, are_renamed};
+use crate::complaint::{Refusal, after, need};
 use crate::constants::{Fate, fate_of};
 use crate::plan::{NewText, PlacedLine, Plan};
-use crate::rewriting::{cut_at, has_no_comment, put_rest};
+use crate::rewriting::{cut_at, put_rest};
 use std::alloc::AllocError;
 use stmt65::{Language, Numeral, Places, SourceLine, Span, read_line};
 use text65::put_decimal;
@@ -32,24 +34,37 @@ fn value_of(language: Language, line: &[u8]) -> Option<Span> {
 }
 
 /// The constant line of a name whose value is this far from the end of the text: `NAME := * + n`.
-fn moved(plan: &Plan<'_, '_>, line: &[u8], distance: u64) -> Result<Vec<u8>, Refusal>
-    ensures { IfOk result (λ text. IsRevalued line.now text.items) }
-{
+fn moved(plan: &Plan<'_, '_>, line: &[u8], distance: u64) -> Result<Vec<u8>, Refusal> {
     let Some(span) = value_of(plan.language, line) else {
         return Err(Refusal::Changed);
     };
     let found = cut_at(line, span.from, span.to)?;
-    need(has_no_comment(found.before))?;
-    need(has_no_comment(found.within))?;
-    let mut value = Vec::new(plan.alloc);
-    put_decimal(&mut value, b":= * + ", distance as usize)?;
-    let written = value.as_slice();
-    need(has_no_comment(written))?;
     let mut out = Vec::new(plan.alloc);
     out.extend_from_slice(found.before)?;
-    out.extend_from_slice(written)?;
+    put_decimal(&mut out, b":= * + ", distance as usize)?;
     put_rest(&mut out, line, found.after, 0)?;
     Ok(out)
+}
+
+/// Whether a line differs from one that was only in the value.
+fn is_revalued(plan: &Plan<'_, '_>, line: &[u8], new: &[u8], value: u64) -> Result<bool, Refusal>
+    ensures { IfOk result (λ is. IsTrue is
+        → Renamed (scope_seen plan.now) (value_cursor value) line.now new.now) }
+{
+    let cursor = Cursor {
+        stay: 1,
+        width: 0,
+        from: value,
+        to: after(value, 1)?,
+    };
+    are_renamed(
+        plan,
+        Compared {
+            cursor,
+            old: line,
+            new,
+        },
+    )
 }
 
 /// Whether a line defines a name so that it has this value after the last line.
@@ -70,8 +85,7 @@ fn constant_in<'l>(
     plan: &Plan<'_, '_>,
     line: &'l [u8],
 ) -> Result<Option<(&'l [u8], Numeral<'l>)>, Refusal>
-    ensures { IfOk result (λ found. MatchOption found
-        (is_touched_constant (scope_seen plan.now) (says (scope_seen plan.now) line.now) ≡ false)
+    ensures { IfOk result (λ found. IfSome found
         (λ c. says (scope_seen plan.now) line.now ≡ Some (Assignment c.0.now (numeral_of c.1)))) }
 {
     match read_line(plan.alloc, plan.language, line)? {
@@ -82,7 +96,6 @@ fn constant_in<'l>(
 
 /// Appends what stands in the place of a line that gives no bytes.
 pub fn put_idle(out: &mut NewText, placed: &PlacedLine<'_, '_>) -> Result<(), Refusal>
-    requires { nat_lt placed.now.at placed.now.end ≡ false }
     ensures { OnOk result (AppendsLine placed.now out.old out.new) }
 {
     let (plan, line) = (placed.plan, placed.line);
@@ -94,9 +107,10 @@ pub fn put_idle(out: &mut NewText, placed: &PlacedLine<'_, '_>) -> Result<(), Re
         Fate::Kept => Ok(put_kept(&mut out.lines, line)?),
         Fate::LeftOut => Ok(()),
         Fate::Moved(distance) => {
-            let line = moved(plan, line, distance)?;
-            need(is_placed(plan, &line, name, value)?)?;
-            Ok(put_kept(&mut out.tail, &line)?)
+            let new = moved(plan, line, distance)?;
+            need(is_revalued(plan, line, &new, value)?)?;
+            need(is_placed(plan, &new, name, value)?)?;
+            Ok(put_kept(&mut out.tail, &new)?)
         }
     }
 }

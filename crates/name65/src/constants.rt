@@ -23,7 +23,7 @@ pub fn fate_of(plan: &Plan<'_, '_>, name: &[u8], value: u64) -> Fate
     if plan.used && plan.wishes.names.is_left_out(name) {
         return Fate::LeftOut;
     }
-    if plan.marks.get_at(value as usize) && plan.last <= value {
+    if plan.named.names(value) && plan.last <= value {
         return Fate::Moved(value - plan.last);
     }
     Fate::Kept

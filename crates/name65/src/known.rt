@@ -1,15 +1,8 @@
 //! Which name stands for an address.
 
-ghost use Rattle.std.specs.Prelude.{◌≡◌, ◌-◌, ℕ, IfOk, None, OnOk, false, map, option_copied, option_map};
-ghost use Rattle.std.specs.List.{list_any, range_with_len};
-ghost use Rattle.stmt65.specs.Words.{definition_of};
-ghost use Rattle.name65.specs.ByAddress.{value_at};
-ghost use Rattle.name65.specs.Known.{definition_at, known_seen, with_definition};
-ghost use Rattle.name65.specs.NameFor.{are_returns, by, byte_at, half_byte, inside_name, is_next, name_for, named_at, next_name, own_name, own_text, pair_address, pair_name, reference_seen};
-
 use crate::by_address::ByAddress;
 use crate::reference::{Offset, Reference};
-use info65::{Info, Tag};
+use info65::Info;
 use std::alloc::{AllocError, Global};
 use stmt65::{Assembly, Definition};
 
@@ -23,56 +16,29 @@ pub struct Known<'b, 't> {
     bytes: &'b [u8],
 }
 
-/// Takes the name of a definition. Of two names of one value the first counts, but one that moves with the lines
+/// The names of these definitions. Of two names of one value the first counts, but one that moves with the lines
 /// around it, as a label does, comes before one that does not.
-fn take_name<'t>(
-    names: &mut ByAddress<Definition<'t>>,
-    definition: Definition<'t>,
-) -> Result<(), AllocError>
-    ensures { OnOk result ((a : ℕ) → definition_at names.new a
-        ≡ with_definition (definition_of definition.entry) a (definition_at names.old a)) }
-{
-    let Some(address) = definition.address() else {
-        return Ok(());
-    };
-    match names.get(u64::from(address)) {
-        Some(first) if definition.constant || !first.constant => Ok(()),
-        _ => names.put(address, definition),
-    }
-}
-
-/// Takes the names of these definitions.
-fn take_names<'t>(
-    names: &mut ByAddress<Definition<'t>>,
+fn names_of<'t>(
+    alloc: Global,
     definitions: &[Definition<'t>],
-) -> Result<(), AllocError>
-    requires { (a : ℕ) → value_at names.old.places.items names.old.values.items a ≡ None }
-    ensures { OnOk result ((a : ℕ) → definition_at names.new a
-        ≡ named_at (map definition_of definitions.now) a) }
-{
-    'definitions: for definition in definitions {
-        take_name(names, *definition)?;
+) -> Result<ByAddress<Definition<'t>>, AllocError> {
+    let mut names: ByAddress<Definition<'t>> = ByAddress::none(alloc);
+    for &definition in definitions {
+        let Some(address) = definition.address() else {
+            continue;
+        };
+        match names.get(u64::from(address)) {
+            Some(first) if definition.constant || !first.constant => {}
+            _ => names.put(address, definition)?,
+        }
     }
-    Ok(())
+    Ok(names)
 }
 
 /// The address by the name of a definition, if there is one.
-fn by<'t>(definition: Option<Definition<'t>>, offset: Offset) -> Option<Reference<'t>>
-    ensures { option_map reference_seen result
-        ≡ by offset (option_map definition_of definition.entry) }
-{
+fn by<'t>(definition: Option<Definition<'t>>, offset: Offset) -> Option<Reference<'t>> {
     let Definition { name, .. } = definition?;
     Some(Reference { name, offset })
-}
-
-/// Whether an address is written by the name of the next one.
-fn is_next(name: Option<Reference<'_>>) -> bool
-    ensures { result ≡ is_next (option_map reference_seen name.entry) }
-{
-    match name {
-        Some(Reference { offset, .. }) => matches!(offset, Offset::Minus(_)),
-        None => false,
-    }
 }
 
 impl<'b, 't> Known<'b, 't> {
@@ -82,54 +48,38 @@ impl<'b, 't> Known<'b, 't> {
         start: u16,
         assembly: &'b Assembly<'t, '_, Global>,
         info: &'b Info,
-    ) -> Result<Known<'b, 't>, AllocError>
-        ensures at { IfOk result (λ k. (a : ℕ) → (known_seen k).at a
-            ≡ named_at assembly.now.names a) }
-        ensures given { IfOk result (λ k. (known_seen k).given ≡ info.now.names) }
-        ensures start { IfOk result (λ k. (known_seen k).start ≡ start) }
-        ensures bytes { IfOk result (λ k. (known_seen k).bytes ≡ assembly.now.bytes.items) }
-    {
-        let mut names = ByAddress::none(alloc);
-        take_names(&mut names, assembly.names.definitions())?;
+    ) -> Result<Known<'b, 't>, AllocError> {
         Ok(Known {
-            names,
+            names: names_of(alloc, assembly.names.definitions())?,
             info,
             start,
             bytes: assembly.bytes.as_slice(),
         })
     }
 
-    /// How many bytes the listing has.
-    pub fn len(&self) -> usize {
-        self.bytes.len()
+    /// The address after the last byte.
+    pub fn end(&self) -> usize {
+        usize::from(self.start).saturating_add(self.bytes.len())
     }
 
     /// The name of an address.
-    pub fn name_at(&self, address: u16) -> Option<&'t [u8]>
-        ensures { option_copied result ≡ own_text (known_seen self.now) (Some address) }
-    {
+    pub fn name_at(&self, address: u16) -> Option<&'t [u8]> {
         let Definition { name, .. } = self.names.get(u64::from(address))?;
         Some(name)
     }
 
     /// The byte at an address.
-    pub fn byte(&self, address: u64) -> Option<u8>
-        ensures { result ≡ byte_at (known_seen self.now) address }
-    {
+    pub fn byte(&self, address: u64) -> Option<u8> {
         let place = address.checked_sub(u64::from(self.start))?;
         self.bytes.get(place as usize).copied()
     }
 
-    fn own(&self, address: u16) -> Option<Reference<'t>>
-        ensures { option_map reference_seen result ≡ own_name (known_seen self.now) address }
-    {
-        by(self.names.get(u64::from(address)), Offset::Zero)
-    }
-
-    /// By the name of which it is one of SIZE addresses.
-    fn inside(&self, address: u16) -> Option<Reference<'t>>
-        ensures { option_map reference_seen result ≡ inside_name (known_seen self.now) address }
-    {
+    /// By its own name, or else by the name of which it is one of SIZE addresses.
+    fn own_or_inside(&self, address: u16) -> Option<Reference<'t>> {
+        let own = by(self.names.get(u64::from(address)), Offset::Zero);
+        if own.is_some() {
+            return own;
+        }
         let given = self.info.covering(address)?;
         let offset = Offset::Plus(address.saturating_sub(given.address));
         by(self.names.get(u64::from(given.address)), offset)
@@ -137,9 +87,7 @@ impl<'b, 't> Known<'b, 't> {
 
     /// By the name of the next address, if that moves with it: that of a constant line does not move with a byte of
     /// the image before it.
-    fn next(&self, address: u16) -> Option<Reference<'t>>
-        ensures { option_map reference_seen result ≡ next_name (known_seen self.now) address }
-    {
+    fn next(&self, address: u16) -> Option<Reference<'t>> {
         let address = u64::from(address);
         let definition = self.names.get(address + 1)?;
         if definition.constant && self.byte(address).is_some() {
@@ -151,74 +99,12 @@ impl<'b, 't> Known<'b, 't> {
     /// An address by a name: its own; or else that of which it is one of SIZE addresses; or else that of the next
     /// address, since a return address is one less than where the CPU goes on. In a table of return addresses that
     /// comes first.
-    fn name_for(&self, returns: bool, address: u16) -> Option<Reference<'t>>
-        ensures { option_map reference_seen result
-            ≡ name_for (known_seen self.now) returns address }
-    {
-        if returns {
-            if let Some(found) = self.next(address) {
-                return Some(found);
-            }
-        }
-        if let Some(found) = self.own(address) {
-            return Some(found);
-        }
-        if let Some(found) = self.inside(address) {
-            return Some(found);
-        }
-        self.next(address)
-    }
-
-    /// The byte of a pair, by where the first of its kind is.
-    fn half_byte(&self, first: Option<u16>, place: u16) -> Option<u8>
-        ensures { result ≡ half_byte (known_seen self.now) first place }
-    {
-        self.byte(u64::from(first?) + u64::from(place))
-    }
-
-    /// The address of a pair of a group HALVES: that which the group has, or else that of its bytes.
-    pub fn pair_address(&self, tag: &Tag, place: u16) -> Option<u16>
-        ensures { result ≡ pair_address (known_seen self.now) tag.now place }
-    {
-        if let Some(address) = tag.address {
-            return Some(address);
-        }
-        let low = self.half_byte(tag.low, place)?;
-        let high = self.half_byte(tag.high, place)?;
-        Some(u16::from(low) + 256 * u16::from(high))
-    }
-
-    /// The address of a pair by a name.
-    pub fn pair_name(&self, returns: bool, tag: &Tag, place: u16) -> Option<Reference<'t>>
-        ensures { option_map reference_seen result
-            ≡ pair_name (known_seen self.now) returns tag.now place }
-    {
-        self.name_for(returns, self.pair_address(tag, place)?)
-    }
-
-    /// Whether the address of a pair is written by the name of the next one.
-    fn is_return(&self, tag: &Tag, place: u16) -> bool
-        ensures { result ≡ is_next (pair_name (known_seen self.now) false tag.now place) }
-    {
-        is_next(self.pair_name(false, tag, place))
-    }
-
-    /// Whether one of the addresses of the pairs from one to before another is written by the name of the next one.
-    fn has_return(&self, tag: &Tag, from: u16, to: u16) -> bool
-        ensures { result ≡ list_any
-            (λ place. is_next (pair_name (known_seen self.now) false tag.now place))
-            (range_with_len from (to - from)) }
-    {
-        (from..to).any(|place| self.is_return(tag, place))
-    }
-
-    /// Whether one of the addresses of a table has to be written by the name of the next one: then all are return
-    /// addresses.
-    #[tactic(auto, unfolding(crate::specs::NameFor::are_returns))]
-    pub fn are_returns(&self, tag: &Tag) -> bool
-        ensures { result ≡ are_returns (known_seen self.now) tag.now }
-    {
-        let count = tag.size.unwrap_or(1);
-        1 < count && self.has_return(tag, 0, count)
+    pub fn name_for(&self, returns: bool, address: u16) -> Option<Reference<'t>> {
+        let (first, last) = if returns {
+            (self.next(address), self.own_or_inside(address))
+        } else {
+            (self.own_or_inside(address), self.next(address))
+        };
+        if first.is_some() { first } else { last }
     }
 }

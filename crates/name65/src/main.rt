@@ -5,16 +5,15 @@
 //! of the listing. The status is 0 if the text, the help text or the version was written, otherwise 1.
 #![tactic(auto)]
 
-mod address_operand;
 mod by_address;
 mod changed_line;
 mod changes;
 mod command;
+mod compared;
 mod complaint;
 mod constant_line;
 mod constants;
 mod failure;
-mod groups;
 mod known;
 mod labels_first;
 mod listing;
@@ -31,20 +30,20 @@ mod wishes;
 
 use failure::Failure;
 use files65::{
-    Output, end, information_at, keep_files, obey, read_information, read_listing, tags_of,
-    write_text,
+    Output, end, information_at, keep_files, keep_named, obey, read_information, read_listing,
+    tags_of, write_text,
 };
-use info65::without_numbers;
 use listing::listing_by_names;
 use request::{Naming, request_of};
 use setup::Setup;
 use std::process::ExitCode;
 
-/// The listing of these files by names. Halves that a NUMBER takes back count for nothing.
+/// The listing of these files by names. The output may not be what the information file names either.
 fn named_listing(rt: &HostRuntime, naming: &Naming) -> Result<Vec<u8>, Failure> {
     let bytes = read_information(rt, naming.names.info.as_deref())?;
     let info = information_at(rt.alloc(), naming.start, &bytes)?;
-    let tags = without_numbers(rt.alloc(), &tags_of(rt.alloc(), &bytes)?)?;
+    keep_named(rt, naming.names.output.as_deref(), &info)?;
+    let tags = tags_of(rt.alloc(), &bytes)?;
     let text = read_listing(rt, naming.names.listing.as_str())?;
     let setup = Setup {
         naming,

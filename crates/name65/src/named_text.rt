@@ -39,8 +39,8 @@ fn means_the_same<'t, 'b>(
 /// differences by names, and names after the image where it ends. The information file says how many addresses a name
 /// covers. With `--used` the constant lines of names that no other line uses are left out.
 ///
-/// Nothing is trusted for the promise: the text is assembled too, and unless it gives the
-/// bytes of the listing, there is none.
+/// Nothing is trusted for the promise: each line that changes is read once more, the text is assembled too, and unless
+/// it gives the bytes of the listing, there is none.
 pub fn named_text(
     alloc: Global,
     source: &Source<'_, '_, '_>,
@@ -48,26 +48,16 @@ pub fn named_text(
 ) -> Result<Vec<u8>, Failure>
     /// The text means exactly the bytes that the listing means, from the same start.
     ensures same { IfOk result (λ text. MeansTheSame (listing_of source.now) text.items) }
-    /// Each line of the listing that no group touches stands in the text unchanged, in order, with a line feed. A
-    /// group touches a line if the line gives a byte that the group names, or is a constant line whose value the
-    /// group names; with `--used`, groups touch every constant line. Of a touched line that gives bytes only the
-    /// operands change whose bytes groups name, and the blanks before a comment. In the place of a number stands
-    /// `<NAME` or `>NAME`, also with what is added or subtracted; in that of a number of a `.word`, a name with what
-    /// is added or subtracted, or `TO - FROM`; in that of the address of an instruction whose first byte a group
-    /// names, a name with what is added or subtracted. Each operand that a group names changes so, or nothing is
-    /// written. A `.byte` all of whose operands become halves without a sign is `.lobytes` or `.hibytes`. A number of
-    /// a `.word` changes only if groups name both of its bytes. Nothing in a comment changes.
-    ///
-    /// For HALVES the name is that of the address of the pair: its own; or else that of which it is one of the
-    /// addresses of a LABEL with a SIZE; or else that of the next address, unless that is the name of a constant line
-    /// and the address is one of the image. If one address of a table has to be written by the name of the next one,
-    /// that comes first for all. Of several names of an address a label comes before a constant line, and of two of a
-    /// kind the first. For BASE the name is that of FROM, and for DIFFERENCE the names are those of TO and FROM.
+    /// Each line of the listing stands in the text, in order, with a line feed, but for constant lines that are left
+    /// out or move. A line of whose bytes groups name none is unchanged. In any other, label, operation, comment and
+    /// each operand of which no group names a byte are the same, byte for byte, and so are the blanks before them, but
+    /// not those before a comment. Only a `.byte` may become `.lobytes` or `.hibytes`. The operand of an instruction
+    /// is named if one of the bytes of the instruction is. By `same` the operands that differ have equal values.
     ///
     /// A constant line is left out only with `--used`. It moves after the last line if a group names its value and
     /// that is not before the end of the text: there a line defines the same name with the same value, `NAME := * +
-    /// n`, with the same comment. Nothing else comes after the last line. Each other constant line stays. That no
-    /// line uses a name that was left out follows from `same`: a text that uses an undefined name means nothing.
+    /// n`, with the same comment. Nothing else comes after the last line. That no line uses a name that was left out
+    /// follows from `same`: a text that uses an undefined name means nothing.
     ensures rest { IfOk result (λ text. IsNamed (listing_of source.now) setup.now text.items) }
     /// If a line of the listing is reported, it is the line of the first fault, with the name of the listing, a hint or
     /// none, and the beginning of the line, as as65 reports it.

@@ -1,21 +1,19 @@
 //! What is asked of the lines of a listing.
 
-use crate::groups::Groups;
+use crate::marks::NamedBytes;
 use crate::wishes::Wishes;
-use map65::Marks;
 use std::alloc::Global;
 use stmt65::Language;
 
-/// The language of the lines, which addresses groups name, whether the constant lines of unused names are left out, the
-/// address after the last line, the groups, and what they wish.
+/// The language of the lines, which bytes groups name, whether the constant lines of unused names are left out, the
+/// address after the last line, and what the groups wish.
 #[derive(Clone, Copy)]
 pub struct Plan<'w, 't> {
     pub alloc: Global,
     pub language: Language,
-    pub marks: &'w Marks,
+    pub named: &'w NamedBytes,
     pub used: bool,
     pub last: u64,
-    pub groups: &'w Groups<'w, 't>,
     pub wishes: &'w Wishes<'t>,
 }
 

@@ -1,8 +1,5 @@
 //! How an address is written by a name.
 
-ghost use Rattle.std.specs.Prelude.{◌≡◌, ◌++◌, OnOk};
-ghost use Rattle.name65.specs.Changes.{address_text, reference_text, sign_of};
-
 use crate::operands::Style;
 use std::alloc::AllocError;
 use stmt65::Half;
@@ -24,23 +21,12 @@ pub struct Reference<'t> {
 }
 
 /// Appends an address.
-pub fn put_reference(out: &mut Vec<u8>, reference: Reference<'_>) -> Result<(), AllocError>
-    ensures { OnOk result (out.new.items ≡ out.old.items ++ reference_text reference.entry) }
-{
+pub fn put_reference(out: &mut Vec<u8>, reference: Reference<'_>) -> Result<(), AllocError> {
     out.extend_from_slice(reference.name)?;
     match reference.offset {
         Offset::Zero => Ok(()),
         Offset::Plus(n) => put_decimal(out, b"+", usize::from(n)),
         Offset::Minus(n) => put_decimal(out, b"-", usize::from(n)),
-    }
-}
-
-fn sign_of(half: Half) -> &'static [u8]
-    ensures { result.now ≡ sign_of half }
-{
-    match half {
-        Half::Low => b"<",
-        Half::High => b">",
     }
 }
 
@@ -51,21 +37,19 @@ pub fn put_in_list(
     style: Style,
     half: Half,
     reference: Reference<'_>,
-) -> Result<(), AllocError>
-    ensures { OnOk result (out.new.items
-        ≡ out.old.items ++ address_text style half reference.entry) }
-{
-    match (style, reference.offset) {
-        (Style::Bytes, Offset::Zero) => {
-            out.extend_from_slice(sign_of(half))?;
-            put_reference(out, reference)
-        }
-        (Style::Bytes, _) => {
-            out.extend_from_slice(sign_of(half))?;
-            out.extend_from_slice(b"(")?;
-            put_reference(out, reference)?;
-            out.extend_from_slice(b")")
-        }
-        _ => put_reference(out, reference),
+) -> Result<(), AllocError> {
+    if !matches!(style, Style::Bytes) {
+        return put_reference(out, reference);
     }
+    let sign: &[u8] = match half {
+        Half::Low => b"<",
+        Half::High => b">",
+    };
+    out.extend_from_slice(sign)?;
+    if let Offset::Zero = reference.offset {
+        return put_reference(out, reference);
+    }
+    out.extend_from_slice(b"(")?;
+    put_reference(out, reference)?;
+    out.extend_from_slice(b")")
 }

@@ -2,7 +2,8 @@
 
 use crate::by_address::ByAddress;
 use crate::complaint::{Complaint, Refusal};
-use crate::groups::Groups;
+use crate::known::Known;
+use crate::marks::NamedBytes;
 use crate::reference::{Offset, Reference};
 use crate::used_names::UsedNames;
 use info65::{Tag, TagKind};
@@ -12,37 +13,36 @@ use stmt65::{Half, Source};
 
 /// What is to stand in the place of a byte or a word.
 #[derive(Clone, Copy)]
-pub enum Wish {
+pub enum Wish<'t> {
     /// The half of an address.
-    Half(Half),
-    /// What the value of one name is above that of another.
-    Difference,
+    Half(Half, Reference<'t>),
+    /// What the value of the first name is above that of the second.
+    Difference(&'t [u8], &'t [u8]),
     /// The second byte of a difference.
     Second,
-    /// The address that the instruction that begins there has as its operand, so far from the value of a name.
-    Address(Offset),
+    /// The address that the instruction that begins there has as its operand.
+    Address(Reference<'t>),
 }
 
-/// A wish, the number of its group, and the line of the information file on which that begins.
+/// A wish, and the line of the information file on which its group begins.
 #[derive(Clone, Copy)]
-pub struct Wished {
+pub struct Wished<'t> {
     pub line: u32,
-    pub group: usize,
-    pub wish: Wish,
+    pub wish: Wish<'t>,
 }
 
 /// The wishes of all groups, and the names that lines use.
 #[derive(Drop)]
 pub struct Wishes<'t> {
-    by_address: ByAddress<Wished>,
+    by_address: ByAddress<Wished<'t>>,
     pub names: UsedNames<'t>,
 }
 
-/// A group, and its number among all groups.
+/// A group, what is known of the listing, and which bytes are numbers.
 #[derive(Clone, Copy)]
 struct TagGroup<'g, 't> {
-    groups: &'g Groups<'g, 't>,
-    number: usize,
+    known: &'g Known<'g, 't>,
+    named: &'g NamedBytes,
     tag: Tag,
 }
 
@@ -53,7 +53,7 @@ impl<'g, 't> TagGroup<'g, 't> {
 
     /// The byte at an address.
     fn byte(self, address: u16) -> Result<u8, Refusal> {
-        let byte = self.groups.known.byte(u64::from(address));
+        let byte = self.known.byte(u64::from(address));
         byte.ok_or(self.refusal(Complaint::NoLine(u32::from(address))))
     }
 
@@ -92,49 +92,84 @@ impl<'g, 't> TagGroup<'g, 't> {
 
     /// The name of an address.
     fn name_at(self, address: u16) -> Result<&'t [u8], Refusal> {
-        let name = self.groups.known.name_at(address);
+        let name = self.known.name_at(address);
         name.ok_or(self.refusal(Complaint::NoName(address)))
+    }
+
+    /// Whether a group NUMBER has the byte of a pair, by where the first of its kind is.
+    fn is_number(self, first: Option<u16>, place: u16) -> bool {
+        match first {
+            Some(first) => self.named.is_number(u64::from(first) + u64::from(place)),
+            None => false,
+        }
+    }
+
+    /// Whether a pair counts: no group NUMBER has a byte of it.
+    fn counts(self, place: u16) -> bool {
+        !self.is_number(self.tag.low, place) && !self.is_number(self.tag.high, place)
+    }
+
+    /// The byte of a pair, by where the first of its kind is.
+    fn half_byte(self, first: Option<u16>, place: u16) -> Option<u8> {
+        self.known.byte(u64::from(first?) + u64::from(place))
+    }
+
+    /// The address of a pair: that which the group has, or else that of its bytes.
+    fn pair_address(self, place: u16) -> Option<u16> {
+        if self.tag.address.is_some() {
+            return self.tag.address;
+        }
+        let low = self.half_byte(self.tag.low, place)?;
+        let high = self.half_byte(self.tag.high, place)?;
+        Some(u16::from_le_bytes([low, high]))
+    }
+
+    /// Whether the address of a pair has to be written by the name of the next one.
+    fn is_return(self, place: u16) -> bool {
+        let Some(address) = self.pair_address(place) else {
+            return false;
+        };
+        match self.known.name_for(false, address) {
+            Some(Reference { offset, .. }) => matches!(offset, Offset::Minus(_)),
+            None => false,
+        }
+    }
+
+    /// Whether this is a table of return addresses: one of its addresses has to be written by the name of the next
+    /// one.
+    fn are_returns(self, count: u16) -> bool {
+        1 < count && (0..count).any(|place| self.counts(place) && self.is_return(place))
     }
 }
 
 impl<'t> Wishes<'t> {
-    /// The wishes of these groups for a text.
-    pub fn new<'g>(
-        alloc: Global,
-        source: &Source<'t, '_, '_>,
-        groups: &'g Groups<'g, 't>,
-        used: bool,
-    ) -> Result<Wishes<'t>, Refusal> {
-        let mut wishes = Wishes {
+    /// No wishes.
+    pub fn none(alloc: Global) -> Wishes<'t> {
+        Wishes {
             by_address: ByAddress::none(alloc),
             names: UsedNames::none(),
-        };
-        if used {
-            wishes.names.take_used(alloc, source)?;
         }
-        let end = usize::from(source.start).saturating_add(groups.known.len());
-        for (number, &tag) in groups.tags.iter().enumerate() {
-            let group = TagGroup {
-                groups,
-                number,
-                tag,
-            };
-            wishes.take(group, end)?;
-        }
-        Ok(wishes)
     }
 
-    fn take(&mut self, group: TagGroup<'_, 't>, end: usize) -> Result<(), Refusal> {
+    /// Takes the wishes of these groups.
+    pub fn take_all<'g>(
+        &mut self,
+        known: &'g Known<'g, 't>,
+        named: &'g NamedBytes,
+        tags: &[Tag],
+    ) -> Result<(), Refusal> {
+        for &tag in tags {
+            self.take(TagGroup { known, named, tag })?;
+        }
+        Ok(())
+    }
+
+    fn take(&mut self, group: TagGroup<'_, 't>) -> Result<(), Refusal> {
         match group.tag.kind {
-            TagKind::Halves => {
-                for place in 0..group.tag.size.unwrap_or(1) {
-                    self.take_pair(group, place)?;
-                }
-                Ok(())
-            }
+            TagKind::Halves => self.take_halves(group),
             TagKind::Difference => self.take_difference(group),
             TagKind::After => match group.tag.first {
-                Some(first) if usize::from(first) < end => {
+                Some(first) if usize::from(first) < group.known.end() => {
                     Err(group.refusal(Complaint::Inside(first)))
                 }
                 _ => Ok(()),
@@ -144,8 +179,25 @@ impl<'t> Wishes<'t> {
         }
     }
 
+    /// The pairs of a group. A pair with a byte of a group NUMBER counts for nothing.
+    fn take_halves(&mut self, group: TagGroup<'_, 't>) -> Result<(), Refusal> {
+        let count = group.tag.size.unwrap_or(1);
+        let returns = group.are_returns(count);
+        for place in 0..count {
+            if group.counts(place) {
+                self.take_pair(group, returns, place)?;
+            }
+        }
+        Ok(())
+    }
+
     /// The halves of a pair. One half is enough if the group has the address.
-    fn take_pair(&mut self, group: TagGroup<'_, 't>, place: u16) -> Result<(), Refusal> {
+    fn take_pair(
+        &mut self,
+        group: TagGroup<'_, 't>,
+        returns: bool,
+        place: u16,
+    ) -> Result<(), Refusal> {
         let low = group.place(group.tag.low, place)?;
         let high = group.place(group.tag.high, place)?;
         if group.tag.address.is_none() {
@@ -153,20 +205,20 @@ impl<'t> Wishes<'t> {
                 group.byte(at)?;
             }
         }
-        let Some(address) = group.groups.known.pair_address(&group.tag, place) else {
+        let Some(address) = group.pair_address(place) else {
             return Ok(());
         };
-        let Some(Reference { name, .. }) = group.groups.pair_name(group.number, place) else {
+        let Some(reference) = group.known.name_for(returns, address) else {
             return Err(group.refusal(Complaint::NoName(address)));
         };
-        self.names.use_name(name)?;
+        self.names.use_name(reference.name)?;
         let [low_byte, high_byte] = address.to_le_bytes();
         for (half, at, byte) in [(Half::Low, low, low_byte), (Half::High, high, high_byte)] {
             let Some(at) = at else { continue };
             if group.byte(at)? != byte {
                 return Err(group.refusal(Complaint::NotHalf(at, address)));
             }
-            self.wish(group, at, Wish::Half(half))?;
+            self.wish(group, at, Wish::Half(half, reference))?;
         }
         Ok(())
     }
@@ -179,9 +231,10 @@ impl<'t> Wishes<'t> {
         if to < from || group.word(at)? != to - from {
             return Err(group.refusal(Complaint::NotDifference(at)));
         }
-        self.names.use_name(group.name_at(to)?)?;
-        self.names.use_name(group.name_at(from)?)?;
-        self.wish(group, at, Wish::Difference)?;
+        let (to, from) = (group.name_at(to)?, group.name_at(from)?);
+        self.names.use_name(to)?;
+        self.names.use_name(from)?;
+        self.wish(group, at, Wish::Difference(to, from))?;
         self.wish(group, group.later(at, 1)?, Wish::Second)
     }
 
@@ -190,25 +243,31 @@ impl<'t> Wishes<'t> {
             return Ok(());
         };
         let operand = group.operand(at)?;
-        self.names.use_name(group.name_at(base)?)?;
+        let name = group.name_at(base)?;
+        self.names.use_name(name)?;
         let offset = match (operand.saturating_sub(base), base.saturating_sub(operand)) {
             (0, 0) => Offset::Zero,
             (0, less) => Offset::Minus(less),
             (more, _) => Offset::Plus(more),
         };
-        self.wish(group, at, Wish::Address(offset))
+        self.wish(group, at, Wish::Address(Reference { name, offset }))
     }
 
-    fn wish(&mut self, group: TagGroup<'_, 't>, at: u16, wish: Wish) -> Result<(), Refusal> {
+    fn wish(&mut self, group: TagGroup<'_, 't>, at: u16, wish: Wish<'t>) -> Result<(), Refusal> {
         if self.by_address.get(u64::from(at)).is_some() {
             return Err(group.refusal(Complaint::Twice(at)));
         }
-        let (line, group) = (group.tag.line, group.number);
-        Ok(self.by_address.put(at, Wished { line, group, wish })?)
+        let line = group.tag.line;
+        Ok(self.by_address.put(at, Wished { line, wish })?)
     }
 
     /// What is wished to stand at an address.
-    pub fn at(&self, address: u64) -> Option<Wished> {
+    pub fn at(&self, address: u64) -> Option<Wished<'t>> {
         self.by_address.get(address)
+    }
+
+    /// Whether something is wished of one of the bytes from an address to before another.
+    pub fn has_one(&self, at: u64, end: u64) -> bool {
+        (at..end).any(|address| self.by_address.has(address))
     }
 }

@@ -4,4 +4,3 @@ pub mod TableLemmas
 pub mod ReachedLemmas
 pub mod TakenLemmas
 pub mod RangesLemmas
-pub mod WorkedRows

@@ -9,11 +9,6 @@ use Rattle.map65.proofs.Public.{open_count, open_fewer}
 use Rattle.reach65.specs.Words.{AreReached, FlowView, LeadsTo, Reached, entry, goal_at, leads_of, led, next_at}
 use Rattle.reach65.proofs.FlowLemmas.{leads-inside}
 
--- nothing outside the image is reached
-pub reached_inside : (f : FlowView) (entries : List ℕ) (a : ℕ) → Reached f entries a → is_inside f.map.image a ≡ true
-reached_inside f entries _ (entry a has inside) = inside
-reached_inside f entries _ (led b a from leads) = leads-inside f b a leads
-
 -- an address is still to be looked at
 pub IsDue : List ℕ → ℕ → Type 0
 IsDue todo a = Contains todo a

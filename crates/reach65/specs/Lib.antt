@@ -7,6 +7,5 @@ pub mod Steps
 pub mod Reached
 pub mod Taken
 pub mod Ranges
-pub mod Worked
 pub mod Types
 pub mod Words

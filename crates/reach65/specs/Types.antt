@@ -3,7 +3,6 @@ pub use Rattle.info65.specs.declared.information.range.RangeSpec.{RangeSpec}
 pub use Rattle.info65.specs.declared.information.range.RangeType.{RangeType}
 pub use Rattle.info65.specs.declared.tags.tag.Tag.{Tag}
 pub use Rattle.info65.specs.declared.tags.tag.TagKind.{TagKind}
-pub use Rattle.isa65.specs.declared.cpu.Cpu.TheVariants.{M6502, M65C02}
 pub use Rattle.isa65.specs.declared.mnemonic.Mnemonic.{Mnemonic}
 pub use Rattle.isa65.specs.declared.mnemonic.Mnemonic.TheVariants.{Bra, Brk, Jmp, Jsr, Rti, Rts}
 pub use Rattle.isa65.specs.declared.mode.Mode.{Mode}

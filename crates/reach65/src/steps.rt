@@ -217,7 +217,10 @@ impl<'f, 'm> Steps<'f, 'm> {
 
     /// Returns the length of the instruction that begins at the address, and 0 if none does.
     pub fn len_at(&self, address: u16) -> usize {
-        self.at(address).map_or(0, |step| step.len())
+        match self.at(address) {
+            Some(step) => step.len(),
+            None => 0,
+        }
     }
 
     /// Returns the instruction that begins at the address, if that is marked.

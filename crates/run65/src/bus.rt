@@ -1,14 +1,14 @@
 //! What the CPU is connected to.
 
 /// Two values that form an address.
-#[derive(Clone, Copy, Debug)]
+#[derive(Clone, Copy)]
 pub struct Word<V> {
     pub low: V,
     pub high: V,
 }
 
 /// What an address is formed for.
-#[derive(Clone, Copy, Debug, PartialEq, Eq)]
+#[derive(Clone, Copy, PartialEq, Eq)]
 pub enum Purpose {
     /// A byte is read there.
     Read,

@@ -1,7 +1,7 @@
 //! What an instruction does to bytes.
 
 /// An operation on up to three bytes: a, b, and c, which is a bit.
-#[derive(Clone, Copy, Debug, PartialEq, Eq)]
+#[derive(Clone, Copy, PartialEq, Eq)]
 pub enum Operation {
     /// The bits of a and of b.
     And,

@@ -19,7 +19,7 @@ pub const ZERO: usize = 1;
 pub const CARRY: usize = 0;
 
 /// The registers of a CPU.
-#[derive(Clone, Copy, Debug)]
+#[derive(Clone, Copy)]
 pub struct Registers<V> {
     /// The accumulator.
     pub a: V,

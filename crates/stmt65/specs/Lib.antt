@@ -24,14 +24,12 @@ pub mod Printed
 pub mod Symbols
 pub mod Layout
 pub mod Coding
-pub mod TableLaws
 pub mod Meaning
 pub mod Definitions
 pub mod Answer
 pub mod TextLaws
 pub mod LineAddresses
 pub mod ModeLaws
-pub mod FaultLaws
 pub mod Sources
 pub mod Code
 pub mod Types

@@ -64,21 +64,11 @@ begins_operand language Define = false
 begins_operand Listing (Mark b) = false
 begins_operand Repair (Mark b) = b == star
 
--- the parts from the first of these on
-unfoldable pub from_operand : Language → List Part → List Part
-from_operand language [] = []
-from_operand language (p ∷ ps) = if begins_operand language p then p ∷ ps else from_operand language ps
-
 -- `+` or `-` and a number or a word, with which an expression goes on
 abbrev pub goes_on : List Part → Bool
 goes_on (Mark b ∷ Word w ∷ ps) = b == plus || b == minus
 goes_on (Mark b ∷ Number t ∷ ps) = b == plus || b == minus
 goes_on _ = false
-
--- no expression goes on there; a string ends with its quote
-abbrev pub EndsBefore : Datum → List Part → Type 0
-EndsBefore (StringDatum t) ps = Unit {0}
-EndsBefore _ ps = goes_on ps ≡ false
 
 -- a part stands from one place of a line to before another
 pub record IsPart (language : Language) (line : List ℕ) (from to : ℕ) (p : Part) : Type 0 where
@@ -89,27 +79,6 @@ pub record IsPart (language : Language) (line : List ℕ) (from to : ℕ) (p : P
 pub record AreBlanks (line : List ℕ) (from to : ℕ) : Type 0 where
   pub on : from ≤ to
   pub blank : list_all is_blank (take (to - from) (drop from line)) ≡ true
-
--- From one place of a line to before another stand parts, with nothing but blanks before each.
-pub data AreParts (language : Language) (line : List ℕ) (at : ℕ) : ℕ → Type 0 where
-  nothing : AreParts language line at at
-  and_part : {to : ℕ} (from end : ℕ) (p : Part) → AreParts language line at to → AreBlanks line to from → IsPart language line from end p
-      → AreParts language line at end
-
--- the same, and the first of them stands at the first place
-pub record IsRun (language : Language) (line : List ℕ) (from to : ℕ) : Type 0 where
-  pub first : Part
-  pub after : ℕ
-  pub is_first : IsPart language line from after first
-  pub others : AreParts language line after to
-
--- The place begins with the first part with which an operand can begin, goes on over parts with nothing but blanks
--- between them, and ends with the last of these. There the parts begin that are left, before which it ends.
-pub record IsWholeOperand (old new : PlacesView) (s : Span) (d : Datum) : Type 0 where
-  pub from : parts old.language (drop s.from old.line) ≡ from_operand old.language (parts_left old)
-  pub to : s.to ≡ new.at
-  pub ends : EndsBefore d (parts_left new)
-  pub run : IsRun old.language old.line s.from s.to
 
 -- an expression, if nothing is left after it
 abbrev pub value_alone : Language → List Part → Option Value

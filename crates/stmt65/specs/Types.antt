@@ -51,7 +51,7 @@ pub use Rattle.isa65.specs.declared.row.Row.TheVariants.{Implied}
 -- What they are said with: words of the crates below.
 pub use Rattle.arrayvec.specs.ArrayVec.{Extends, array_vec_len}
 pub use Rattle.isa65.specs.Words.{cpu_text, encoded, expression, len_of, pattern_text, row_of, row_text, table_of, text_of, written, zero_page_of, zero_page_row}
-unfoldable pub use Rattle.isa65.specs.Words.{cpu_named, mnemonic_named}
+unfoldable pub use Rattle.isa65.specs.Words.{mnemonic_named}
 pub use Rattle.text65.specs.Names.{is_blank, is_word_byte}
 unfoldable pub use Rattle.text65.specs.Names.{has_name_form, is_reserved_word}
 pub use Rattle.text65.specs.Digits.{digits4, hex_digit}

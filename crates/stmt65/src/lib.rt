@@ -38,11 +38,8 @@ pub use assembling::line_ends::{EndsIter, LineEnds};
 pub use assembling::symbols::{Definition, Symbols};
 pub use directive::Directive;
 pub use language::Language;
-pub use laws::meaning_laws::{
-    codes_alike, finds_lowest_fault, keeps_listings, means_first_fault, means_its_lines,
-    takes_modes,
-};
-pub use laws::reading_laws::{cuts_texts, reads_lines, reads_spellings, spells_one, takes_parts};
+pub use laws::meaning_laws::{keeps_listings, means_first_fault, means_its_lines, takes_modes};
+pub use laws::reading_laws::{reads_lines, reads_spellings, spells_one, takes_parts};
 pub use printing::columns::{Column, Columns, LabelBreak, Level, LimitError, Within};
 pub use printing::line::{Line, put_line};
 pub use printing::remarks::Remarks;

@@ -1,4 +1,3 @@
 mod LineLaws
 mod NameLemmas
-mod Rows
 pub mod Public

@@ -2,7 +2,7 @@
 use Rattle.std.specs.Prelude.{◌≡◌, ◌++◌, ◌∷◌, ℕ, List, [], Err}
 use Rattle.files65.specs.declared.failure.Failure.{Failure}
 use Rattle.files65.specs.declared.failure.Failure.TheVariants.{Own}
-use Rattle.info65.specs.Words.{InfoView, NameView, OptionsView, default_label, information, tags_of}
+use Rattle.info65.specs.Words.{InfoView, NameView, OptionsView, default_label, information}
 use Rattle.info65.specs.declared.information.range.RangeSpec.{RangeSpec}
 use Rattle.trace65.specs.declared.failure.Refused.{Refused}
 use Rattle.trace65.specs.declared.failure.Refused.TheVariants.{Text}
@@ -28,8 +28,3 @@ pub record Says (base : InfoView) (found : List RangeSpec) (labels : List ℕ) (
 abbrev pub Explains : OptionsView → List ℕ → Failure Refused → Type 0
 Explains o text (Own (Text e)) = information o text ≡ Err e
 Explains o text _ = Unit {0}
-
--- the same of its lines `#: ..`
-abbrev pub ExplainsGroups : List ℕ → Failure Refused → Type 0
-ExplainsGroups text (Own (Text e)) = tags_of text ≡ Err e
-ExplainsGroups text _ = Unit {0}

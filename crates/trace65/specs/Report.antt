@@ -1,6 +1,6 @@
 -- What is found of an image, and what is written of it.
-use Rattle.std.specs.Prelude.{◌≡◌, ◌++◌, ℕ, Bool, true, false, IsOk, List, Ok, length, take}
-use Rattle.info65.specs.Words.{InfoView, OptionsView, information, tags_of}
+use Rattle.std.specs.Prelude.{◌≡◌, ◌++◌, ℕ, Bool, true, false, List, Ok, length, take}
+use Rattle.info65.specs.Words.{InfoView, OptionsView, information}
 use Rattle.info65.specs.declared.information.range.RangeSpec.{RangeSpec}
 use Rattle.map65.specs.Words.{MapView, MarksView, is_marked, mapped}
 use Rattle.reach65.specs.Words.{AreInOrder, AreReached, FlowView, HaveAllFree, LieIn, is_code, is_taken}
@@ -58,10 +58,6 @@ pub record IsReadBack (o : OptionsView) (file : InfoFile) (m : MapView) (f : Fin
 
 abbrev pub IsAccepted : OptionsView → InfoFile → MapView → Report → Type 0
 IsAccepted o file m r = IsReadBack o file m r.found r.unshown.items
-
--- after the information file the groups in the lines `#: ..` are read without a fault
-abbrev pub HasGroups : InfoFile → Report → Type 0
-HasGroups file r = IsOk (tags_of (file.bytes.now ++ proposals r.found r.unshown.items))
 
 -- the information file, if the whole is to be written, and then the rest
 abbrev pub after_file : Bool → List ℕ → List ℕ → List ℕ

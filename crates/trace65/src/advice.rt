@@ -1,29 +1,31 @@
 //! What guides: which entries join, and what the bytes may be that no code has. A call fails only if memory runs out.
 
+use bytes65::bases::{Base, bases_of};
+use bytes65::cells::{Cell, cells_of};
+use bytes65::copies::{Copied, copies_of};
+use bytes65::firsts::mark_firsts;
+use bytes65::ground::Ground;
+use bytes65::halves::{Halves, halves_of};
+use bytes65::items::items_of;
+use bytes65::labels::{Addressed, labels_of};
+use bytes65::links::mark_links;
+use bytes65::loads::{mark_calls, mark_loaded};
+use bytes65::orphans::mark_orphans;
+use bytes65::pointers::mark_pointers;
+use bytes65::rows::{Words, mark_rows, words_of};
+use bytes65::survey::Survey;
+use bytes65::tables::mark_tables;
+use bytes65::threads::mark_threads;
+use bytes65::variables::{Variables, variables_of};
+use entries65::Steps;
+use entries65::declared::{declared_of, said_places};
+use entries65::growth::{Followed, follow};
+use entries65::pairs::Pair;
+use entries65::readers::Split;
+use entries65::starts::entries_of;
 use info65::{Tag, TagKind};
 use map65::Marks;
-use reach65::rules::Steps;
-use reach65::rules::bytes::bases::{Base, bases_of};
-use reach65::rules::bytes::cells::{Cell, cells_of};
-use reach65::rules::bytes::copies::{Copied, copies_of};
-use reach65::rules::bytes::firsts::mark_firsts;
-use reach65::rules::bytes::ground::Ground;
-use reach65::rules::bytes::items::items_of;
-use reach65::rules::bytes::labels::{Addressed, labels_of};
-use reach65::rules::bytes::links::mark_links;
-use reach65::rules::bytes::loads::{mark_calls, mark_loaded};
-use reach65::rules::bytes::orphans::mark_orphans;
-use reach65::rules::bytes::pointers::mark_pointers;
-use reach65::rules::bytes::rows::{Words, mark_rows, words_of};
-use reach65::rules::bytes::survey::Survey;
-use reach65::rules::bytes::tables::{Split, mark_tables};
-use reach65::rules::bytes::threads::mark_threads;
-use reach65::rules::bytes::variables::{Variables, variables_of};
-use reach65::rules::entries::declared::{declared_of, said_places};
-use reach65::rules::entries::growth::{Followed, follow};
-use reach65::rules::entries::halves::{Halves, Pair, halves_of};
-use reach65::rules::entries::starts::entries_of;
-use reach65::rules::image::ends;
+use reach65::image::ends;
 use std::alloc::{AllocError, Global};
 
 /// How far behind the image and its variables an address in halves may lie.

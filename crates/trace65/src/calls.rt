@@ -1,10 +1,10 @@
 //! What stands behind the calls of routines that pull their return address, and what a line of BASIC calls, as lines
 //! for the information file, before the code is followed.
 
+use entries65::basic::called_by_basic;
+use entries65::pulls::{PRODOS, Pulls, Words, pulls_of};
 use info65::{Tag, TagKind};
 use map65::Map;
-use reach65::rules::entries::basic::called_by_basic;
-use reach65::rules::entries::pulls::{PRODOS, Pulls, Words, pulls_of};
 use std::alloc::{AllocError, Global};
 use text65::put_address;
 

@@ -1,13 +1,13 @@
 //! Whether an information says what another one says, and what is found.
 
-ghost use Rattle.std.specs.Prelude.{◌≡◌, ◌++◌, IfErr, IfOk, IsOk, IsTrue, Ok, OnOk};
-ghost use Rattle.info65.specs.Words.{default_label, given_seen, information, name_seen, segment_seen, segments_seen, tags_of};
-ghost use Rattle.trace65.specs.Words.{AreMerged, Explains, ExplainsGroups, Says};
+ghost use Rattle.std.specs.Prelude.{◌≡◌, ◌++◌, IfErr, IfOk, IsTrue, Ok};
+ghost use Rattle.info65.specs.Words.{default_label, given_seen, information, name_seen, segment_seen, segments_seen};
+ghost use Rattle.trace65.specs.Words.{AreMerged, Explains, Says};
 
 use crate::failure::{Failure, Refused, failure_of};
 use info65::{
-    Given, IncludeSpec, Info, MOST_BYTES, Options, RangeSpec, SegmentSpec, Settings, default_name,
-    read_info, read_tags,
+    Given, IncludeSpec, Info, Options, RangeSpec, SegmentSpec, Settings, default_name, read_info,
+    read_tags,
 };
 use std::alloc::Global;
 
@@ -172,16 +172,8 @@ pub fn read_back(
     Ok(info)
 }
 
-/// Reads the groups in the lines `#: ..` of an information file with what is found, and fails with the first fault.
-pub fn need_groups(alloc: Global, text: &[u8]) -> Result<(), Failure>
-    /// Passes a text only if `read_tags` accepts its lines `#: ..`. A failure that names a fault of these lines names
-    /// the one that `read_tags` refuses them for.
-    ensures tagged { OnOk result (IsOk (tags_of text.now)) }
-    ensures fault { IfErr result (ExplainsGroups text.now) }
-{
-    if MOST_BYTES < text.len() {
-        return Err(Failure::Own(Refused::Other));
-    }
+/// Reads the groups in the lines `#: ..` of what is found, and fails with the first fault.
+pub fn need_groups(alloc: Global, text: &[u8]) -> Result<(), Failure> {
     match read_tags(alloc, text) {
         Ok(_groups) => Ok(()),
         Err(fault) => Err(failure_of(fault.kind, Refused::Text(fault))),

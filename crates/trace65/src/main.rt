@@ -21,7 +21,9 @@ mod unshown;
 
 use calls::lines_of;
 use failure::Failure;
-use files65::{Output, end, information_of, obey, read_information, tags_of, write_text};
+use files65::{
+    Output, end, information_of, keep_named, obey, read_information, tags_of, write_text,
+};
 use info65::{Info, Options, Tag};
 use information::{image, information};
 use map65::{Image, Map};
@@ -107,6 +109,8 @@ fn text_of(
 fn traced_text(rt: &HostRuntime, tracing: &Tracing) -> Result<Vec<u8>, Failure> {
     let options = &tracing.options;
     let read = Read::of(rt, options, read_information(rt, options.info.as_deref())?)?;
+    // The text may be added to the information file itself.
+    keep_named(rt, tracing.output.as_deref(), &read.info)?;
     let image = image(rt, &read.info)?;
     text_of(rt, tracing, &read, &image)
 }

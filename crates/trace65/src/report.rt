@@ -4,7 +4,7 @@ ghost use Rattle.std.specs.Prelude.{◌≡◌, ◌++◌, ℕ, List, IfOk, Ok, On
 ghost use Rattle.info65.specs.Words.{Adds, InfoView, OptionsView, information};
 ghost use Rattle.map65.specs.Words.{is_marked};
 ghost use Rattle.reach65.specs.Words.{AreInOrder, HaveAllFree, LieIn};
-ghost use Rattle.trace65.specs.Words.{AreFindings, AreSkips, Begins, HasGroups, HaveTheRest, IsAccepted, IsReadBack, IsWritten, after_file, flow_of, proposals, proposed_ranges, unshown_lines};
+ghost use Rattle.trace65.specs.Words.{AreFindings, AreSkips, Begins, HaveTheRest, IsAccepted, IsReadBack, IsWritten, after_file, flow_of, proposals, proposed_ranges, unshown_lines};
 
 use crate::advice::{Advice, Reach, followed, given_entries};
 use crate::check::{need_groups, read_back};
@@ -13,10 +13,10 @@ use crate::request::Tracing;
 use crate::skips::skips_of;
 use crate::text::text_of;
 use crate::unshown::{put_unshown, unshown_of};
+use bytes65::pieces::Pieces;
+use entries65::growth::Followed;
 use info65::{Info, InfoFault, InfoFaultKind, MOST_BYTES, Options, RangeSpec, Tag, accepts_files};
 use map65::{Map, Marks};
-use reach65::rules::bytes::pieces::Pieces;
-use reach65::rules::entries::growth::Followed;
 use reach65::{Steps, code_of, ranges_of, reached, taken_of};
 use std::alloc::{AllocError, Global};
 
@@ -277,9 +277,6 @@ pub fn report_of(
     /// the addresses that the comments `# no item of its own: ..` name. They name exactly those, in order
     /// (`shown`).
     ensures accepted { IfOk result (IsAccepted tracing.now.options file.now map.now) }
-    /// The groups in the lines `#: ..` of the information file, followed by everything that is added to it, are read
-    /// by `read_tags` without a fault.
-    ensures tagged { IfOk result (HasGroups file.now) }
     /// What is written is the information file, if `--whole` asks for it, then what is found, and then these
     /// comments.
     ensures written { IfOk result (IsWritten tracing.now.whole file.now) }
@@ -287,7 +284,8 @@ pub fn report_of(
     let steps = Steps::of(alloc, map, file.tags)?;
     let found = find(alloc, &steps, tracing)?;
     let (unshown, text) = unshown_with(&tracing.options, file, &steps, &found)?;
-    need_groups(alloc, &text)?;
+    // Those of the file have been read.
+    need_groups(alloc, text.get(file.bytes.len()..).unwrap_or(&text))?;
     let text = written(alloc, tracing.whole, file, text)?;
     Ok(Report {
         found,

@@ -13,7 +13,7 @@ mod unreached;
 
 use crate::advice::Advice;
 use info65::RangeSpec;
-use reach65::rules::image::bytes_at;
+use reach65::image::bytes_at;
 use std::alloc::AllocError;
 
 /// The text, and what it is about.

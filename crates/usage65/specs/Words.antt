@@ -3,7 +3,7 @@ pub use Rattle.usage65.specs.Addresses.{addresses_given, addresses_in, parts_of}
 unfoldable pub use Rattle.usage65.specs.Addresses.{addresses_between}
 pub use Rattle.usage65.specs.Choices.{ChoiceView, ProgramView}
 pub use Rattle.usage65.specs.Code.Names.{asked_of, names_seen, text_seen, texts_seen}
-pub use Rattle.usage65.specs.Code.Rows.{HasRule, choice_of, cpu_choice, help_choice, info_choice, output_choice, program_of, row_of, start_choice, version_choice}
+pub use Rattle.usage65.specs.Code.Rows.{HasRule, choice_of, program_of, row_of}
 pub use Rattle.usage65.specs.Command.{rule_for, with_choices}
 unfoldable pub use Rattle.usage65.specs.Command.{command_of}
 pub use Rattle.usage65.specs.FileNames.{info_named, input_named, is_name, is_taken, output_named}

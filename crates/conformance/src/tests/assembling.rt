@@ -1,5 +1,4 @@
-//! What texts assemble to. Proofs compute the bytes and the faults of further small texts, in
-//! `MeaningRows` and `TextRows` of `stmt65`.
+//! What texts assemble to. Most small texts are rows of `text_rows`.
 
 use crate::tests::asserts::{assert_equal, assert_equal_at};
 use std::alloc::{AllocError, AllocGlobal, Global};
@@ -55,7 +54,15 @@ const CPUS: &[(&str, &str)] = &[
         "jmp foo\n.setcpu \"z80\"\nfoo: stx $12,x",
         " line 2: unknown CPU",
     ),
+    // carriage returns
     (".word $1234\nnop\r\n", " line 2: syntax error"),
+    ("nop\r", " line 1: syntax error"),
+    ("\r", " line 1: syntax error"),
+    // strings of other bytes
+    (".byte \"a\tb\"", " line 1: syntax error"),
+    (".byte \"a\u{80}\"", " line 1: syntax error"),
+    // lines without bytes
+    ("\n \t \n ; lda $12 \" \r\u{80}\nLoop:\nwai:", ""),
 ];
 
 #[test]

@@ -1,7 +1,6 @@
-//! Public functions that need no memory but what they are given, each called once. Proofs hold what they return to
-//! worked values, in the files `Rows` of their crates.
+//! Public functions that need no memory but what they are given.
 
-use crate::tests::asserts::{assert_equal, assert_that};
+use crate::tests::asserts::{assert_equal, assert_equal_at, assert_that, assert_that_at};
 use isa65::{Cpu, DecodeTable, EncodeTable, Mnemonic, Mode, Op, OpcodeSet};
 use stmt65::{Column, Columns, LabelBreak, Level, LimitError, Line, Remarks, Statement, put_line};
 use text65::{
@@ -43,19 +42,76 @@ fn texts(rt: HostRuntime) {
     let found = first_line(b" rts\r\n\nx");
     let want: (&[u8], &[u8]) = (b" rts\r", b"\nx");
     assert_equal(&rt, &found, &Some(want));
-    assert_that(&rt, has_name_form(b"_1") && !has_name_form(b"1_"));
-    assert_that(&rt, is_reserved_word(b"SMB7") && !is_reserved_word(b"smb8"));
-    assert_that(&rt, are_word_bytes(b"1aZ_") && is_word_byte(b'_'));
-    assert_that(&rt, is_blank(b'\t') && !is_blank(b'\n'));
-    assert_equal(&rt, &hex_digit(10), &b'A');
+    assert_that(&rt, are_word_bytes(b"1aZ_"));
+}
+
+/// Texts, their first lines and what follows these.
+const FIRST_LINES: &[(&[u8], &[u8], &[u8])] = &[
+    (b"a\n\nb", b"a", b"\nb"),
+    (b"\nb", b"", b"b"),
+    (b"b", b"b", b""),
+    (b"a\r\n", b"a\r", b""),
+    (b"\n", b"", b""),
+];
+
+#[test]
+fn first_lines(rt: HostRuntime) {
+    assert_that(&rt, first_line(b"").is_none());
+    for (text, line, rest) in FIRST_LINES {
+        assert_equal(&rt, &first_line(text), &Some((*line, *rest)));
+    }
+}
+
+const LETTERS: &[u8] = b"ABCDEFGHIJKLMNOPQRSTUVWXYZ_abcdefghijklmnopqrstuvwxyz";
+
+const DIGITS: &[u8] = b"0123456789ABCDEF";
+
+#[test]
+fn bytes_of_words(rt: HostRuntime) {
+    for byte in 0..=255u8 {
+        let word = [byte];
+        let is_letter = LETTERS.contains(&byte);
+        assert_equal_at(&rt, &has_name_form(&word), &is_letter, &byte);
+        let is_digit = b"0123456789".contains(&byte);
+        assert_equal_at(&rt, &is_word_byte(byte), &(is_letter || is_digit), &byte);
+        assert_equal_at(&rt, &is_blank(byte), &b"\t ".contains(&byte), &byte);
+        let is_register = b"AFSXYZafsxyz".contains(&byte);
+        assert_equal_at(&rt, &is_reserved_word(&word), &is_register, &byte);
+    }
+}
+
+#[test]
+fn forms_of_words(rt: HostRuntime) {
+    let mut name = "abcdefghijklmnopqrst"
+        .repeat(rt.alloc(), 4)
+        .expect(&rt, "repeat");
+    assert_that(&rt, has_name_form(name.as_bytes()));
+    name.push('u').expect(&rt, "push");
+    assert_that(&rt, !has_name_form(name.as_bytes()));
+    for name in ["_1", "lda"] {
+        assert_that_at(&rt, has_name_form(name.as_bytes()), &name);
+    }
+    for name in ["", "1a", "a.b", "a b"] {
+        assert_that_at(&rt, !has_name_form(name.as_bytes()), &name);
+    }
+    for word in ["lda", "Jmp", "SMB7", "bbr0"] {
+        assert_that_at(&rt, is_reserved_word(word.as_bytes()), &word);
+    }
+    for word in ["", "ax", "wai", "stp", "bbr8", "lda_", "bbr00"] {
+        assert_that_at(&rt, !is_reserved_word(word.as_bytes()), &word);
+    }
 }
 
 #[test]
 fn digits(rt: HostRuntime) {
     let mut out = Vec::new(rt.alloc());
-    put_address(&mut out, b"$", 0x10FFA).expect(&rt, "room");
+    put_address(&mut out, b"$", 0x10AF9).expect(&rt, "room");
     put_decimal(&mut out, b", ", 1020).expect(&rt, "room");
-    assert_equal(&rt, &out.as_slice(), &b"$0FFA, 1020".as_slice());
+    assert_equal(&rt, &out.as_slice(), &b"$0AF9, 1020".as_slice());
+    for value in 0..16u8 {
+        let want = DIGITS.get(usize::from(value)).copied();
+        assert_equal(&rt, &Some(hex_digit(value)), &want);
+    }
 }
 
 #[test]

@@ -1,5 +1,4 @@
-// Include files, by themselves and in runs. Proofs compute what small files say, in
-// `IncludeRows` of `info65` and of `da65`.
+// Include files, by themselves and in runs. `tests/rows/da65.txt` has what small files say.
 ghost use Rattle.std.specs.Prelude.{IfOk};
 ghost use Rattle.info65.specs.Words.{AreNames};
 

@@ -1,5 +1,4 @@
-//! A map: what it says of all addresses, as text. Proofs compute what those of small images say, in
-//! `ItemRows` and `NameRows` of `map65`.
+//! A map: what it says of all addresses, as text. `tests/rows/da65.txt` has the listings of small images.
 
 use crate::tests::asserts::assert_equal;
 use crate::tests::inputs::info_of;
@@ -26,8 +25,8 @@ fn put_map(out: &mut String, map: &Map<'_>) -> Result<(), AllocError> {
     Ok(())
 }
 
-/// `jmp $2000`, a skipped byte, a word with a name, a character, and a name after the image. A cell has the role, 16
-/// times the length, and 128 for a name.
+/// `jmp $2000`, a skipped byte, a word with a name, a character, a byte of each other table, and a name after the
+/// image. A cell has the role, 16 times the length, and 128 for a name.
 const SAID: &str = "1000 Some(Code) 3 49
 1001 Some(Code) 0 1
 1002 Some(Code) 0 1
@@ -35,6 +34,11 @@ const SAID: &str = "1000 Some(Code) 3 49
 1004 Some(WordTable) 2 163 Label word+0
 1005 Some(WordTable) 0 3
 1006 Some(TextTable) 1 23
+1007 Some(ByteTable) 1 18
+1008 Some(DbyteTable) 1 20
+1009 Some(AddrTable) 1 21
+100A Some(RtsTable) 1 22
+100B Some(DwordTable) 1 25
 2000 None 0 128 Constant L2000+0
 FFFE None 0 128 Constant last+0
 FFFF None 0 128 Constant last+1
@@ -45,9 +49,14 @@ fn a_small_image(rt: HostRuntime) {
     let info = info_of(
         &rt,
         b"RANGE { START $1003; SIZE 1; TYPE SKIP; }; RANGE { START $1004; SIZE 2; TYPE WORDTABLE; NAME \"word\"; };
-        RANGE { START $1006; SIZE 1; TYPE TEXTTABLE; }; LABEL { ADDR $FFFE; NAME \"last\"; SIZE 2; };",
+        RANGE { START $1006; SIZE 1; TYPE TEXTTABLE; }; RANGE { START $1007; SIZE 1; TYPE BYTETABLE; };
+        RANGE { START $1008; SIZE 1; TYPE DBYTETABLE; }; RANGE { START $1009; SIZE 1; TYPE ADDRTABLE; };
+        RANGE { START $100A; SIZE 1; TYPE RTSTABLE; }; RANGE { START $100B; SIZE 1; TYPE DWORDTABLE; }; LABEL { ADDR $FFFE; NAME \"last\"; SIZE 2; };",
     );
-    let bytes = Vec::from_slice(rt.alloc(), &[0x4C, 0, 0x20, 0xFF, 0x34, 0x12, 0x41]);
+    let bytes = Vec::from_slice(
+        rt.alloc(),
+        &[0x4C, 0, 0x20, 0xFF, 0x34, 0x12, 0x41, 1, 2, 3, 4, 5],
+    );
     let bytes = bytes.expect(&rt, "from_slice");
     let image = Image::from_bytes(Some(0x1000), None, bytes).expect(&rt, "from_bytes");
     let map = Map::build(rt.alloc(), &info, &image).expect(&rt, "build");

@@ -15,6 +15,7 @@ use da65::{Options, RunFault, Status, Told};
 use info65::{Inclusion, Info, InfoFault, NamePool, read_include, read_info};
 use map65::read_image;
 use std::alloc::{AllocGlobal, Global};
+use std::collections::BTreeMap;
 use std::process::Abort;
 
 /// What a run gives: its result, the messages and the listing.
@@ -225,6 +226,14 @@ fn address_table(is_empty: bool) -> u64 {
     if is_empty { 0 } else { 65_536 }
 }
 
+/// A run keeps the names of the segments that it enters. Those of these rows have room where the first one is put.
+fn keep_a_name<'h>(heap: &'h Refusing<Global>, info: &Info<&'h Refusing<Global>>) {
+    let mut names: BTreeMap<&[u8], (), &'h Refusing<Global>> = BTreeMap::new(heap);
+    if !info.segments().is_empty() {
+        let _ = names.insert(b"CODE".as_slice(), ());
+    }
+}
+
 /// Calls the parts of a run one after the other, up to the first that refuses, and looks at what each is granted.
 fn call_parts(rt: &impl Abort, heap: &Refusing<Global>, options: &Options, given: &Given<'_>) {
     let slots = name_slots(given.info.len());
@@ -269,6 +278,7 @@ fn call_parts(rt: &impl Abort, heap: &Refusing<Global>, options: &Options, given
     assert_granted(rt, heap, before, image_bytes(given.input.len()), 0);
     if let Ok(image) = read {
         assert_one_allocation(rt, heap, &info, &image);
+        keep_a_name(heap, &info);
     }
 }
 

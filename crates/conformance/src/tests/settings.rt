@@ -1,4 +1,4 @@
-// Runs with options and an information file. Proofs compute further refusals, in `RefusedRows` of `info65`.
+// Runs with options and an information file. `tests/rows/da65.txt` has further refusals.
 use crate::tests::worked::show;
 
 const ROWS: &str = r#"

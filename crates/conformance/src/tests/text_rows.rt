@@ -6,14 +6,14 @@ use crate::tests::command_lines::options_on;
 use crate::tests::include_files::put_names;
 use crate::tests::inputs::info_of;
 use crate::tests::needed_files::needed;
-use crate::tests::worked::words_of;
+use crate::tests::worked::{hex, words_of};
 use info65::{Info, InfoFault, Options, read_include, read_info};
 use std::alloc::{AllocGlobal, Global};
 use std::process::Abort;
 use stmt65::assemble;
 
-/// Texts from $1000 on, or from the address before a text, with `/` for a line feed. They are followed by their bytes,
-/// or by their fault.
+/// Texts from $1000 on, or from the address after an `@`, with `/` for a line feed. They are followed by their bytes,
+/// or by their fault; texts with ` | ` between them have the same.
 const ASSEMBLED: &str = r#"
 sizes_of_operands: lda $12/lda a:$12/sta $12,y/ => A5 12 AD 12 00 99 12 00
 later_name_is_absolute: lda v/v := $12/ => AD 12 00
@@ -33,20 +33,66 @@ bit_branch_of_the_65sc02: .setcpu "65SC02"/bbr0 $12,$1003/ => line 2: no such fo
 double_words: .dword $12345678,1/ => 78 56 34 12 01 00 00 00
 nine_digits: .dword $123456789/ => line 1: syntax error
 thirty_three_bits: .dword 4294967296/ => line 1: value out of range
+mnemonics_in_any_case: .setcpu "65C02"/adc #1/TYA/Rmb7 $12/sMB7 $12 => 69 01 98 77 12 F7 12
+words_of_no_mnemonic: ad | adcc | rmb8 $12 | wai | stp => line 1: syntax error
+cpus_in_any_case: .setcpu "65sc02"/phx | .setcpu "65Sc02"/phx | .setcpu "65C02"/phx | .setcpu "65c02"/phx => DA
+first_cpu_set_again: .setcpu "6502"/phx => line 2: no such form
+texts_of_no_cpu: .setcpu "65CE02" | .setcpu "6809" | .setcpu "" | .SetCpu "6809 " => line 1: unknown CPU
+each_mode: .setcpu "65C02"/nop/asl a/lda #1/lda 2/lda 3,x/ldx 4,y/lda $1234/lda $1234,x/lda $1234,y/jmp ($1234)/lda (5,x)/lda (6),y/lda (7)/jmp ($1234,x)/bne $1021/bbr0 8,$1021 => EA 0A A9 01 A5 02 B5 03 B6 04 AD 34 12 BD 34 12 B9 34 12 6C 34 12 A1 05 B1 06 B2 07 7C 34 12 D0 00 0F 08 FD
+sizes_of_lda: lda $12/lda a:$12/lda $12,x/lda a:$12,x/lda $12,y => A5 12 AD 12 00 B5 12 BD 12 00 B9 12 00
+sizes_of_ldx_and_stx: ldx $12/ldx a:$12/ldx $12,y/ldx a:$12,y/stx $12/stx a:$12/stx $12,y => A6 12 AE 12 00 B6 12 BE 12 00 86 12 8E 12 00 96 12
+size_of_jmp: jmp $12 => 4C 12 00
+sizes_of_stz: .setcpu "65SC02"/stz $12/stz a:$12/stz $12,x/stz a:$12,x => 64 12 9C 12 00 74 12 9E 12 00
+size_of_a_bit_instruction: .setcpu "65C02"/rmb7 $112 => line 2: value out of range
+labels: Loop : nop ; wait/_1:.CODE/.addr Loop,_1 => EA 00 10 01 10
+definitions: v:=$fF/ w := 010/x1 := * + $10/y1:=*+1/.word v,w,x1,y1 => FF 00 0A 00 10 10 01 10
+no_operand_and_the_accumulator: RTS/aSl A => 60 0A
+forms_that_are_none: asl | bne a:$1000 => line 1: no such form
+values_of_bytes: lda # $01/name := $12/lda#name => A9 01 A9 12
+values_of_addresses: Name: lda Name/name := $0203/lda name + 2/lda name-1/lda name + $0A - 1/lda A:name,X/lda a : 5 , y => AD 00 10 AD 05 02 AD 02 02 AD 0C 02 BD 03 02 B9 05 00
+numbers_out_of_range: lda $12345678 | lda 99999999999999999999 => line 1: value out of range
+parentheses_and_two_operands: .setcpu "65C02"/name: jmp (name)/lda ($12,X)/lda ($12),Y/bbr0 $12,name+1 => 6C 00 10 A1 12 B1 12 0F 12 F7
+bytes_and_strings: .byte ""/.Byte 1,"aB; ,'" , $FF => 01 61 42 3B 20 2C 27 FF
+words: name := $1235/v := 2/.word name-1,$FFFF/.dbyt 1, 2/.dWord $ffffffff, v+1-1/.ADDR name+1 => 34 12 FF FF 00 01 00 02 FF FF FF FF 02 00 00 00 36 12
+reserved_name_of_a_segment: .segment "lda"/nop => EA
+no_less_than_one: lda name-$1 | lda name-01 | lda name-2 | lda name-1+1 | lda 5-1 | lda 5+1 | lda name+name => line 1: syntax error
+no_data: .byte | .word ; | .dbyt | .addr | .byte 1, | .byte ,1 | .byte name | .word "ab" | .dword | .res 1 | .code 1 => line 1: syntax error
+no_strings: .byte "ab => line 1: syntax error
+no_names_of_segments: .segment "" | .segment "1a" | .segment "a.b" | .segment code | .setcpu 6502 => line 1: syntax error
+no_place_of_a_size: bbr0 a:$12,name | lda a:($12),y | lda a: | lda #a:5 | lda ($12),x | lda ($12,y) | lda ($12 | lda $12,z => line 1: syntax error
+no_names: A: | z := 1 | lda s | LdA: | rmb7: | Wai2: .dword | .name: => line 1: syntax error
+no_place_and_no_constant: bne *+5 | jmp * | .word * | .byte * | lda #* | v := name | v := * | v := * - 1 | v : = 1 | v := 1 2 | label: v := 1 | label: label: nop => line 1: syntax error
+no_numbers: lda $ | lda $G | lda $123456789 | lda 12ab | frob | frob $12 | nop nop | 12 | "" => line 1: syntax error
+lines_of_repairs: lda #<$1234 | lda #%1 | foo = 1 => line 1: syntax error
+label_in_the_zero_page: @0012 foo: lda foo/stx foo,y => line 2: value out of range
+label_of_a_faulty_form: jmp foo/foo: asl => line 2: no such form
+branches_to_the_limits: bne $0F82/bne $1083/bne $1004 => D0 80 D0 7F D0 FE
+label_past_the_last_byte: @FFFF nop/foo: => line 2: value out of range
+less_than_nothing: foo := 0/lda foo-1 => line 2: value out of range
+one_less: foo := 1/lda foo-1/.word foo+1-1 => A5 00 01 00
+size_of_less_than_nothing: @FFFB foo := 0/.addr bar/lda foo-1/bar: => line 3: value out of range
+size_below_an_unknown_cpu: @FFFC .addr bar/.setcpu "65C02"/.setcpu "6809"/smb0 $12/bar: => line 1: value out of range
+first_of_two_definitions: lda #foo/foo := $100/foo := 1 => line 1: value out of range
+data_and_lines_without_bytes: .byte 1,"AB",""/.code/.segment "foo"/.dbyt $1234/.addr $1234/foo := * + 2/.word foo,$FFFF => 01 41 42 12 34 34 12 09 10 FF FF
+words_of_seventeen_bits: .word $FFFF/.word $10000 | .dbyt $FFFF/.dbyt $10000 | .addr $FFFF/.addr $10000 => line 2: value out of range
+byte_of_nine_bits: .byte $100 => line 1: value out of range
+numbers_in_each_order: .byte $01,"AB"/.word $1234/.ADDR 4660/.dbyt $1234/.dword $12345678 => 01 41 42 34 12 34 12 12 34 78 56 34 12
 "#;
 
 #[test]
 fn texts_assemble_as_rows_say(rt: HostRuntime) {
     for row in ASSEMBLED.lines().skip(1) {
         let (name, row) = row.split_once(": ").expect(&rt, "name");
-        let (text, want) = row.split_once(" =>").expect(&rt, "answer");
-        let (start, text) = match text.strip_prefix("@FFFF ") {
-            Some(text) => (0xFFFF, text),
-            None => (0x1000, text),
+        let (texts, want) = row.split_once(" =>").expect(&rt, "answer");
+        let (start, texts) = match texts.strip_prefix("@") {
+            Some(texts) => texts.split_once(" ").expect(&rt, "start"),
+            None => ("1000", texts),
         };
-        let text = text.replace(rt.alloc(), "/", "\n").expect(&rt, "replace");
-        let found = shown(&rt, assemble(rt.alloc(), text.as_bytes(), start));
-        assert_equal_at(&rt, &found.as_str(), &want, &name);
+        for text in texts.split(" | ") {
+            let text = text.replace(rt.alloc(), "/", "\n").expect(&rt, "replace");
+            let found = shown(&rt, assemble(rt.alloc(), text.as_bytes(), hex(&rt, start)));
+            assert_equal_at(&rt, &found.as_str(), &want, &name);
+        }
     }
 }
 

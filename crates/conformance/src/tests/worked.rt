@@ -16,7 +16,7 @@ use std::alloc::{AllocError, AllocGlobal, Global};
 use std::process::Abort;
 
 /// A number in hexadecimal digits.
-fn hex(rt: &impl Abort, digits: &str) -> u16 {
+pub fn hex(rt: &impl Abort, digits: &str) -> u16 {
     u16::from_str_radix(digits, 16).expect(rt, "from_str_radix")
 }
 

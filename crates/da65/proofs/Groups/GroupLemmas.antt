@@ -130,7 +130,7 @@ begins-inside m k low some = begins-index m k ∙ and_right _ _ (and_right _ _ (
 
 -- ---- the groups that are left
 
-groups-step : (m : MapView) (k : ℕ) → k < length m.image.bytes → groups_from m k ≡ (if begins m (m.image.start + k) then (m.image.start + k) ∷ groups_from m (k + 1) else groups_from m (k + 1))
+pub groups-step : (m : MapView) (k : ℕ) → k < length m.image.bytes → groups_from m k ≡ (if begins m (m.image.start + k) then (m.image.start + k) ∷ groups_from m (k + 1) else groups_from m (k + 1))
 unfolding groups_from addresses
 groups-step m k low = grind arith
 

@@ -5,7 +5,7 @@ use Rattle.std.proofs.lemmas.Slice.Eq.{bytes_eq-Decides}
 use Rattle.map65.specs.Words.{AreOneRun, MapView, is_in_run, is_skip, role_of, segment_at}
 use Rattle.map65.proofs.Public.{in-run, joined-run, run_law}
 use Rattle.da65.specs.Words.{IsGroupStart, begins, group_len, is_same_segment, segment_before, stride_at}
-use Rattle.da65.proofs.Groups.GroupLemmas.{begins-inside, begins-skip, begins-true, group-fits, group-some, holder, left-within, stride-group, stride-skip}
+use Rattle.da65.proofs.Groups.GroupLemmas.{begins-inside, begins-skip, begins-true, group-fits, holder, left-within, stride-group, stride-skip}
 use Rattle.da65.proofs.Groups.InsideLemmas.{group-piece}
 use Rattle.info65.specs.Words.{segment_covering}
 
@@ -39,14 +39,7 @@ segment-inside m k (suc n) start low =
     ∙ segment-kept m i (begins-inside m i (omega (arith, low, fits)) (left-within (stride_at m) m.image.start k i start.place.group (omega arith) (omega (arith, low, stride))))
     ∙ segment-inside m k n start (omega (arith, low))
 
--- after a group
-pub segment-next : (m : MapView) (k : ℕ) → IsGroupStart m k → segment_before m (k + group_len m (m.image.start + k)) ≡ segment_at m (m.image.start + k)
-segment-next m k start =
-    let some = group-some m k start.place start.inside start.shown in
-    let place : k + group_len m (m.image.start + k) ≡ k + suc (group_len m (m.image.start + k) - 1) = omega (arith, some) in
-    ap (segment_before m) place ∙ segment-inside m k (group_len m (m.image.start + k) - 1) start (omega (arith, some))
-
--- after any byte of one
+-- after any byte of a group
 pub segment-after : (m : MapView) (k : ℕ) → k < length m.image.bytes → is_skip (role_of m.info (m.image.start + k)) ≡ false → segment_before m (k + 1) ≡ segment_at m (m.image.start + k)
 segment-after m k low shown =
     let held = holder m k low in
@@ -64,17 +57,20 @@ segment-after m k low shown =
     ap (segment_before m) after ∙ segment-inside m p (k - p) group (omega (arith, within, held.low))
     ∙ sym ((run_law m).segment (m.image.start + p) (m.image.start + k) (m.image.start + k) one (omega (arith, held.low)) (omega arith))
 
--- the group before one that goes on with its run has the same segment
-pub segment-run : (m : MapView) (k : ℕ) → IsGroupStart m k → is_in_run m (m.image.start + k) ≡ true → segment_before m k ≡ segment_at m (m.image.start + k)
-segment-run m k start run =
+-- the group before a byte that goes on with its run has the same segment
+pub segment-in-run : (m : MapView) (k : ℕ) → k < length m.image.bytes → is_skip (role_of m.info (m.image.start + k)) ≡ false → is_in_run m (m.image.start + k) ≡ true → segment_before m k ≡ segment_at m (m.image.start + k)
+segment-in-run m k low shown run =
     let a : ℕ = m.image.start + k in
     let here = in-run m a run in
     let i : ℕ = k - 1 in
     let last : a - 1 ≡ m.image.start + i = omega (arith, here.low) in
     let after : k ≡ i + 1 = omega (arith, here.low) in
-    let shown : is_skip (role_of m.info (m.image.start + i)) ≡ false = ap (λ (x : ℕ). is_skip (role_of m.info x)) (sym last) ∙ ap is_skip here.same ∙ start.shown in
+    let shown : is_skip (role_of m.info (m.image.start + i)) ≡ false = ap (λ (x : ℕ). is_skip (role_of m.info x)) (sym last) ∙ ap is_skip here.same ∙ shown in
     let one : AreOneRun m (m.image.start + i) a = λ x above upto. let same : x ≡ a = omega (arith, above, upto, last) in ap (is_in_run m) same ∙ run in
-    ap (segment_before m) after ∙ segment-after m i (omega (arith, start.inside)) shown ∙ sym ((run_law m).segment (m.image.start + i) a a one (omega (arith, after)) (omega arith))
+    ap (segment_before m) after ∙ segment-after m i (omega (arith, low)) shown ∙ sym ((run_law m).segment (m.image.start + i) a a one (omega (arith, after)) (omega arith))
+
+pub segment-run : (m : MapView) (k : ℕ) → IsGroupStart m k → is_in_run m (m.image.start + k) ≡ true → segment_before m k ≡ segment_at m (m.image.start + k)
+segment-run m k start run = segment-in-run m k start.inside start.shown run
 
 -- where each address is of the default
 pub segment-none : (m : MapView) (k : ℕ) → ((a : ℕ) → segment_at m a ≡ None) → segment_before m k ≡ None

@@ -1,9 +1,9 @@
 -- What an item of code is written as, and the laws of reassembly.
-use Rattle.std.proofs.Common.{◌≡◌, ◌∙◌, ℕ, false, List, length, Option, Some, None, ap, refl, sym, arith}
+use Rattle.std.proofs.Common.{◌≡◌, ◌∙◌, ℕ, false, List, length, Option, Some, None, ap, sym, arith}
 use Rattle.std.specs.Prelude.{is_some}
 use Rattle.std.proofs.lemmas.List.{take_all}
 use Rattle.isa65.specs.Words.{Table, len_of}
-use Rattle.da65.specs.Words.{AddressNames, Op, TargetIsInRange, UnwrittenIsBytes, WrittenIsInstruction, bytes_statement, instruction_in, is_forced, operands_of, statement_in, statement_of, written}
+use Rattle.da65.specs.Words.{AddressNames, Op, TargetIsInRange, UnwrittenIsBytes, bytes_statement, instruction_in, is_forced, operands_of, statement_in, statement_of, written}
 use Rattle.stmt65.specs.Views as view
 use Rattle.stmt65.specs.Words.{OperandsView}
 use Rattle.da65.proofs.Statements.FragmentLaws.{target_is}
@@ -30,10 +30,6 @@ unfolding statement_in
 as-instruction n t a bytes op os some is = ap (written t op bytes) is ∙ sym (ap (statement_of n t a bytes) some)
 
 -- ---- the laws
-
-pub written_is_instruction : WrittenIsInstruction
-unfolding statement_in
-written_is_instruction m t a bytes op os h = rw (h.begins, h.has) refl
 
 pub unwritten_is_bytes : UnwrittenIsBytes
 unfolding statement_in

@@ -29,7 +29,7 @@ fn segment_at<'a, A: Allocator>(listed: &ListedImage<'a, A>, address: u16) -> Op
 }
 
 /// Whether both are the default, or both have one name.
-fn is_same_segment(one: Option<&[u8]>, other: Option<&[u8]>) -> bool
+pub(crate) fn is_same_segment(one: Option<&[u8]>, other: Option<&[u8]>) -> bool
     ensures { result ≡ is_same_segment (option_copied one.entry) (option_copied other.entry) }
 {
     match (one, other) {

@@ -13,7 +13,7 @@ use crate::runs::preparing::{Stop, prepare};
 use crate::runs::segment_reentry::is_entered_again;
 use info65::{Info, InfoFault, Options, read_info};
 use map65::{ImageFault, Map, Sink, Source, read_image, write_whole};
-use std::alloc::Allocator;
+use std::alloc::{AllocError, Allocator};
 
 /// Writes the messages of a run that ends with this status.
 fn tell<M: Sink>(msgs: &mut M, messages: &[u8], status: Status) -> Result<Status, RunFault>
@@ -45,10 +45,10 @@ fn refuse_image<M: Sink>(msgs: &mut M, fault: ImageFault) -> Result<Status, RunF
 }
 
 /// The warnings that apply to the listing of an image.
-fn warnings_of<A: Allocator>(map: &Map<'_, A>) -> Message
-    ensures { result.items ≡ warnings map.now }
+fn warnings_of<A: Allocator + Copy>(alloc: A, map: &Map<'_, A>) -> Result<Message, AllocError>
+    ensures { IfOk result (λ w. w.items ≡ warnings map.now) }
 {
-    warnings(has_skipped(map), is_entered_again(map))
+    Ok(warnings(has_skipped(map), is_entered_again(alloc, map)?))
 }
 
 /// Writes the listing of an image and then its warnings. Allocates nothing.
@@ -105,7 +105,9 @@ fn list_input<A: Allocator + Copy, R: Source, W: Sink, M: Sink>(
         Ok(map) => map,
         Err(_) => return Err(RunFault::Memory),
     };
-    let warnings = warnings_of(&map);
+    let Ok(warnings) = warnings_of(alloc, &map) else {
+        return Err(RunFault::Memory);
+    };
     write_listing(&map, warnings.as_slice(), out, msgs)
 }
 

@@ -1,129 +1,92 @@
 //! Whether a segment is entered again.
 
-ghost use Rattle.std.specs.Prelude.{◌≡◌, true, false};
-ghost use Rattle.std.specs.Bool.{OnFalse};
-ghost use Rattle.da65.specs.Words.{HasHadToo, IsAfter, IsKeyed, IsKeyedAt, IsNew, has_had, is_back, is_entered_again};
-ghost use Rattle.map65.specs.Words.{is_in_run, segment_at};
+ghost use Rattle.std.specs.Prelude.{◌≡◌, ℕ, List, IfOk, None, OnOk, false};
+ghost use Rattle.std.specs.Option.{option_copied};
+ghost use Rattle.da65.specs.Words.{HasNameToo, IsAfter, has_had, has_name, is_entered_again, segment_name};
 
-use crate::listing::grouping::{group_len, is_skipped};
-use crate::runs::key_set::KeySet;
+use crate::listing::grouping::is_skipped;
+use crate::listing::heading_lines::is_same_segment;
 use map65::Map;
-use std::alloc::Allocator;
+use std::alloc::{AllocError, Allocator};
+use std::collections::BTreeMap;
 
-/// The segments of the groups so far, each by the key of its name.
-#[derive(Drop)]
-struct Entered {
-    /// The segment of the last group. The default has no key.
-    last: Option<u16>,
-    /// The segments of the groups.
-    keys: KeySet,
-    /// Whether a group had the default while no segment is named CODE, so that its name has no key.
-    default: bool,
-}
-
-/// The key of the segment of an address. The default has none.
-#[tactic(auto, using(crate::proofs::Reentry::ReentryLemmas::keyed_map))]
-fn segment_key<A: Allocator>(map: &Map<'_, A>, address: u16) -> Option<u16>
-    ensures { IsKeyed map.now.info.segments (segment_at map.now address) result }
+/// The name of a segment. The default counts as CODE.
+fn name_of(segment: Option<&[u8]>) -> &[u8]
+    ensures { result.now ≡ segment_name (option_copied segment.entry) }
 {
-    map.info().segment_key(address)
-}
-
-/// The key of the segment of a group's first byte: that of the group before, `last`, if both lie in one run,
-/// since a run has no segment border inside.
-fn key_after<A: Allocator>(map: &Map<'_, A>, address: u16, last: Option<u16>) -> Option<u16>
-    ensures run { is_in_run map.now address ≡ true → result ≡ last }
-    ensures first { is_in_run map.now address ≡ false → IsKeyedAt map.now address result }
-{
-    if map.is_in_run(address) {
-        last
-    } else {
-        segment_key(map, address)
+    match segment {
+        Some(name) => name,
+        None => b"CODE",
     }
 }
 
-impl Entered {
-    fn none() -> Self
-        ensures { IsNew result }
+/// The segments of the groups so far.
+#[derive(Drop)]
+struct Entered<'a, A: Allocator> {
+    /// The segment of the last group. Before the first it is the default.
+    last: Option<&'a [u8]>,
+    /// The names of the segments.
+    names: BTreeMap<&'a [u8], (), A>,
+}
+
+/// Adds a name. Returns whether it was there.
+#[tactic(auto, using(crate::proofs::Reentry::name_added))]
+fn add_name<'a, A: Allocator + Copy>(
+    names: &mut BTreeMap<&'a [u8], (), A>,
+    name: &'a [u8],
+) -> Result<bool, AllocError>
+    ensures old { IfOk result (λ is_old. is_old ≡ has_name names.old name.entry.now) }
+    ensures names { OnOk result (HasNameToo names.old names.new name.entry.now) }
+{
+    Ok(names.insert(name, ())?.is_some())
+}
+
+impl<'a, A: Allocator + Copy> Entered<'a, A> {
+    fn none(alloc: A) -> Self
+        ensures last { option_copied result.last ≡ None }
+        ensures names { (t : List ℕ) → has_had result t ≡ false }
     {
         Entered {
             last: None,
-            keys: KeySet::none(),
-            default: false,
+            names: BTreeMap::new(alloc),
         }
     }
 
-    /// Whether a group had a segment whose name has this key.
-    fn has_had(&self, name: Option<u16>) -> bool
-        ensures { result ≡ has_had self.now name }
+    /// Adds the segment of the next group. Returns whether a segment line leads back to it.
+    fn add(&mut self, segment: Option<&'a [u8]>) -> Result<bool, AllocError>
+        ensures { IfOk result (λ b. IsAfter self.old self.new (option_copied segment.entry) b) }
     {
-        match name {
-            Some(key) => self.keys.contains(key),
-            None => self.default,
-        }
-    }
-
-    /// Whether a segment line leads back to a segment that an earlier group had.
-    fn is_back(&self, segment: Option<u16>, name: Option<u16>) -> bool
-        ensures { result ≡ is_back self.now segment name }
-    {
-        self.last != segment && self.has_had(name)
-    }
-
-    /// Keeps the name of the segment of a group.
-    fn keep(&mut self, name: Option<u16>)
-        ensures last { self.new.last ≡ self.old.last }
-        ensures had { HasHadToo self.old self.new name }
-    {
-        match name {
-            Some(key) => self.keys.insert(key),
-            None => self.default = true,
-        }
-    }
-
-    /// Adds the segment of the next group, or returns true if a segment line leads back to it.
-    fn add(&mut self, segment: Option<u16>, name: Option<u16>) -> bool
-        ensures back { result ≡ is_back self.old segment name }
-        ensures after { OnFalse result (IsAfter self.old self.new segment name) }
-    {
-        if self.is_back(segment, name) {
-            return true;
-        }
-        self.keep(name);
+        let is_old = add_name(&mut self.names, name_of(segment))?;
+        let is_back = !is_same_segment(self.last, segment) && is_old;
         self.last = segment;
-        false
+        Ok(is_back)
     }
 }
 
 /// Whether a segment line of the listing leads to a segment that an earlier group had.
 ///
-/// The default counts as CODE. The names of the segments are compared by their keys, of which a set of a fixed
-/// size is kept, so this allocates nothing. The time grows as n + r log s with n groups, r runs and s segments.
-pub fn is_entered_again<A: Allocator>(map: &Map<'_, A>) -> bool
-    ensures { result ≡ is_entered_again map.now }
+/// A run has no segment border inside, so its first group decides. The time grows as n + r log s with n bytes, r runs
+/// and s segments. Only the names of the segments are kept.
+pub fn is_entered_again<A: Allocator + Copy>(alloc: A, map: &Map<'_, A>) -> Result<bool, AllocError>
+    ensures { IfOk result (λ is. is ≡ is_entered_again map.now) }
 {
-    let info = map.info();
-    if info.segments().is_empty() {
-        return false;
+    if map.info().segments().is_empty() {
+        return Ok(false);
     }
     let image = map.image();
-    let code = info.first_named(b"CODE");
     let start = image.start() as usize;
-    let count = image.bytes().len();
-    let mut entered = Entered::none();
-    let mut at = 0;
-    'groups: while at < count {
+    let mut entered = Entered::none(alloc);
+    for at in 0..image.bytes().len() {
         let address = (start + at) as u16;
+        if map.is_in_run(address) {
+            continue;
+        }
         if is_skipped(map, address) {
-            at += 1;
-        } else {
-            let segment = key_after(map, address, entered.last);
-            // The name by which a segment is compared with those of earlier groups: the default counts as CODE.
-            if entered.add(segment, segment.or(code)) {
-                return true;
-            }
-            at += group_len(map, address);
+            continue;
+        }
+        if entered.add(map.segment_at(address))? {
+            return Ok(true);
         }
     }
-    false
+    Ok(false)
 }

@@ -1,7 +1,7 @@
 //! What an information file says.
 
 ghost use Rattle.std.specs.Prelude.{◌≡◌, ◌<◌, IfErr, IfOk, Ok, length, option_copied, option_map};
-ghost use Rattle.info65.specs.Words.{AreAllFormed, AreFormed, AreInLimits, AreIncludes, AreNames, AreRanges, AreSegments, Gives, Includes, covering, first_named, given_seen, global_seen, groups_seen, includes_of, information, name_at, out_of_memory, segment_covering, segment_key, segments_of, segments_seen, settings_of, with_names};
+ghost use Rattle.info65.specs.Words.{AreAllFormed, AreFormed, AreInLimits, AreIncludes, AreNames, AreRanges, AreSegments, Gives, Includes, covering, given_seen, global_seen, groups_seen, includes_of, information, name_at, out_of_memory, segment_covering, segments_of, segments_seen, settings_of, with_names};
 
 use crate::fault::{InfoFault, InfoFaultKind};
 use crate::groups::include_groups::includes_of;
@@ -82,29 +82,6 @@ impl<A: Allocator> Info<A> {
         ensures sound { AreSegments self.now.segments }
     {
         self.segments.covering(address)
-    }
-
-    /// Where the first segment of a name begins, in the order of the groups. Two names have the same start
-    /// only if they are one name, since no two segments share an address, so it is a key of the name.
-    /// It takes a time that grows with the number of segments.
-    pub fn first_named(&self, name: &[u8]) -> Option<u16>
-        /// Returns where the first segment of a name begins, which is the key of the name.
-        ensures first { result ≡ first_named self.now.segments name.now }
-        /// As in `Info::segments`.
-        ensures sound { AreSegments self.now.segments }
-    {
-        self.segments.first_named(name)
-    }
-
-    /// The key of the name of the segment that contains an address, which is what [`Info::first_named`] returns
-    /// for that name. It takes a time that grows with the logarithm of the number of segments.
-    pub fn segment_key(&self, address: u16) -> Option<u16>
-        /// Returns the key of the name of the address's segment.
-        ensures key { result ≡ segment_key self.now.segments address }
-        /// As in `Info::segments`.
-        ensures sound { AreSegments self.now.segments }
-    {
-        self.segments.key(address)
     }
 
     /// The include files, in the order of their groups, 16 at most. A file that two groups name is there twice.

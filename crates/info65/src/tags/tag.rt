@@ -1,9 +1,5 @@
 //! Groups of the lines `#: ..`, and what is given in them.
 
-ghost use Rattle.std.specs.Prelude.{◌≡◌, ◌≤◌, IsTrue};
-ghost use Rattle.info65.specs.Words.{blank_tag, is_backward, is_value, lacks, tag_attribute, tag_named, with_value};
-ghost use Rattle.info65.specs.Tags.{value_at};
-
 use crate::syntax::words::is_word;
 
 /// What a group says.
@@ -62,10 +58,7 @@ macro_rules! tag_word {
 }
 
 /// The group of this name, with letters of any case.
-#[tactic(auto, unfolding(crate::specs::Tags::tag_named))]
-pub(crate) fn tag_named(text: &[u8]) -> Option<TagKind>
-    ensures { result ≡ tag_named text.now }
-{
+pub(crate) fn tag_named(text: &[u8]) -> Option<TagKind> {
     tag_word!(text;
         b"ENTRY" => TagKind::Entry,
         b"INLINE" => TagKind::Inline,
@@ -78,10 +71,7 @@ pub(crate) fn tag_named(text: &[u8]) -> Option<TagKind>
 }
 
 /// The attribute of a group by its name, with letters of any case.
-#[tactic(auto, unfolding(crate::specs::Tags::tag_attribute))]
-pub(crate) fn tag_attribute(kind: TagKind, text: &[u8]) -> Option<TagAttribute>
-    ensures { result ≡ tag_attribute kind text.now }
-{
+pub(crate) fn tag_attribute(kind: TagKind, text: &[u8]) -> Option<TagAttribute> {
     match kind {
         TagKind::Entry | TagKind::Number => tag_word!(text;
             b"ADDR" => TagAttribute::Address,
@@ -113,10 +103,7 @@ pub(crate) fn tag_attribute(kind: TagKind, text: &[u8]) -> Option<TagAttribute>
 }
 
 /// Whether the number is a value of the attribute.
-pub(crate) fn is_value(attribute: TagAttribute, number: u32) -> bool
-    ensures value { result ≡ is_value attribute number }
-    ensures fits { IsTrue result → number ≤ 65535 }
-{
+pub(crate) fn is_value(attribute: TagAttribute, number: u32) -> bool {
     match attribute {
         TagAttribute::Size => 1 <= number && number <= 256,
         _ => number <= 0xFFFF,
@@ -125,9 +112,7 @@ pub(crate) fn is_value(attribute: TagAttribute, number: u32) -> bool
 
 impl Tag {
     /// A group that begins on this line.
-    pub(crate) fn new(kind: TagKind, line: u32) -> Tag
-        ensures { result ≡ blank_tag kind line }
-    {
+    pub(crate) fn new(kind: TagKind, line: u32) -> Tag {
         Tag {
             kind,
             line,
@@ -141,9 +126,7 @@ impl Tag {
     }
 
     /// What an attribute was given.
-    pub(crate) fn value_at(self, attribute: TagAttribute) -> Option<u16>
-        ensures { result ≡ value_at self attribute }
-    {
+    pub(crate) fn value_at(self, attribute: TagAttribute) -> Option<u16> {
         match attribute {
             TagAttribute::Address => self.address,
             TagAttribute::Size => self.size,
@@ -155,9 +138,7 @@ impl Tag {
     }
 
     /// The group with this value of an attribute.
-    pub(crate) fn with_value(self, attribute: TagAttribute, value: u16) -> Tag
-        ensures { result ≡ with_value self attribute value }
-    {
+    pub(crate) fn with_value(self, attribute: TagAttribute, value: u16) -> Tag {
         let mut tag = self;
         match attribute {
             TagAttribute::Address => tag.address = Some(value),
@@ -171,9 +152,7 @@ impl Tag {
     }
 
     /// Whether something that the group needs is missing.
-    pub(crate) fn lacks(self) -> bool
-        ensures { result ≡ lacks self }
-    {
+    pub(crate) fn lacks(self) -> bool {
         match self.kind {
             TagKind::Entry | TagKind::Inline | TagKind::Number => self.address.is_none(),
             TagKind::Halves => {
@@ -189,9 +168,7 @@ impl Tag {
     }
 
     /// Whether the last address of what lies after the image is below the first.
-    pub(crate) fn is_backward(self) -> bool
-        ensures { result ≡ is_backward self }
-    {
+    pub(crate) fn is_backward(self) -> bool {
         match (self.kind, self.first, self.last) {
             (TagKind::After, Some(first), Some(last)) => last < first,
             _ => false,

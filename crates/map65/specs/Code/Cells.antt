@@ -109,15 +109,3 @@ pub record AreCells (m : MapView) (cells : List ℕ) : Type 0 where
 pub record IsBuilt (m : MapView) (cells : List ℕ) : Type 0 where
   pub sound : IsSoundMap m
   pub are_cells : AreCells m cells
-
--- ---- the law
-
--- the cell holds this role and this length, and nothing else
-pub record Says (cell : ℕ) (r : Option RangeType) (n : ℕ) : Type 0 where
-  pub role : role_in_cell cell ≡ r
-  pub len : len_in_cell cell ≡ n
-  pub rest : cell / 128 ≡ 0
-
--- A role and a length that are packed into a cell are read from it.
-abbrev pub CellLaw : Type 0
-CellLaw = (r : Option RangeType) (n : ℕ) → n < 8 → Says (cell_of r n) r n

@@ -43,7 +43,7 @@ pub struct Work<'a, A: Allocator> {
 }
 
 /// What comes of a line by the names above it.
-#[derive(Clone, Copy)]
+#[derive(Drop)]
 pub enum Outcome {
     /// It is coded, or it does not count, below a line that has a fault.
     Settled,

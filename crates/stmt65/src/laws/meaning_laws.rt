@@ -1,31 +1,15 @@
-//! What a text means, in the words of the manual: which mode an instruction has, which faults a line has, and what the
-//! lines of a text make of it.
+//! What a text means, in the words of the manual: which mode an instruction has, and what the lines of a text
+//! make of it.
 
-ghost use Rattle.stmt65.specs.Words.{FindsLine, FindsLowest, FindsNone, KeepsListings, MeansBytes, MeansFault, ModesAreWays, NeedsMode, StandsAtItsBytes, TakesModes, WaysAreModes};
-
-#[tactic(auto, using(crate::proofs::ModeLemmas::ways_are_modes, crate::proofs::ModeLemmas::modes_are_ways))]
-pub fn codes_alike()
-    /// The ways to code a form are the modes of `isa65` that are written like it, after `a:` only the absolute one.
-    /// Each has the length of its mode.
-    ensures alike { WaysAreModes }
-    ensures all { ModesAreWays }
-{}
+ghost use Rattle.stmt65.specs.Words.{FindsLine, KeepsListings, MeansBytes, MeansFault, NeedsMode, StandsAtItsBytes, TakesModes};
 
 #[tactic(auto, using(crate::proofs::ModeLemmas::takes_modes, crate::proofs::ModeLemmas::needs_mode))]
 pub fn takes_modes()
-    /// An instruction is coded in one of these modes that the mnemonic has on the CPU. If it has a zero-page and an
-    /// absolute one that are written alike, the operand's size decides. It has no coding exactly when the mnemonic
-    /// has none of these modes.
+    /// An instruction is coded in a mode that is written like its form, after `a:` in the absolute one, and that the
+    /// mnemonic has on the CPU. If it has a zero-page and an absolute one that are written alike, the operand's size
+    /// decides. It has no coding exactly when the mnemonic has none of these modes.
     ensures takes { TakesModes }
     ensures needs { NeedsMode }
-{}
-
-#[tactic(auto, using(crate::proofs::FaultLemmas::finds_none))]
-pub fn finds_lowest_fault()
-    /// Each kind of fault has one rule. The fault of a line is the lowest kind whose rule holds; it has none
-    /// exactly when no rule holds.
-    ensures lowest { FindsLowest }
-    ensures none { FindsNone }
 {}
 
 #[tactic(auto, using(crate::proofs::TextLemmas::stands_at_its_bytes, crate::proofs::AddressLemmas::finds_line))]

@@ -1,6 +1,6 @@
-//! What the reading of a line is to what is written in it, and the cutting of a text to its bytes.
+//! What the reading of a line is to what is written in it.
 
-ghost use Rattle.stmt65.specs.Words.{CutsTexts, ReadsLines, ReadsSpellings, SpellsOne, TakesParts};
+ghost use Rattle.stmt65.specs.Words.{ReadsLines, ReadsSpellings, SpellsOne, TakesParts};
 
 #[tactic(auto, using(crate::proofs::LineLemmas::reads_spellings))]
 pub fn reads_spellings()
@@ -24,10 +24,4 @@ pub fn takes_parts()
 pub fn reads_lines()
     /// A line of a listing parses as a statement exactly when it is a source form of it.
     ensures { ReadsLines }
-{}
-
-pub fn cuts_texts()
-    /// A text of a table is cut into the longest stretches that may stand in quotes and the bytes between them, and
-    /// in no other way.
-    ensures { CutsTexts }
 {}

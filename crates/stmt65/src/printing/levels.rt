@@ -45,24 +45,26 @@ fn put_characters(out: &mut Line, bytes: &[u8])
 
 /// Appends what stands after a statement from level 2 on, with the statement's address and bytes.
 #[inline(never)]
-fn put_remarked(out: &mut Line, columns: &Columns, level: u8, address: u16, bytes: &[u8])
-    requires level { 2 ≤ level }
+fn put_remarked(out: &mut Line, columns: &Columns, remarks: &Remarks)
+    requires level { 2 ≤ (remarks_seen remarks.now).level }
     requires room { array_vec_len out.old ≤ 340 }
-    requires few { length bytes.now ≤ 16 }
-    ensures { Prints out.old (level_fields columns.now level address bytes.now) out.new 511 }
+    requires few { length remarks.now.bytes.now ≤ 16 }
+    ensures { Prints out.old (level_fields columns.now (remarks_seen remarks.now).level
+        remarks.now.address remarks.now.bytes.now) out.new 511 }
 {
+    let level = remarks.level.get();
     start_field(out, columns.comment);
     put(out, b"; ");
-    put_digits4(out, address);
+    put_digits4(out, remarks.address);
     if level < 3 {
         return;
     }
-    put_spaced_bytes(out, bytes);
+    put_spaced_bytes(out, remarks.bytes);
     if level < 4 {
         return;
     }
     start_field(out, columns.text);
-    put_characters(out, bytes);
+    put_characters(out, remarks.bytes);
 }
 
 /// Appends what stands after the statement. Below level 2 that is nothing.
@@ -73,8 +75,7 @@ pub(super) fn put_after(out: &mut Line, columns: &Columns, statement: &Statement
     ensures { Prints out.old (fields_after columns.now (statement_seen statement.now)
         (remarks_seen remarks.now)) out.new 511 }
 {
-    let level = remarks.level.get();
-    if statement.has_bytes() && 2 <= level {
-        put_remarked(out, columns, level, remarks.address, remarks.bytes);
+    if statement.has_bytes() && 2 <= remarks.level.get() {
+        put_remarked(out, columns, remarks);
     }
 }

@@ -2,7 +2,7 @@
 
 ghost use Rattle.std.specs.Prelude.{◌<◌, ◌∷◌, ◌≡◌, ◌≤◌, IfSome, MatchOption, [], drop, false, get_or, length};
 ghost use Rattle.std.specs.Bool.{OnFalse, OnTrue};
-ghost use Rattle.stmt65.specs.Words.{AreBlanks, AreParts, Gives, GoesOver, IsAmong, IsPart, IsRemarkOf, IsWholeOperand, ReadsAs, StandsIn, begins_operand, bytes_in, datum_of, goes_on, is_blank, part_of, parts, parts_left, value_alone, value_of};
+ghost use Rattle.stmt65.specs.Words.{AreBlanks, Gives, GoesOver, IsAmong, IsPart, IsRemarkOf, ReadsAs, StandsIn, begins_operand, bytes_in, datum_of, goes_on, is_blank, part_of, parts, parts_left, value_alone, value_of};
 
 use crate::language::Language;
 use crate::reading::expressions::next_value;
@@ -175,8 +175,6 @@ impl<'a> Places<'a> {
         ensures fewer { OnTrue result
             (length (parts_left self.new) < length (parts_left self.old)) }
         ensures left { OnFalse result (self.new ≡ self.old) }
-        ensures joined { OnTrue result
-            (AreParts self.old.language self.old.line self.old.at self.new.at) }
     {
         let mut ahead = self.copied();
         let Some(sign) = ahead.next() else {
@@ -200,7 +198,6 @@ impl<'a> Places<'a> {
         ensures over { GoesOver self.old self.new }
         ensures to { result ≡ self.new.at }
         ensures ends { goes_on (parts_left self.new) ≡ false }
-        ensures joined { AreParts self.old.language self.old.line self.old.at self.new.at }
     {
         let mut to = self.at;
         'terms: while self.pass_term() {
@@ -210,16 +207,11 @@ impl<'a> Places<'a> {
     }
 
     /// The next operand, and where it stands. Marks and words that are no names are passed over.
-    #[tactic(auto, using(crate::proofs::PartLemmas::operands))]
+    #[tactic(auto, using(crate::proofs::PartLemmas::terms))]
     pub fn operand(&mut self) -> Option<Operand<'a>>
         /// The bytes at the place of an operand are the string, or read as the expression and nothing else.
         ensures reads { IfSome result (λ o.
             ReadsAs self.old.language (bytes_in o.span self.old.line) (datum_of o.datum)) }
-        /// The place is the whole operand: it begins with the next part with which one can begin, goes on over parts
-        /// with nothing but blanks between them, and ends with the last of these. With the parts that are left its
-        /// expression does not go on.
-        ensures whole { IfSome result (λ o.
-            IsWholeOperand self.old self.new o.span (datum_of o.datum)) }
         ensures over { GoesOver self.old self.new }
     {
         let (language, line) = (self.language, self.line);

@@ -6,7 +6,7 @@ use crate::text::likely::is_meant;
 use info65::{RangeSpec, RangeType};
 use isa65::{Mnemonic, Mode};
 use map65::is_inside;
-use reach65::rules::image::{address, byte, ends, word};
+use reach65::image::{address, byte, ends, word};
 use std::alloc::AllocError;
 
 /// How far apart the words may stand between which another one stands.

@@ -3,9 +3,9 @@
 
 use crate::advice::Advice;
 use crate::text::Text;
+use entries65::sound::reads_on;
 use info65::RangeType;
 use isa65::Mnemonic;
-use reach65::rules::entries::sound::reads_on;
 use std::alloc::AllocError;
 
 /// How many instructions after a call are looked at.

@@ -4,7 +4,7 @@
 use crate::advice::Advice;
 use crate::text::Text;
 use map65::is_inside;
-use reach65::rules::image::{byte, word};
+use reach65::image::{byte, word};
 use std::alloc::AllocError;
 
 /// Returns whether the address is that of a routine, or that of a name, in the image.

@@ -2,10 +2,10 @@
 //! an entry inside a reached instruction; and for vectors that lead out of it.
 
 use crate::text::Text;
+use entries65::starts::has_vectors;
 use info65::TagKind;
 use map65::{ADDRESSES, is_inside};
-use reach65::rules::entries::starts::has_vectors;
-use reach65::rules::image::{ends, word};
+use reach65::image::{ends, word};
 use std::alloc::AllocError;
 use text65::put_address;
 

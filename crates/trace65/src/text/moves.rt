@@ -2,9 +2,12 @@
 
 use crate::text::Text;
 use info65::TagKind;
-use reach65::rules::image::ends;
+use reach65::image::ends;
 use std::alloc::AllocError;
 use text65::put_address;
+
+/// The first address after the zero page.
+const ZERO_PAGE_END: usize = 0x100;
 
 /// How many instructions are told that have operands behind the image.
 const TOLD: usize = 256;
@@ -69,7 +72,7 @@ impl Text<'_> {
     }
 
     /// Returns the greatest address of the pairs and the variables, if it lies after the image, and unless the file
-    /// says what lies there.
+    /// says what lies there, or the image ends in the zero page: operands of one byte have addresses of that.
     pub fn last_after(&self) -> Option<u16> {
         let addresses = &self.advice.addresses;
         let mut last = addresses.variables.addresses.last().copied().unwrap_or(0);
@@ -77,7 +80,8 @@ impl Text<'_> {
             last = last.max(pair.address);
         }
         let (_, end) = ends(self.advice.steps.image());
-        (end <= usize::from(last) && !self.has_after()).then_some(last)
+        let is_after = ZERO_PAGE_END <= end && end <= usize::from(last);
+        (is_after && !self.has_after()).then_some(last)
     }
 
     /// Adds what a group AFTER has: from the end of the image to this address.

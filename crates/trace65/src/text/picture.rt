@@ -1,7 +1,7 @@
 //! A picture of an image: a character for 64 bytes, and the counts of its bytes; and what helps where little is known.
 
 use crate::text::Text;
-use reach65::rules::image::ends;
+use reach65::image::ends;
 use std::alloc::AllocError;
 use text65::put_address;
 

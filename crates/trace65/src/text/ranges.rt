@@ -1,9 +1,9 @@
 //! The lines of the ranges that are proposed: each is a group, with the bytes of the range as a comment.
 
 use crate::text::Text;
+use entries65::texts::Alphabet;
 use info65::{RangeSpec, RangeType};
-use reach65::rules::bytes::texts::Alphabet;
-use reach65::rules::image::word;
+use reach65::image::word;
 use std::alloc::AllocError;
 
 /// How many bytes of a range are shown.

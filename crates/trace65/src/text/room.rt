@@ -4,10 +4,10 @@
 
 use crate::advice::Advice;
 use crate::text::Text;
+use bytes65::survey::writes;
+use entries65::declared::words_in;
 use info65::RangeSpec;
 use isa65::Mode;
-use reach65::rules::bytes::survey::writes;
-use reach65::rules::entries::declared::addresses_of;
 use std::alloc::AllocError;
 
 /// The least number of bytes that are room.
@@ -67,7 +67,8 @@ fn uses_of(advice: &Advice<'_>) -> Result<Vec<Use>, AllocError> {
         found.push((pair.address.saturating_add(1), Way::Loads, at))?;
     }
     for splits in [&advice.data.splits, &advice.data.declared] {
-        for &label in &addresses_of(steps, splits)? {
+        for &(word, less) in &words_in(steps, splits)? {
+            let label = word.saturating_add(less);
             found.push((label, Way::Named, label))?;
         }
     }

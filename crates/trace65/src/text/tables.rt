@@ -1,12 +1,11 @@
 //! Comments for the addresses in tables of the information file that are not followed.
 
 use crate::text::Text;
+use entries65::readers::{Split, Table};
+use entries65::sound::reads_on;
 use info65::{RangeSpec, RangeType};
 use isa65::Mnemonic;
 use map65::ADDRESSES;
-use reach65::rules::bytes::tables::Split;
-use reach65::rules::entries::readers::Table;
-use reach65::rules::entries::sound::reads_on;
 use std::alloc::AllocError;
 
 /// How many addresses get a comment.

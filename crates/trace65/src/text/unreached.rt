@@ -1,10 +1,10 @@
 //! Comments for bytes that read as code to which nothing leads, and for digits that are where code begins.
 
 use crate::text::Text;
+use entries65::basic::{LINE, sys_at};
 use isa65::Mnemonic::{Brk, Rti, Rts};
 use map65::is_jump;
-use reach65::rules::entries::basic::{LINE, sys_at};
-use reach65::rules::image::{address, ends};
+use reach65::image::{address, ends};
 use std::alloc::AllocError;
 
 /// How many bytes have to read as code.

@@ -5,7 +5,6 @@ use Rattle.clap.specs.Words.{Rule, Text, rule_of}
 use Rattle.clap.specs.declared.builder.Arg.{Arg}
 use Rattle.usage65.specs.Choices.{ChoiceView, ProgramView}
 use Rattle.usage65.specs.declared.choice.ChoiceOf.{ChoiceOf}
-use Rattle.usage65.specs.declared.choices.TheConstants.{CPU, HELP, INFO, OUTPUT, START, VERSION}
 use Rattle.usage65.specs.declared.program.Program.{Program}
 
 -- an option whose texts are read in this way
@@ -26,22 +25,3 @@ program_of p = record { name = p.name.now; usage = p.usage.now; choices = map ch
 pub record HasRule (a : Arg) (r : Rule) : Type 0 where
   pub rule : rule_of a ≡ r
   pub here : a.global ≡ false
-
--- the options that several programs have
-abbrev pub info_choice : ChoiceView
-info_choice = row_of INFO
-
-abbrev pub output_choice : ChoiceView
-output_choice = row_of OUTPUT
-
-abbrev pub start_choice : ChoiceView
-start_choice = row_of START
-
-abbrev pub cpu_choice : ChoiceView
-cpu_choice = row_of CPU
-
-abbrev pub help_choice : ChoiceView
-help_choice = row_of HELP
-
-abbrev pub version_choice : ChoiceView
-version_choice = row_of VERSION

@@ -8,9 +8,3 @@ returns-then-tag-lt5-clause-ids c = rw (c.in-Tag.is, no_id c.in-Tag.tag.now (sea
 
 pub returns-then-tag-lt5-clause-targets : goal.returns-then-tag-lt5-clause-targets
 returns-then-tag-lt5-clause-targets c = rw (c.in-Tag.is, no_target c.in-Tag.tag.now (search rules), append-nil) refl
-
-pub returns-then-tag-lt5-clause-lines : goal.returns-then-tag-lt5-clause-lines
-returns-then-tag-lt5-clause-lines c = rw (c.in-Tag.is, no_id c.in-Tag.tag.now (search rules), append-nil) refl
-
-pub returns-then-tag-lt5-clause-links : goal.returns-then-tag-lt5-clause-links
-returns-then-tag-lt5-clause-links c = rw (c.in-Tag.is, no_target c.in-Tag.tag.now (search rules), append-nil) refl

@@ -1,9 +1,0 @@
-use Rattle.std.proofs.Common.{◌≡◌, ◌++◌, length}
-use Rattle.stmt65.specs.Words.{ends_left}
-use Rattle.as65.proofs.assembled.Listed.ends.Given as goal
-
-abbrev pub invariant-ends : goal.invariant-ends
-invariant-ends l = l.ends.items ++ ends_left l.left ≡ l.self.ends
-
-abbrev pub decreases-ends : goal.decreases-ends
-decreases-ends l = length (ends_left l.left)

@@ -1,5 +1,0 @@
-use Rattle.as65.specs.Words.{AreKnown}
-use Rattle.as65.proofs.shown.know_bytes.Given as goal
-
-abbrev pub invariant-bytes : goal.invariant-bytes
-invariant-bytes l = AreKnown l.scene l.changes.items l.at 0

@@ -1,7 +1,0 @@
-use Rattle.std.proofs.Common.{◌≡◌, ℕ, take}
-use Rattle.map65.specs.Words.{is_marked}
-use Rattle.name65.specs.Marks.{is_named}
-use Rattle.name65.proofs.marks.mark_named.Given as goal
-
-abbrev pub invariant-tags : goal.invariant-tags
-invariant-tags l = (a : ℕ) → is_marked l.marks a ≡ is_named (take l.tag-index l.tags) a
