@@ -66,6 +66,9 @@ pub struct Halves {
 impl Halves {
     /// Takes the whole pairs among the likely ones that have the address of a sure one for sure.
     fn take_known(&mut self, survey: &Survey<'_>, items: &Marks) -> Result<(), AllocError> {
+        if self.likely.is_empty() {
+            return Ok(());
+        }
         let alloc = survey.steps.alloc();
         let (mut known, mut left) = (Marks::none(alloc)?, Vec::new(alloc));
         for pair in &self.sure {
@@ -133,23 +136,31 @@ pub fn halves_of(
     limits: (usize, usize),
 ) -> Result<Halves, AllocError> {
     let alloc = survey.steps.alloc();
-    let mut pairs = ranked_of(survey, items, limits)?;
-    pairs.sort_by_key(|(rank, _)| *rank)?;
+    let pairs = ranked_of(survey, items, limits)?;
+    let mut ranks = 0u32;
+    for &(rank, _) in &pairs {
+        ranks |= 1 << (rank % 32);
+    }
     let mut halves = Halves {
         sure: Vec::new(alloc),
         likely: Vec::new(alloc),
     };
     let mut used = said;
-    for &(rank, pair) in &pairs {
-        if used.get(pair.low) || used.get(pair.high) {
+    for rank in 0..2 * RANKS {
+        if (ranks >> rank) % 2 == 0 {
             continue;
         }
-        used.set(pair.low);
-        used.set(pair.high);
-        if rank < RANKS {
-            halves.sure.push(pair)?;
-        } else {
-            halves.likely.push(pair)?;
+        for &(of, pair) in &pairs {
+            if of != rank || used.get(pair.low) || used.get(pair.high) {
+                continue;
+            }
+            used.set(pair.low);
+            used.set(pair.high);
+            if rank < RANKS {
+                halves.sure.push(pair)?;
+            } else {
+                halves.likely.push(pair)?;
+            }
         }
     }
     halves.take_known(survey, items)?;

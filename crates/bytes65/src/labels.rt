@@ -2,12 +2,25 @@
 
 use crate::bases::Base;
 use crate::survey::Survey;
-use entries65::declared::{tagged, words_in};
+use entries65::Steps;
+use entries65::declared::words_in;
 use entries65::pairs::Pair;
 use entries65::readers::Split;
 use info65::TagKind;
-use map65::{Map, Marks, is_skip};
+use map65::{Map, is_skip};
 use std::alloc::AllocError;
+
+/// The addresses of groups ENTRY, in order.
+fn entries_of(steps: &Steps<'_>) -> Result<Vec<u16>, AllocError> {
+    let mut entries = Vec::new(steps.alloc());
+    for tag in steps.tags() {
+        if let (TagKind::Entry, Some(address)) = (tag.kind, tag.address) {
+            entries.push(address)?;
+        }
+    }
+    entries.sort()?;
+    Ok(entries)
+}
 
 /// How much less than the one that is meant an address of a group HALVES is: one, if a routine begins after it and no
 /// instruction at the address itself, since `rts` goes on after the address that it takes.
@@ -30,8 +43,8 @@ pub struct Addressed<'a> {
 #[derive(Drop)]
 struct Labels<'a> {
     map: &'a Map<'a>,
-    /// Those of groups ENTRY.
-    entries: Marks,
+    /// Those of groups ENTRY, in order.
+    entries: Vec<u16>,
     found: Vec<u16>,
 }
 
@@ -51,7 +64,7 @@ impl Labels<'_> {
         let info = self.map.info();
         let next = address.saturating_add(1);
         let has_next = self.moves_with_next(address);
-        let label = if has_next && (less == 1 || self.entries.get(next)) {
+        let label = if has_next && (less == 1 || self.entries.binary_search(&next).is_ok()) {
             next
         } else if has_next && info.covering(next).is_some() {
             return Ok(());
@@ -84,7 +97,7 @@ pub fn labels_of(survey: &Survey<'_>, addressed: Addressed<'_>) -> Result<Vec<u1
     let steps = survey.steps;
     let mut labels = Labels {
         map: steps.map(),
-        entries: tagged(steps.alloc(), steps.tags(), TagKind::Entry)?,
+        entries: entries_of(steps)?,
         found: Vec::from_slice(steps.alloc(), addressed.variables)?,
     };
     for base in addressed.bases {

@@ -105,12 +105,14 @@ pub fn mark_loaded(ground: &mut Ground<'_>, survey: &Survey<'_>) -> Result<(), A
         };
         for distance in [3u16, 5, 6] {
             let then = at.saturating_add(distance);
+            if !survey.reached.get(then) {
+                continue;
+            }
             let Some(other) = loaded_at(steps, then) else {
                 continue;
             };
             let low = usize::from(one.min(other));
-            if survey.reached.get(then)
-                && one.abs_diff(other) == 1
+            if one.abs_diff(other) == 1
                 && let Some(word) = ground.word(low)
                 && is_inside(ground.image, usize::from(word))
                 && survey.is_likely(word)

@@ -73,8 +73,11 @@ pub fn said_places(alloc: Global, tags: &[Tag]) -> Result<Marks, AllocError> {
 /// Returns the words in these tables, and how much less they are than the addresses, each once. At most as many entries
 /// count as there are addresses: no more have bytes of their own.
 pub fn words_in(steps: &Steps<'_>, splits: &[Split]) -> Result<Vec<(u16, u16)>, AllocError> {
-    let mut marks = [Marks::none(steps.alloc())?, Marks::none(steps.alloc())?];
     let mut found = Vec::new(steps.alloc());
+    if splits.is_empty() {
+        return Ok(found);
+    }
+    let mut marks = [Marks::none(steps.alloc())?, Marks::none(steps.alloc())?];
     let mut left = ADDRESSES;
     for split in splits {
         let count = split.count.min(left);

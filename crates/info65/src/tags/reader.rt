@@ -16,31 +16,35 @@ fn fault<T>(token: Token<'_>, kind: InfoFaultKind) -> Result<T, InfoFault> {
     Err(InfoFault::new(token.line, kind))
 }
 
-/// The line of the token that is due, which is of this kind.
-fn mark(lexer: &mut Lexer<'_>, kind: TokenKind<'_>) -> Result<u32, InfoFault> {
+/// Reads a `{`, and returns its line.
+#[inline(always)]
+fn open_brace(lexer: &mut Lexer<'_>) -> Result<u32, InfoFault> {
     let token = due(lexer)?;
-    if token.kind != kind {
-        return fault(token, InfoFaultKind::Expected);
+    match token.kind {
+        TokenKind::OpenBrace => Ok(token.line),
+        _ => fault(token, InfoFaultKind::Expected),
     }
-    Ok(token.line)
+}
+
+/// Reads the `;` behind a value.
+#[inline(always)]
+fn semicolon(lexer: &mut Lexer<'_>) -> Result<(), InfoFault> {
+    if lexer.takes_semicolon() {
+        return Ok(());
+    }
+    let token = due(lexer)?;
+    match token.kind {
+        TokenKind::Semicolon => Ok(()),
+        _ => fault(token, InfoFaultKind::Expected),
+    }
 }
 
 /// The kind of the group that a token names.
 fn kind_of(name: Token<'_>) -> Result<TagKind, InfoFault> {
-    if name.kind != TokenKind::Word {
-        return fault(name, InfoFaultKind::Expected);
-    }
-    tag_named(name.text).ok_or(InfoFault::new(name.line, InfoFaultKind::UnknownGroup))
-}
-
-/// The attribute of a group that a token names.
-fn attribute_of(tag: Tag, name: Token<'_>) -> Result<TagAttribute, InfoFault> {
-    match tag_attribute(tag.kind, name.text) {
-        Some(attribute) if tag.value_at(attribute).is_some() => {
-            fault(name, InfoFaultKind::GivenTwice)
-        }
-        Some(attribute) => Ok(attribute),
-        None => fault(name, InfoFaultKind::UnknownAttribute),
+    match (name.kind, tag_named(name.text)) {
+        (TokenKind::Word, Some(kind)) => Ok(kind),
+        (TokenKind::Word, None) => fault(name, InfoFaultKind::UnknownGroup),
+        _ => fault(name, InfoFaultKind::Expected),
     }
 }
 
@@ -54,35 +58,37 @@ fn value(lexer: &mut Lexer<'_>, attribute: TagAttribute) -> Result<u16, InfoFaul
     }
 }
 
-/// The group, which ends with this token.
-fn closed(tag: Tag, end: Token<'_>) -> Result<Tag, InfoFault> {
-    if tag.lacks() {
-        return fault(end, InfoFaultKind::Missing);
+/// Reads what is given in a group, of which this token is the name.
+#[inline(always)]
+fn assignment(lexer: &mut Lexer<'_>, tag: &mut Tag, name: Token<'_>) -> Result<(), InfoFault> {
+    let Some(attribute) = tag_attribute(tag.kind, name.text) else {
+        return fault(name, InfoFaultKind::UnknownAttribute);
+    };
+    let given = tag.given(attribute);
+    if given.is_some() {
+        return fault(name, InfoFaultKind::GivenTwice);
     }
-    if tag.is_backward() {
-        return fault(end, InfoFaultKind::OutOfRange);
-    }
-    Ok(tag)
+    *given = Some(value(lexer, attribute)?);
+    semicolon(lexer)
 }
 
 /// Reads the group of this name.
 fn group(lexer: &mut Lexer<'_>, name: Token<'_>) -> Result<Tag, InfoFault> {
     let kind = kind_of(name)?;
-    let mut tag = Tag::new(kind, mark(lexer, TokenKind::OpenBrace)?);
-    for _ in 0..ATTRIBUTES {
+    let mut tag = Tag::new(kind, open_brace(lexer)?);
+    for _ in 0..=ATTRIBUTES {
         let token = due(lexer)?;
         match token.kind {
-            TokenKind::CloseBrace => return closed(tag, token),
-            TokenKind::Word => {
-                let attribute = attribute_of(tag, token)?;
-                tag = tag.with_value(attribute, value(lexer, attribute)?);
-                let _line = mark(lexer, TokenKind::Semicolon)?;
+            TokenKind::CloseBrace if tag.lacks() => return fault(token, InfoFaultKind::Missing),
+            TokenKind::CloseBrace if tag.is_backward() => {
+                return fault(token, InfoFaultKind::OutOfRange);
             }
+            TokenKind::CloseBrace => return Ok(tag),
+            TokenKind::Word => assignment(lexer, &mut tag, token)?,
             _ => return fault(token, InfoFaultKind::Expected),
         }
     }
-    let token = due(lexer)?;
-    fault(token, InfoFaultKind::Expected)
+    fault(name, InfoFaultKind::Expected)
 }
 
 /// Returns the groups of the lines of an information file that begin with `#:`, in order: ENTRY, INLINE, HALVES, AFTER,

@@ -126,29 +126,15 @@ impl Tag {
     }
 
     /// What an attribute was given.
-    pub(crate) fn value_at(self, attribute: TagAttribute) -> Option<u16> {
+    pub(crate) fn given(&mut self, attribute: TagAttribute) -> &mut Option<u16> {
         match attribute {
-            TagAttribute::Address => self.address,
-            TagAttribute::Size => self.size,
-            TagAttribute::Low => self.low,
-            TagAttribute::High => self.high,
-            TagAttribute::First => self.first,
-            TagAttribute::Last => self.last,
+            TagAttribute::Address => &mut self.address,
+            TagAttribute::Size => &mut self.size,
+            TagAttribute::Low => &mut self.low,
+            TagAttribute::High => &mut self.high,
+            TagAttribute::First => &mut self.first,
+            TagAttribute::Last => &mut self.last,
         }
-    }
-
-    /// The group with this value of an attribute.
-    pub(crate) fn with_value(self, attribute: TagAttribute, value: u16) -> Tag {
-        let mut tag = self;
-        match attribute {
-            TagAttribute::Address => tag.address = Some(value),
-            TagAttribute::Size => tag.size = Some(value),
-            TagAttribute::Low => tag.low = Some(value),
-            TagAttribute::High => tag.high = Some(value),
-            TagAttribute::First => tag.first = Some(value),
-            TagAttribute::Last => tag.last = Some(value),
-        }
-        tag
     }
 
     /// Whether something that the group needs is missing.
