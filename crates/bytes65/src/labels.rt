@@ -63,10 +63,10 @@ impl Labels<'_> {
     fn put(&mut self, address: u16, less: u16) -> Result<(), AllocError> {
         let info = self.map.info();
         let next = address.saturating_add(1);
-        let has_next = self.moves_with_next(address);
-        let label = if has_next && (less == 1 || self.entries.binary_search(&next).is_ok()) {
+        let is_before = less == 1 || self.entries.binary_search(&next).is_ok();
+        let label = if is_before && self.moves_with_next(address) {
             next
-        } else if has_next && info.covering(next).is_some() {
+        } else if info.covering(next).is_some() && self.moves_with_next(address) {
             return Ok(());
         } else {
             address

@@ -10,6 +10,7 @@ use map65::{Marks, is_inside};
 use std::alloc::{AllocError, Global};
 
 /// Adds the address, if there is one.
+#[inline(always)]
 fn push_some(todo: &mut Vec<u16>, address: Option<u16>) -> Result<(), AllocError>
     ensures { OnOk result (todo.new.items ≡ todo.old.items ++ option_to_list address) }
 {
