@@ -181,7 +181,7 @@ install: bin/da65 bin/as65 bin/trace65 bin/name65 bin/move65 bin/html65
 	done
 	@install -D -m 644 docs/da65.info.5 '$(share)/man/man5/$(PROGRAM_PREFIX)da65.info.5'
 	@install -D -m 644 -t '$(share)/$(PROGRAM_PREFIX)da65/names' names/*.inc names/*.info
-	@sed 's|^PROGRAMS ?=$$|& $(PREFIX)/bin/$(PROGRAM_PREFIX)|' share/repair.mk | \
+	@sed 's|^PROGRAMS ?=.*|PROGRAMS ?= $(PREFIX)/bin/$(PROGRAM_PREFIX)|' share/repair.mk | \
 	    install -D -m 644 /dev/stdin '$(share)/$(PROGRAM_PREFIX)da65/repair.mk'
 
 uninstall:
