@@ -11,7 +11,7 @@
 #
 # PROGRAMS is the folder of the programs, or what their names begin with, and FILL the byte of --fill. monitor.made has the checksums of
 # what was made: nothing else is written over. Each run makes all of it anew and compares; times of files count for nothing.
-PROGRAMS ?=
+PROGRAMS ?= $(dir $(firstword $(wildcard $(foreach up,. .. ../..,$(dir $(lastword $(MAKEFILE_LIST)))$(up)/bin/trace65))))
 
 .PHONY: all moves
 all:
