@@ -17,6 +17,8 @@
 #                    PREFIX, by default /usr/local. PROGRAM_PREFIX is put before the names of the programs, as in
 #                    `make install PROGRAM_PREFIX=proved-`, and DESTDIR before PREFIX.
 # make uninstall     removes them, with the same PREFIX, PROGRAM_PREFIX and DESTDIR
+# make dist          makes a tarball in dist/ of what `make` has proved and built, with its sums, to try it without the prover
+# make deb           makes a Debian package of it too, da65-proved; its da65 is called proved-da65, since cc65 has one
 # make clean         removes what was built
 # make help          prints this
 #
@@ -29,7 +31,7 @@ SHELL := bash
 # Debian's pytest, which has its xdist.
 pytest = $(or $(shell command -v pytest-3),pytest)
 .SHELLFLAGS := -eu -o pipefail -c
-.PHONY: all kit try test check contracts manual definitions proofs speed install uninstall clean help
+.PHONY: all kit try test check contracts manual definitions proofs speed install uninstall dist deb clean help
 
 # Crates that do not depend on each other are proved side by side, each with up to four jobs of its own; `make -j1` proves one at a time.
 ifeq ($(shell [ "$$(nproc)" -gt 1 ] && awk '/^MemTotal/ { exit $$2 < 12000000 }' /proc/meminfo && echo wide),wide)
@@ -74,9 +76,9 @@ endef
 export PROGRESS
 
 # A crate is proved once the crates below it are, by the lines of crates.txt; a program is also run, for its version. Then a line says how
-# long that took, and bin/made/CRATE has what the prover said. rt locks the crates that it reads, so a crate is proved in a folder of its
-# own, with links to its sources and to the libraries below. bin/da65 comes first: the crates that it does not stand on give way, and the
-# other programs wait for it.
+# long that took, and bin/made/CRATE has the kit, and what the prover said. rt locks the crates that it reads, so a crate is proved in a
+# folder of its own, with links to its sources and to the libraries below. bin/da65 comes first: the crates that it does not stand on give
+# way, and the other programs wait for it.
 crates := $(shell sed -nE 's/^([a-z0-9_]+):.*/\1/p' crates.txt)
 programs := da65_cli as65 trace65 name65 move65 html65
 direct = $(filter $(crates),$(shell sed -nE 's/^$(1)://p' crates.txt))
@@ -92,7 +94,7 @@ bin/made/$(1): $(patsubst %,bin/made/%,$(call direct,$(1))) \
 	    [ ! -d crates/$(1)/out ] || mv crates/$(1)/out $$$$room/crates/$(1); \
 	    bash -c "$$$$PROGRESS" progress $(1) & \
 	    trap "[ ! -d $$$$room/crates/$(1)/out ] || mv $$$$room/crates/$(1)/out crates/$(1); rm -r $$$$room" EXIT; \
-	    (cd $$$$room/crates/$(1) && $(if $(filter $(1),$(first)),,nice) \
+	    (cd $$$$room/crates/$(1) && rt version && $(if $(filter $(1),$(first)),,nice) \
 	        rt $(if $(filter $(1),$(programs)),run $$(RTFLAGS) -- --version,lib $$(RTFLAGS))) >$$@.log 2>&1 || \
         { $$(clear_line); tail -n 20 $$@.log; exit 1; }; \
 	    $$(clear_line); printf '%-10s proved in %d seconds\n' $(1) $$$$((SECONDS - begin)); mv $$@.log $$@
@@ -193,6 +195,23 @@ uninstall:
 	@rm -f '$(share)/man/man5/$(PROGRAM_PREFIX)da65.info.5' '$(share)/$(PROGRAM_PREFIX)da65/repair.mk' \
 	    $(patsubst names/%,'$(share)/$(PROGRAM_PREFIX)da65/names/%',$(wildcard names/*.inc names/*.info))
 	@rmdir '$(share)/$(PROGRAM_PREFIX)da65/names' '$(share)/$(PROGRAM_PREFIX)da65' 2>/dev/null || true
+
+# Who installs before anything is proved learns what begins.
+ifneq ($(filter install,$(MAKECMDGOALS)),)
+ifneq ($(filter-out $(wildcard bin/made/*),$(programs:%=bin/made/%)),)
+$(info Not proved yet: that begins now, and takes about an hour. Ctrl-C stops it, and `make` goes on from what is proved then.)
+endif
+endif
+
+# CHANGELOG.md begins with the version.
+VERSION = $(shell sed -n 's/^## //p' CHANGELOG.md | head -n 1)
+binaries := $(patsubst %,bin/%,$(patsubst da65_cli,da65,$(programs)))
+
+dist:
+	@release/tarball '$(VERSION)' $(binaries)
+
+deb: dist
+	@release/package '$(VERSION)'
 
 help:
 	@sed -n '/^#/!q; s/^#\( \|$$\)//p' Makefile

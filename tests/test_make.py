@@ -83,6 +83,21 @@ def test_another_kit(make):
     assert "proved with rattle-kit-13f, not yet with rattle-kit-1\n" in make("-s -j3", [], env={"KIT": "rattle-kit-1"})
 
 
+def test_the_kit_is_noted(make):
+    """`make dist` says which one has proved each crate."""
+    for crate in ALL:
+        assert read(f"bin/made/{crate}").startswith(b"rattle-kit-13f logic 0\n")
+
+
+def test_install_says_what_begins(make):
+    """Before anything is proved, and only then."""
+    said = "Not proved yet: that begins now, and takes about an hour. Ctrl-C stops it, and `make` goes on from what is"
+    says = lambda goal: Program("make").run("-n " + goal).out.decode().startswith(said)
+    assert not says("install")
+    shutil.rmtree("bin")
+    assert says("install") and not says("all") and not says("uninstall")
+
+
 def test_before_any_proof(make, words, crate, shown):
     here = os.getcwd()
     os.makedirs("examples")

@@ -10,7 +10,7 @@ ABOUT_CODE = ("ARCHITECTURE", "CONTRIBUTING", "DECISIONS", "GATE", "LIBRARY", "P
 # Names of std, of the prover's files and of an instruction.
 OUTSIDE = {"BufWriter", "HashMap", "Lts", "bbr", "bbs"}
 CODE = ("crates/*/src/**/*.rt", "crates/*/specs/**/*.antt", "crates/*/proofs/**/*.antt", "crates/*/must-fail/*", "tests/*.py",
-        "tests/lint/*.py", "tests/stand_ins/*", ".ci/run")
+        "tests/lint/*.py", "tests/stand_ins/*", "release/*", ".ci/run")
 NAMED = ("*", "crates/*", "docs/*", "tests/*", "examples/*")
 
 
