@@ -4,6 +4,7 @@ tests/rows/dist.txt."""
 import os, pathlib, re, shutil, subprocess, types
 import pytest
 from conftest import MADE, ROOT, Program, command, holds, read, write
+from test_pages import Page
 
 KIT = "rattle-kit-1 logic 0"
 SUM = bytes.fromhex("A9 02 18 69 14 85 20 A9 20 69 00 85 21 A0 00 B1 20 8D 00 04 60 01 02 03")
@@ -81,6 +82,18 @@ def test_what_is_in_the_tarball(made):
     for page in made.root.rglob("*.md"):
         for target in re.findall(r"\]\(([^)\s#]+)[^)]*\)", page.read_text()):
             assert "://" in target or (page.parent / target).exists(), f"{page}: {target}"
+
+
+@pytest.mark.parametrize("name", ("docs/GUIDE.md", "docs/RECIPES.md"))
+def test_commands_of_a_page(made, folder, monkeypatch, name):
+    """They run where the tarball is unpacked, and print what the page shows."""
+    shutil.copytree(made.root, "copy")
+    os.chdir("copy")
+    for variable, value in ("SHELL", "/bin/sh"), ("HOME", str(folder)):
+        monkeypatch.setenv(variable, value)
+    page = Page(name)
+    page.blocks()
+    assert page.ran >= 3 and page.found
 
 
 def test_owners_and_times_say_nothing(made):
