@@ -75,7 +75,8 @@ def test_what_is_in_the_tarball(made):
     assert listed == set(files(made.root)) - {"SHA256SUMS"}
     proved = read(made.root / "PROVED").decode().splitlines()
     assert proved[:-1] == [f"da65 {made.version}", f"commit {made.commit}", f"proved with {KIT}"]
-    assert re.fullmatch(r"needs GLIBC_2\.\d+", proved[-1])
+    needed = re.fullmatch(r"needs GLIBC_(2\.\d+)", proved[-1])[1]
+    assert f"glibc {needed} or later" in " ".join(read(made.root / "README.md").decode().split())
     for name in MADE:
         assert "no symbols" in run(["objdump", "-t", f"bin/{name}"], made.root)
         assert os.access(made.root / "bin" / name, os.X_OK)
