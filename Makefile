@@ -183,6 +183,7 @@ install: bin/da65 bin/as65 bin/trace65 bin/name65 bin/move65 bin/html65
 	done
 	@install -D -m 644 docs/da65.info.5 '$(share)/man/man5/$(PROGRAM_PREFIX)da65.info.5'
 	@install -D -m 644 -t '$(share)/$(PROGRAM_PREFIX)da65/names' names/*.inc names/*.info
+	@install -D -m 644 -t '$(share)/$(PROGRAM_PREFIX)da65/names/chips' names/chips/*.inc
 	@sed 's|^PROGRAMS ?=.*|PROGRAMS ?= $(PREFIX)/bin/$(PROGRAM_PREFIX)|' share/repair.mk | \
 	    install -D -m 644 /dev/stdin '$(share)/$(PROGRAM_PREFIX)da65/repair.mk'
 
@@ -193,8 +194,8 @@ uninstall:
 	        "$(share)/bash-completion/completions/$$name" "$(share)/zsh/site-functions/_$$name"; \
 	done
 	@rm -f '$(share)/man/man5/$(PROGRAM_PREFIX)da65.info.5' '$(share)/$(PROGRAM_PREFIX)da65/repair.mk' \
-	    $(patsubst names/%,'$(share)/$(PROGRAM_PREFIX)da65/names/%',$(wildcard names/*.inc names/*.info))
-	@rmdir '$(share)/$(PROGRAM_PREFIX)da65/names' '$(share)/$(PROGRAM_PREFIX)da65' 2>/dev/null || true
+	    $(patsubst names/%,'$(share)/$(PROGRAM_PREFIX)da65/names/%',$(wildcard names/*.in* names/*/*.inc))
+	@rmdir '$(share)/$(PROGRAM_PREFIX)da65/'{names/chips,names,} 2>/dev/null || true
 
 # Who installs before anything is proved learns what begins.
 ifneq ($(filter install,$(MAKECMDGOALS)),)

@@ -55,9 +55,11 @@ def test_the_page_has_no_other_row():
 
 
 def test_names_agree(name, count, others, includes):
-    """These include files have at least that many of the names, and give them the same values, except the others."""
+    """These include files, some of which ask for a name `__MACHINE__`, have at least that many of the names, and give
+    them the same values, except the others."""
     names = re.findall(r"^(\w+) += (\$....)  ;", (ROOT / "names" / (name + ".inc")).read_text(), re.M)
-    lines = ["names_of_both .set 0", *(f'.include "{include}.inc"' for include in includes.split())]
+    lines = ["names_of_both .set 0", *(
+        f"{word} = 1" if word.startswith("__") else f'.include "{word}.inc"' for word in includes.split())]
     for word, value in names:
         lines += [f".ifdef {word}", f'.assert {word} = {value}, warning, "{word}"',
                   "names_of_both .set names_of_both + 1", ".endif"]

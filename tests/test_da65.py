@@ -15,14 +15,16 @@ def test_runs(da65, given, words, status, out, err, after, stdin):
     da65.does(given, words, status, out, err, after, stdin)
 
 
-MACHINES = sorted(path.stem for path in (ROOT / "names").glob("*.inc"))
+NAMES = sorted(str(path.relative_to(ROOT / "names"))[:-4] for path in (ROOT / "names").rglob("*.inc"))
 
 
-def test_twelve_machines_have_names():
-    assert len(MACHINES) == 12 and {path.stem for path in (ROOT / "names").glob("*.info")} < set(MACHINES)
+def test_machines_and_chips_that_have_names():
+    assert len([name for name in NAMES if "/" not in name]) == 21
+    assert len([name for name in NAMES if name.startswith("chips/")]) == 6
+    assert {path.stem for path in (ROOT / "names").glob("*.info")} < set(NAMES)
 
 
-@pytest.mark.parametrize("name", MACHINES)
+@pytest.mark.parametrize("name", NAMES)
 def test_the_names_of(da65, trace65, name):
     """The lines of an include file, each with a comment, are in the order of their addresses: a listing that has none
     of these defines them all. What has several bytes, by the information file beside it, ends before the next name."""

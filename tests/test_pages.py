@@ -186,7 +186,7 @@ def test_what_is_installed(installed):
         f"bin/{name}", f"share/man/man1/{name}.1", f"share/bash-completion/completions/{name}",
         f"share/zsh/site-functions/_{name}")]
     files += [f"share/man/man5/{prefix}da65.info.5", f"share/{prefix}da65/repair.mk"]
-    files += [f"share/{prefix}da65/names/{path.name}" for path in (ROOT / "names").glob("*.in*")]
+    files += [f"share/{prefix}da65/{path.relative_to(ROOT)}" for path in (ROOT / "names").rglob("*.in*")]
     assert sorted(files) == sorted(str(path.relative_to(made)) for path in made.rglob("*") if path.is_file())
     for name in MADE:
         same(read("bin/" + name), read(f"{made}/bin/{prefix}{name}"), "another program")
