@@ -11,7 +11,7 @@ ABOUT_CODE = ("ARCHITECTURE", "CONTRIBUTING", "DECISIONS", "GATE", "LIBRARY", "P
 OUTSIDE = {"BufWriter", "HashMap", "Lts", "bbr", "bbs"}
 CODE = ("crates/*/src/**/*.rt", "crates/*/specs/**/*.antt", "crates/*/proofs/**/*.antt", "crates/*/must-fail/*", "tests/*.py",
         "tests/lint/*.py", "tests/stand_ins/*", "release/*", ".ci/run")
-NAMED = ("*", "crates/*", "docs/*", "tests/*", "examples/*")
+NAMED = ("*", "crates/*", "docs/*", "names/*", "tests/*", "examples/*")
 
 
 def shown(path):
