@@ -2,8 +2,8 @@
 #                    proves three crates at a time if there are two processors and 12 GB of memory, or as many as -j says. It prints its
 #                    progress: on a terminal in one line, otherwise each minute (or each EVERY seconds).
 # make try           runs a program without proving anything, in three minutes: `make try IMAGE=my.bin START=0x8000` lists an image.
-#                    INFO is an information file, OUT the file for what is printed, and PROGRAM another of the six programs; IMAGE
-#                    is its input. Without any of them, it lists an example.
+#                    INFO is an information file, OUT the file for what is printed, and PROGRAM another of the programs; IMAGE is its
+#                    input. Without any of them, it lists an example. A word that is wrong is refused before anything is compiled.
 # make test          the merge gate: every proof from nothing, the edits that must fail, the tests and the stored runs; then pytest
 #                    on the programs that this built. Its last line is the result of `rt ci`.
 #                    CA65=skip leaves out what needs cc65, CC=skip what needs a C compiler, and BROWSER=skip what needs a browser.
@@ -101,19 +101,31 @@ bin/made/$(1): $(patsubst %,bin/made/%,$(call direct,$(1))) \
 endef
 $(foreach name,$(crates),$(eval $(call crate,$(name))))
 
-# The program sees copies of the input, of the information file and of the files that this one names.
+# The program sees copies of the input, of the information file and of the files that this one names: from the current folder, or beside it.
+# All words are looked at before the program is compiled.
 define TRY
 fails() { echo "try: $$1" >&2; exit 1; }
 words=() data=()
 give() { data+=(--data "$$1=$$(realpath -- "$$2")"); }
+[[ " $(tried) " == *" $$PROGRAM "* ]] || fails "PROGRAM is one of $(tried): $$PROGRAM"
 [ -z "$$OUT" ] || [ ! -e "$$OUT" ] || fails "there is a file $$OUT"
-[ -z "$$START" ] || words+=(-S "$$START")
+[ "$$OUT" = "$${OUT%/*}" ] || [ -d "$${OUT%/*}" ] || fails "there is no folder $${OUT%/*}"
+[ -n "$$START" ] || [ -z "$$is_given" ] || fails 'START is empty: write START=0xFC00, or put quotes around $$FC00'
+if [ -n "$$START" ]; then
+    start=$$(sed -E 's/^\$$+/0x/' <<<"$$START")
+    [[ $$start =~ ^(0[xX]0*[0-9a-fA-F]{1,4}|0|[1-9][0-9]{0,4})$$ ]] && ((start < 65536)) ||
+        fails "START is an address such as 0xFC00, '\$$FC00' or 64512: $$START"
+    words+=(-S "$$start")
+fi
 if [ -n "$$INFO" ]; then
     [ -f "$$INFO" ] || fails "there is no file $$INFO"
     words+=(-i "$${INFO##*/}")
-    while read -r name; do
-        [ ! -f "$$name" ] || give "$$name" "$$name"
-    done < <(sed -nE 's/.*(FILE|INPUTNAME)\s*"([^"]*)".*/\2/Ip' "$$INFO")
+    while IFS='"' read -r _ name _; do
+        file=$$name
+        [ -f "$$file" ] || file=$$(dirname "$$INFO")/$$name
+        [ -f "$$file" ] || fails "there is no file $$name, which $$INFO names"
+        give "$$name" "$$file"
+    done < <(sed -E 's/^(([^"#/]|\/[^/]|"[^"]*")*)(#|\/\/).*/\1/' "$$INFO" | grep -oiE '\b(FILE|INPUTNAME)\s*"[^"]*"')
     give "$${INFO##*/}" "$$INFO"
 fi
 [ -n "$$IMAGE$$INFO" ] || IMAGE=examples/three.bin
@@ -127,14 +139,17 @@ if [ -n "$$OUT" ]; then
     exec >"$$out"
     trap '[ -s "$$out" ] || rm -f "$$out"' EXIT
 fi
-cd "crates/$$1"
+[ "$$PROGRAM" != da65 ] || PROGRAM=da65_cli
+cd "crates/$$PROGRAM"
 rt try "$${data[@]}" -- "$${words[@]}" </dev/null
 endef
-export TRY IMAGE START INFO OUT
+tried := $(subst da65_cli,da65,$(programs))
 PROGRAM ?= da65
+export TRY IMAGE INFO OUT PROGRAM
 
+# START is taken as it was given: make would read `$F` as a variable.
 try:
-	@bash -eu -c "$$TRY" try $(if $(filter da65,$(PROGRAM)),da65_cli,$(PROGRAM))
+	@START='$(subst ','\'',$(value START))' is_given=$(filter command,$(origin START)) bash -eu -c "$$TRY" try
 
 test:
 	@mkdir -p bin

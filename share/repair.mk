@@ -21,6 +21,10 @@ bad := $(filter-out 1,$(words $(IMAGE)))$(shell printf %s $(call quoted,$(IMAGE)
 name := $(basename $(notdir $(IMAGE)))
 $(if $(bad),$(error IMAGE is the name of one file, with no blank in it, and with letters, digits and _ . / + - alone: '$(IMAGE)'))
 $(if $(filter %.info %.s %.html %.out %.made,$(IMAGE)),$(error $(IMAGE) has the name of a file that is made of an image))
+# START as it was given, since make would read `$F` as a variable, unless it begins with one.
+variables := $$(% $${%
+start := $(if $(filter $(variables),$(value START)),$(START),$(value START))
+$(if $(start),,$(if $(filter command,$(origin START)),$(error START is empty: write START=0xFC00, or put quotes around $$FC00)))
 $(if $(filter-out -%,$(name)),,$(error IMAGE is the name of a file that does not begin with - or with its only dot: '$(IMAGE)'))
 
 # All goals are phony: make deletes none of their files when it is interrupted, and has no other rule for them.
@@ -29,7 +33,7 @@ goals := all moves $(addprefix $(name).,info traced.info s html out)
 $(goals): export repair_script = $(value repair)
 $(goals):
 	@$(if $(shell [ -f $(IMAGE) ] || echo lost),$(error there is no file $(IMAGE)))\
-	exec env IMAGE=$(IMAGE) START=$(call quoted,$(START)) FILL=$(call quoted,$(FILL)) PROGRAMS=$(call quoted,$(PROGRAMS)) \
+	exec env IMAGE=$(IMAGE) START=$(call quoted,$(start)) FILL=$(call quoted,$(FILL)) PROGRAMS=$(call quoted,$(PROGRAMS)) \
 	    bash -euo pipefail -c "$$repair_script" repair.mk $@ $(name)
 
 define repair
@@ -85,12 +89,16 @@ make_info() {
     swap "$name.info" test ! -e || :
 }
 
-# Says so if START is another one than that of the information file.
-compare_start() {
+# The value of an attribute of the information file, or nothing.
+value_of() { sed -nE 's/^([^"#]|"[^"]*")*\b'"$1"'\s*("[^"]*"|[$0-9a-f]+).*/\2/Ip;T;q' "$name.info" | tr -d '"'; }
+
+# Fails if the information file is that of another image, and says so if START is another one than its own.
+compare_info() {
     local found
-    [ "$start" ] || return 0
-    found=$(sed -nE 's/^([^"#]|"[^"]*")*STARTADDR\s*([$0-9a-f]+).*/\2/Ip;T;q' "$name.info")
-    [ "$start" = "$(printf %04X "${found/#\$/0x}" 2>/dev/null)" ] ||
+    found=$(value_of INPUTNAME)
+    [ -z "$found" ] || [ "$found" -ef "$IMAGE" ] || fail "$name.info is that of $found, and not of $IMAGE: work in another folder"
+    found=$(value_of STARTADDR)
+    [ -z "$start" ] || [ "$start" = "$(printf %04X "${found/#\$/0x}" 2>/dev/null)" ] ||
         echo "START counts only when $name.info is made: change STARTADDR there"
 }
 
@@ -130,7 +138,10 @@ programs=${PROGRAMS/#\~\//${HOME-}/}
 [ ! -d "$programs" ] || programs+=/
 start=
 if [ "$START" ]; then
-    printf -v start %04X "${START/#\$/0x}" 2>/dev/null && [ ${#start} = 4 ] || fail "START is an address such as 0xFC00: $START"
+    address=$(sed -E 's/^\$+/0x/' <<<"$START")
+    [[ $address =~ ^(0[xX]0*[0-9a-fA-F]{1,4}|0|[1-9][0-9]{0,4})$ ]] && ((address < 65536)) ||
+        fail "START is an address such as 0xFC00, '\$FC00' or 64512: $START"
+    printf -v start %04X "$address"
 fi
 
 # One run at a time in a folder. The lock is on the folder itself, and ends with this script.
@@ -142,7 +153,7 @@ trap 'trap "" HUP INT TERM; rm -rf "$work" "$beside"' EXIT # make sends the sign
 work=$(mktemp -d)
 touch "$work/begun"
 
-if [ -e "$name.info" ]; then compare_start; else make_info; fi
+if [ -e "$name.info" ]; then compare_info; else make_info; fi
 end_at "$name.info"
 if [ "$goal" = moves ] && is_free "$name.s"; then
     add_moves

@@ -101,9 +101,12 @@ def test_install_says_what_begins(make):
 def test_before_any_proof(make, words, crate, shown):
     here = os.getcwd()
     os.makedirs("examples")
-    for name in "examples/three.bin", "own.bin", "a listing.s", "names.inc":
+    os.makedirs("beside")
+    for name in "examples/three.bin", "own.bin", "a listing.s", "names.inc", "beside/its.bin":
         write(name, "")
-    write("own.info", 'GLOBAL { INPUTNAME "own.bin"; };\nASMINC { file "names.inc"; };\nASMINC { FILE "lost.inc"; };\n')
+    for name in "own", "beside/its":
+        groups = f'GLOBAL {{ INPUTNAME "{name[-3:]}.bin"; }}; # FILE "lost.inc"\nASMINC {{ file "names.inc"; }};\n'
+        write(name + ".info", groups)
     shown = shown.replace("HERE", here)
     make("-s try " + words, [crate], last=shown if "OUT" not in words else "")
     if "OUT" in words:
@@ -111,7 +114,9 @@ def test_before_any_proof(make, words, crate, shown):
 
 
 def test_nothing_is_tried(make, words, said):
+    os.makedirs("beside")
     write("own.bin", "")
+    write("beside/lost.info", 'GLOBAL { INPUTNAME "lost.bin"; };\n')
     make("-s try " + words, [], 2, "try: " + said)
     holds("own.bin", "")
 

@@ -162,6 +162,17 @@ def test_what_was_edited_stays(repair, name):
     holds(name, "my own\n")
 
 
+def test_an_image_of_another_folder_with_the_same_name(repair):
+    repair()
+    before = times()
+    os.mkdir("other")
+    for image in "other/sum.bin", "other/sum.rom":
+        write(image, SUM[::-1])
+        said = f"sum.info is that of sum.bin, and not of {image}: work in another folder\n"
+        assert said in repair("IMAGE=" + image, 2) and times() == before
+    assert repair("IMAGE=./sum.bin") == "" and repair(f"IMAGE={os.getcwd()}/sum.bin") == ""
+
+
 def test_a_faulty_information_file(repair):
     repair()
     before = {name: read(name) for name in PARTS[1:]}
@@ -291,13 +302,23 @@ def test_an_image_with_the_name_of(repair, name):
 
 def test_another_start_later(repair):
     repair()
-    for start in "0x2000", "8192", "'$$2000'", "":
+    for start in "0x2000", "0X2000", "8192", "'$2000'", "'$$2000'":
         assert repair(f"IMAGE=sum.bin START={start}") == ""
     says = "START counts only when sum.info is made: change STARTADDR there\n"
     assert repair("IMAGE=sum.bin START=0x3000") == says
     holds("sum.info", GLOBAL)
     write("sum.info", "# STARTADDR $3000\nglobal{inputname\"sum.bin\";startaddr 8192;}\n")
     assert repair("IMAGE=sum.bin START=0x3000") == says and repair() == ""
+
+
+@pytest.mark.parametrize("word", ("0xfc00", "64512", "'$FC00'", "'$$FC00'"))
+def test_a_start_in_a_makefile(repair, word):
+    """There `$` is written twice."""
+    address = word.strip("'").replace("$FC", "$$FC").replace("$$$", "$$")
+    write("Makefile", f"IMAGE := sum.bin\nBASE = {address}\nSTART = $(BASE)\nPROGRAMS := programs\n"
+          f"include {ROOT}/share/repair.mk\n")
+    Program("make")("sum.info", 0, "", None)
+    holds("sum.info", GLOBAL.replace("$2000", "$FC00"))
 
 
 def test_another_fill_later(repair):
@@ -329,8 +350,9 @@ def test_shellcheck():
     ("IMAGE=it\\'s.bin", "IMAGE is the name of one file"),
     ("IMAGE=sum.s", "sum.s has the name of a file that is made of an image"),
     ("IMAGE=.bin", "IMAGE is the name of a file that does not begin"), ("IMAGE=-s.bin", "IMAGE is the name of a file"),
-    ("IMAGE=sum.bin START=here", "START is an address such as 0xFC00: here\n"),
-    ("IMAGE=sum.bin START=0x12345", "START is an address such as 0xFC00: 0x12345\n")))
+    ("IMAGE=sum.bin START=", "START is empty: write START=0xFC00, or put quotes around $FC00"),
+    *((f'IMAGE=sum.bin START="{word}"', f"START is an address such as 0xFC00, '$FC00' or 64512: {word}\n")
+      for word in ("here", "FC00", "000", "0xFC00h", "0x12345", "65536", "it's", "-1", "1+1"))))
 def test_refuses(repair, words, said):
     assert said in repair(words, 2)
     assert sorted(os.listdir()) == ["examples", "names", "programs", "sum.bin"]
