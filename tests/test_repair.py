@@ -6,7 +6,9 @@ import kills
 from conftest import MADE, ROOT, Program, holds, read, write
 
 SUM = bytes.fromhex("A9 02 18 69 14 85 20 A9 20 69 00 85 21 A0 00 B1 20 8D 00 04 60 01 02 03")
-GLOBAL = 'GLOBAL { INPUTNAME "sum.bin"; STARTADDR $2000; };\n'
+GLOBAL = '# plain image\nGLOBAL { INPUTNAME "sum.bin"; INPUTOFFS 0; INPUTSIZE 24; STARTADDR $2000; };\n'
+OPENED = "sum.bin: plain image, 1 part\nsum  24 bytes at $2000  sum.info\n"
+GUESSED = "guessed: nothing says where it lies\n"
 FOUND = 'LABEL { ADDR $2014; NAME "L2014"; };\n#: HALVES { LOW $2004; HIGH $2008; }; # $200F reads $2016\n'
 TABLE = "RANGE { START $2015; END $2017; TYPE ByteTable; };\n"
 FIRST = 'LABEL { ADDR $2000; NAME "first"; };\n'
@@ -56,7 +58,7 @@ def times():
 
 
 def test_the_first_time(repair):
-    assert repair() == ""
+    assert repair() == OPENED
     holds("sum.info", GLOBAL)
     holds("sum.out", SUM)
     assert b"adc     #$14" in read("sum.s") and b"adc     #$14" in read("sum.html")
@@ -66,21 +68,149 @@ def test_the_first_time(repair):
 
 
 def test_an_image_that_ends_at_ffff(repair):
-    repair("IMAGE=sum.bin")
-    holds("sum.info", GLOBAL.replace("$2000", "$FFE8"))
+    """Nothing says so, and that is said."""
+    assert repair("IMAGE=sum.bin") == OPENED.replace("2000", "FFE8") + GUESSED
+    made = GLOBAL.replace("$2000", "$FFE8").replace("image\n", f"image\n# {GUESSED}")
+    assert read("sum.info").decode().startswith(made)
+    assert repair("IMAGE=sum.bin") == ""
 
 
 def test_a_program_with_its_load_address(repair):
-    """The first two bytes of a .prg are its address. What its line of BASIC calls is code."""
+    """The first two bytes of a .prg are its address, and stand before its bytes in game.new. What its line of BASIC
+    calls is code. The names of the machine that it uses are in the listing."""
     image = bytes.fromhex("0B 08 0A 00 9E 32 30 36 31 00 00 00 A9 41 20 D2 FF 60")
     write("game.prg", b"\x01\x08" + image)
-    assert repair("IMAGE=game.prg") == ""
-    holds("game.info", 'GLOBAL { INPUTNAME "game.prg"; INPUTOFFS 2; STARTADDR $0801; };\n')
+    said = repair("IMAGE=game.prg")
+    assert said.startswith("game.prg: Commodore program, 1 part\ngame  18 bytes at $0801  game.info\n")
+    groups = 'INPUTNAME "game.prg"; INPUTOFFS 2; INPUTSIZE 18; STARTADDR $0801;'
+    assert groups in read("game.info").decode() and b'/names/c64.inc"' in read("game.info")
     holds("game.out", image)
-    assert b"lda     #$41" in read("game.s")
+    holds("game.new", b"\x01\x08" + image)
+    assert b"lda     #$41\n        jsr     CHROUT" in read("game.s") and read("game.s").count(b":=") == 1
+    edit("game.s", "#$41", "#$42\n        nop")
+    repair("IMAGE=game.prg")
+    holds("game.new", b"\x01\x08" + image.replace(b"A\x20", b"B\xea\x20"))
     os.remove("game.info")
     repair("IMAGE=game.prg START=0x0901 game.info")
-    holds("game.info", 'GLOBAL { INPUTNAME "game.prg"; INPUTOFFS 2; STARTADDR $0901; };\n')
+    assert groups.replace("0801", "0901") in read("game.info").decode()
+
+
+BANKS = [bytes.fromhex(code).ljust(16384, b"\xff") for code in ("A9 01 60", "A9 02 60", "A9 03 60")]
+FIXED = bytes.fromhex("78 D8 AD 00 80 8D 00 C0 4C 08 C0 40").ljust(16378, b"\xff") + bytes.fromhex("0B C0 00 C0 0B C0")
+NES = b"NES\x1a\x04\x00\x20\x00" + bytes(8) + b"".join(BANKS) + FIXED
+LIST = ["game.nes: NES, mapper 2, 4 parts"] + [
+    f"bank{k}  16,384 bytes at ${at}  game_bank{k}.info" for k, at in enumerate(("8000", "8000", "8000", "C000"))]
+BANK_SAYS = "game_bank1.s is edited: it is the source, and is not written again\n"
+
+
+def with_bank_edited(repair):
+    """The same game with another number in its second bank, after a run that made all, and the edit."""
+    write("game.nes", NES)
+    assert [line for line in repair("IMAGE=game.nes").splitlines() if "guessed" not in line] == LIST
+    edit("game_bank1.s", "#$02", "#$05")
+    return NES.replace(b"\xa9\x02", b"\xa9\x05")
+
+
+def test_a_container_of_several_parts(repair):
+    """Each has its files. The new container has the bytes of all."""
+    edited = with_bank_edited(repair)
+    holds("game.new", NES)
+    for number, bank in enumerate([*BANKS, FIXED]):
+        holds(f"game_bank{number}.out", bank)
+        assert b"</html>" in read(f"game_bank{number}.html")
+    assert b"jmp     LC008" in read("game_bank3.s") and b".segment \"VECTORS\"" in read("game_bank3.s")
+    difference = "bank1: $8001: 02 -> 05, line 5: lda     #$05\n"
+    assert re.sub("line .:", "line 5:", repair("IMAGE=game.nes")) == BANK_SAYS + difference
+    holds("game.new", edited)
+    holds("game_bank1.out", edited[16400:32784])
+
+
+def test_one_part_of_a_container(repair):
+    """Nothing is made of the others, whose bytes go into the new container as they were made last."""
+    edited = with_bank_edited(repair)
+    repair("IMAGE=game.nes")
+    edit("game_bank0.s", "#$01", "#$06")
+    edit("game_bank2.s", "#$03", "#$07")
+    assert repair("IMAGE=game.nes PART=bank0").count("is edited") == 1
+    holds("game.new", edited.replace(b"\xa9\x01", b"\xa9\x06"))
+    repair("IMAGE=game.nes PART='game_bank2 bank0'")
+    holds("game.new", edited.replace(b"\xa9\x01", b"\xa9\x06").replace(b"\xa9\x03", b"\xa9\x07"))
+    said = repair("IMAGE=game.nes PART=bank4", 2)
+    assert "there is no part bank4 in game.nes: it has bank0 bank1 bank2 bank3\n" in said
+
+
+def test_only_one_part_at_first(repair):
+    write("game.nes", NES)
+    repair("IMAGE=game.nes PART=bank3 moves")
+    holds("game.new", NES)
+    assert not [name for name in os.listdir() if re.match(r"game_bank[012]", name)]
+
+
+def test_a_part_that_has_no_room(repair):
+    """A bank can't grow: the message says so, and the container that was put back stays."""
+    edited = with_bank_edited(repair)
+    repair("IMAGE=game.nes")
+    edit("game_bank0.s", "        rts\n", "        rts\n        nop\n")
+    assert "16385" in repair("IMAGE=game.nes", 2).replace(",", "")
+    holds("game.new", edited)
+
+
+@pytest.mark.parametrize("name", (*(f"game_bank1.{end}" for end in ("traced.info", "s", "html", "out")), "game.new"))
+def test_what_was_edited_of_a_part_stays(repair, name):
+    with_bank_edited(repair)
+    write(name, "my own\n")
+    repair("IMAGE=game.nes", 2)
+    holds(name, "my own\n")
+
+
+def test_blocks_of_an_executable(repair):
+    """Each block of an Atari's executable is a part. If one grows, its header says so in the new file."""
+    first, second = bytes.fromhex("A9 0E 8D C8 02 60"), bytes.fromhex("20 00 20 60")
+    header = bytes.fromhex("FF FF 00 20 05 20")
+    rest = bytes.fromhex("00 40 03 40") + second + bytes.fromhex("E0 02 E1 02 00 40")
+    write("colour.xex", header + first + rest)
+    said = repair("IMAGE=colour.xex MACHINE=none")
+    assert re.search(r"6 bytes at \$2000  colour_(\w+).info\n", said) and "4 bytes at $4000" in said
+    holds("colour.new", header + first + rest)
+    name = re.search(r"6 bytes at \$2000  colour_(\w+).info\n", said)[1]
+    assert b"ASMINC" not in read(f"colour_{name}.info") and b"sta     $02C8" in read(f"colour_{name}.s")
+    edit(f"colour_{name}.s", "        rts", "        nop\n        rts")
+    repair("IMAGE=colour.xex MACHINE=none")
+    holds("colour.new", header[:-2] + b"\x06\x20" + first[:-1] + b"\xea\x60" + rest)
+
+
+def test_bytes_that_do_not_lie_in_one_piece(repair):
+    """Those of a HEX file are written to a file of their own, which is no file to edit."""
+    def record(address, data):
+        line = bytes([len(data)]) + address.to_bytes(2, "big") + b"\0" + data
+        return f":{(line + bytes([-sum(line) % 256])).hex().upper()}\n"
+    text = record(0x2000, SUM[:16]) + record(0x2010, SUM[16:]) + ":00000001FF\n"
+    write("sum.hex", text)
+    assert repair("IMAGE=sum.hex").startswith("sum.hex: ") and b'INPUTNAME "sum.bin"' in read("sum.info")
+    holds("sum.bin", SUM)
+    assert read("sum.new").decode().upper().split() == text.split()
+    edit("sum.s", "#$02", "#$03")
+    assert repair("IMAGE=sum.hex") == SAYS + "$2001: 02 -> 03, line 5: lda     #$03\n"
+    assert read("sum.new").decode().upper().split() == text.replace(
+        record(0x2000, SUM[:16]), record(0x2000, b"\xa9\x03" + SUM[2:16])).split()
+    write("sum.bin", SUM[::-1])
+    assert "sum.bin is not as it was made, and stays: take it away\n" in repair("IMAGE=sum.hex", 2)
+    holds("sum.bin", SUM[::-1])
+
+
+def test_a_start_for_a_container(repair):
+    write("game.nes", NES)
+    said = repair("IMAGE=game.nes START=0x4000", 2)
+    assert "START is the address of a plain image, and game.nes says its own\n" in said
+    assert not [name for name in os.listdir() if name.startswith("game") and name != "game.nes"]
+
+
+def test_other_options_of_open65(repair):
+    """A dump is opened as banks of a size."""
+    said = repair("IMAGE=sum.bin OPEN='--bank-size 12'")
+    assert "bank0  12 bytes at $" in said and "bank1  12 bytes at $" in said and "guessed: " in said
+    holds("sum_bank1.out", SUM[12:])
+    holds("sum.new", SUM)
 
 
 def test_programs_by_what_their_names_begin_with(repair):
@@ -177,7 +307,7 @@ def test_a_faulty_information_file(repair):
     repair()
     before = {name: read(name) for name in PARTS[1:]}
     edit("sum.info", "$2000", "2000h")
-    assert "trace65: info:1: bad number\n" in repair(status=2)
+    assert "trace65: info:2: bad number\n" in repair(status=2)
     assert before == {name: read(name) for name in PARTS[1:]}
 
 
@@ -294,7 +424,8 @@ def test_an_image_with_the_name_of(repair, name):
     os.rename("sum.bin", name)
     made = name.removesuffix(".bin")
     said = repair(f"IMAGE={name} START=0x2000 moves", timeout=60)
-    assert said == f"round 1: 2 lines more in {made}.info\n# 11 of 11 instructions have run in both\n"
+    opened = f"{name}: plain image, 1 part\n{made}  24 bytes at $2000  {made}.info\n"
+    assert said == f"{opened}round 1: 2 lines more in {made}.info\n# 11 of 11 instructions have run in both\n"
     assert repair(f"IMAGE={name} all", timeout=60) == ""
     holds(made + ".out", SUM)
     holds(name, SUM)
@@ -317,7 +448,7 @@ def test_a_start_in_a_makefile(repair, word):
     address = word.strip("'").replace("$FC", "$$FC").replace("$$$", "$$")
     write("Makefile", f"IMAGE := sum.bin\nBASE = {address}\nSTART = $(BASE)\nPROGRAMS := programs\n"
           f"include {ROOT}/share/repair.mk\n")
-    Program("make")("sum.info", 0, "", None)
+    Program("make")("sum.info", 0, OPENED.replace("2000", "FC00"), None)
     holds("sum.info", GLOBAL.replace("$2000", "$FC00"))
 
 
