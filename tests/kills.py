@@ -1,11 +1,13 @@
 """Ends share/repair.mk at random moments, while a person saves the listing, the information file, or both; and runs it
-twice at once. No line that was saved may be lost, no file may be half made, and the next run has to end well.
+twice at once, on an image and on a container of it. No line that was saved may be lost, no file may be half made, and
+the next run has to end well.
 
 Usage: python3 tests/kills.py PROGRAMS [KILLS [PAIRS [SEED [REPAIR_MK]]]]"""
 import os, pathlib, random, shutil, signal, subprocess, sys, tempfile, time
 
 MAKEFILE = pathlib.Path(__file__).resolve().parent.parent / "share/repair.mk"
 IMAGE = bytes.fromhex("A9 02 18 69 14 85 20 A9 20 69 00 85 21 A0 00 B1 20 8D 00 04 60 01 02 03")
+HEX = b":10200000A9021869148520A92069008521A000B1C2\n:08201000208D000460010203B1\n:00000001FF\n"
 SIGNALS = signal.SIGINT, signal.SIGTERM, signal.SIGHUP, signal.SIGKILL
 LABEL = b'LABEL { ADDR $2000; NAME "first"; };\n'
 COMMENTS = {"sum.s": ";", "sum.info": "#"}
@@ -14,10 +16,11 @@ COMMENTS = {"sum.s": ";", "sum.info": "#"}
 class Repair:
     """A folder in which a repair has been made. Then its information file was edited, so a run makes all of it."""
 
-    def __init__(self, folder, programs, makefile=MAKEFILE):
+    def __init__(self, folder, programs, makefile=MAKEFILE, container=None):
         self.folder = pathlib.Path(folder)
-        self.words = "make", "-f", str(makefile), f"PROGRAMS={programs}", "IMAGE=sum.bin", "START=0x2000"
-        self.file("sum.bin").write_bytes(IMAGE)
+        image = ["IMAGE=sum.hex"] if container else ["IMAGE=sum.bin", "START=0x2000"]
+        self.words = "make", "-f", str(makefile), f"PROGRAMS={programs}", *image
+        self.file("sum.hex" if container else "sum.bin").write_bytes(container or IMAGE)
         self.run()
         self.file("sum.info").write_bytes(self.file("sum.info").read_bytes() + LABEL)
 
@@ -49,6 +52,8 @@ class Repair:
         assert "sum.s" in saved or self.file("sum.s").read_bytes().endswith(b"$03\n"), "the listing is no whole one"
         assert self.file("sum.out").read_bytes() == IMAGE, "the image is another one"
         assert self.file("sum.html").read_bytes().endswith(b"</html>\n"), "the page is no whole one"
+        if self.file("sum.hex").exists():
+            assert self.file("sum.new").read_bytes() == HEX and self.file("sum.bin").read_bytes() == IMAGE
 
     def check_after_run(self, saved):
         """A run to the end is well, and makes everything of what is there."""
@@ -105,14 +110,16 @@ def faults(programs, kills, pairs, seed, makefile=MAKEFILE):
     """What went wrong, a text each."""
     chance = random.Random(seed)
     with tempfile.TemporaryDirectory(prefix="kills65-", ignore_cleanup_errors=True) as folder:
-        os.mkdir(folder + "/made")
-        made, seconds = Repair(folder + "/made", programs, makefile), {}
+        made, seconds = [], {}
+        for container in None, HEX:
+            os.mkdir(f"{folder}/made{len(made)}")
+            made.append(Repair(f"{folder}/made{len(made)}", programs, makefile, container))
         for goal in "all", "moves":
             begun = time.monotonic()
-            made.copied(f"{folder}/{goal}").run(goal)
+            made[0].copied(f"{folder}/{goal}").run(goal)
             seconds[goal] = time.monotonic() - begun
         for number in range(kills + pairs):
-            repair = made.copied(f"{folder}/{number}")
+            repair = made[number % 2].copied(f"{folder}/{number}")
             try:
                 if number < kills:
                     goal = chance.choice(("all", "moves"))
