@@ -3,7 +3,8 @@
 #                    progress: on a terminal in one line, otherwise each minute (or each EVERY seconds).
 # make try           runs a program without proving anything, in three minutes: `make try IMAGE=my.bin START=0x8000` lists an image.
 #                    INFO is an information file, OUT the file for what is printed, and PROGRAM another of the programs; IMAGE is its
-#                    input. Without any of them, it lists an example. A word that is wrong is refused before anything is compiled.
+#                    input. Without START and INFO, open65 says where an image lies, and PART chooses one of several parts. Without any
+#                    of them, it lists an example. A word that is wrong is refused before anything is compiled.
 # make test          the merge gate: every proof from nothing, the edits that must fail, the tests and the stored runs; then pytest
 #                    on the programs that this built. Its last line is the result of `rt ci`.
 #                    CA65=skip leaves out what needs cc65, CC=skip what needs a C compiler, and BROWSER=skip what needs a browser.
@@ -102,7 +103,7 @@ endef
 $(foreach name,$(crates),$(eval $(call crate,$(name))))
 
 # The program sees copies of the input, of the information file and of the files that this one names: from the current folder, or beside it.
-# All words are looked at before the program is compiled.
+# All words are looked at before the program is compiled. If no word says where an image lies, open65 is compiled and asked first.
 define TRY
 fails() { echo "try: $$1" >&2; exit 1; }
 words=() data=()
@@ -117,10 +118,23 @@ if [ -n "$$START" ]; then
         fails "START is an address such as 0xFC00, '\$$FC00' or 64512: $$START"
     words+=(-S "$$start")
 fi
+[ -z "$$IMAGE" ] || [ -f "$$IMAGE" ] || fails "there is no file $$IMAGE"
+opened=
+if [ -n "$$IMAGE" ] && [ -z "$$START$$INFO" ] && [[ $$PROGRAM = @(da65|trace65) ]]; then
+    opened=$$(mktemp -d)
+    trap 'rm -r "$$opened"' EXIT
+    (image=$$(realpath -- "$$IMAGE"); cd crates/open65; rt try -- -d "$$opened" --machine none "$$image" </dev/null >"$$opened/lines")
+    sed 's/^/try: /' "$$opened/lines" >&2
+    chosen=$$(awk -F '  +' '$$3 ~ /\.info$$/ && (ENVIRON["PART"] == "" || $$1 == ENVIRON["PART"]) { print $$3; exit }' "$$opened/lines")
+    [ -n "$$chosen" ] || fails "there is no part $$PART in $$IMAGE"
+    [ "$$(grep -c '\.info\b' "$$opened/lines")" = 1 ] || [ -n "$$PART" ] || echo "try: $$chosen is listed: PART chooses another" >&2
+    IMAGE= INFO=$$opened/$$chosen
+fi
 if [ -n "$$INFO" ]; then
     [ -f "$$INFO" ] || fails "there is no file $$INFO"
     words+=(-i "$${INFO##*/}")
     while IFS='"' read -r _ name _; do
+        [[ $$name != /* ]] || [ ! -f "$$name" ] || continue
         file=$$name
         [ -f "$$file" ] || file=$$(dirname "$$INFO")/$$name
         [ -f "$$file" ] || fails "there is no file $$name, which $$INFO names"
@@ -130,14 +144,13 @@ if [ -n "$$INFO" ]; then
 fi
 [ -n "$$IMAGE$$INFO" ] || IMAGE=examples/three.bin
 if [ -n "$$IMAGE" ]; then
-    [ -f "$$IMAGE" ] || fails "there is no file $$IMAGE"
     words+=("$${IMAGE##*/}")
     give "$${IMAGE##*/}" "$$IMAGE"
 fi
 if [ -n "$$OUT" ]; then
     out=$$(realpath -m -- "$$OUT")
     exec >"$$out"
-    trap '[ -s "$$out" ] || rm -f "$$out"' EXIT
+    trap '[ -s "$$out" ] || rm -f "$$out"; [ -z "$$opened" ] || rm -r "$$opened"' EXIT
 fi
 [ "$$PROGRAM" != da65 ] || PROGRAM=da65_cli
 cd "crates/$$PROGRAM"
@@ -145,7 +158,7 @@ rt try "$${data[@]}" -- "$${words[@]}" </dev/null
 endef
 tried := $(subst da65_cli,da65,$(programs))
 PROGRAM ?= da65
-export TRY IMAGE INFO OUT PROGRAM
+export TRY IMAGE INFO OUT PROGRAM PART
 
 # START is taken as it was given: make would read `$F` as a variable.
 try:

@@ -60,7 +60,8 @@ is_free() { local sum; [ ! -e "$1" ] || { sum=$(sha256sum <"$1") && grep -qsF "$
 # place during the move has another name here, is checked once more, and moved back. A FILE from the future is made older first.
 swap() {
     local file status=1
-    file=$(realpath "$1") && beside=$(mktemp -d "${file%/*}/.repair.XXXXXX") && cp "$work/$1" "$beside/new" || exit
+    file=$(realpath "$1") && beside=$(mktemp -u "${file%/*}/.repair.XXXXXX") && mkdir -m 700 "$beside" || exit
+    cp "$work/$1" "$beside/new" || exit
     touch -r "$work/begun" "$beside/new"
     if [ -f "$file" ]; then
         ln "$file" "$beside/old" 2>/dev/null || : # some file systems have no links
@@ -235,7 +236,8 @@ flock -n 9 || { echo 'waiting for another run in this folder'; flock 9 || :; }
 work='' beside=''
 trap 'exit 1' HUP INT TERM # once what runs has ended, so that nothing is left
 trap 'trap "" HUP INT TERM; rm -rf "$work" "$beside"' EXIT # make sends the signal that it gets once more
-work=$(mktemp -d)
+work=$(mktemp -u -t repair.XXXXXX) # its name is known before it is made, so it is not left if this ends in between
+mkdir -m 700 "$work"
 touch "$work/begun"
 
 parts=() bases=() sizes=() starts=() todo=()

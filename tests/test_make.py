@@ -113,6 +113,18 @@ def test_before_any_proof(make, words, crate, shown):
         holds("out.s", shown + "\n")
 
 
+def test_open65_is_asked_first(make):
+    """If no word says where an image lies. Nothing of it is left."""
+    write("own.bin", "")
+    os.makedirs("crates/open65", exist_ok=True)
+    for words, name, last in (("", "one", "own_one.info is listed: PART chooses another"),
+                              ("PART=two", "two", "two  3 bytes at $2000  own_two.info  TITLE")):
+        make(f"-s try IMAGE=own.bin OUT={name}.s {words}", ["open65", "da65_cli"], last="try: " + last)
+        tried = re.fullmatch(r"try --data (\w+.info)=(\S+) -- -i (\w+.info)\n", read(name + ".s").decode())
+        assert tried[1] == tried[3] == f"own_{name}.info" and not os.path.exists(os.path.dirname(tried[2]))
+    make("-s try IMAGE=own.bin PART=three", ["open65"], 2, "try: there is no part three in own.bin")
+
+
 def test_nothing_is_tried(make, words, said):
     os.makedirs("beside")
     write("own.bin", "")
