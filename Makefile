@@ -9,6 +9,7 @@
 #                    on the programs that this built. Its last line is the result of `rt ci`.
 #                    CA65=skip leaves out what needs cc65, CC=skip what needs a C compiler, and BROWSER=skip what needs a browser.
 # make check         the same
+# make wrong         tries the wrong bodies of tests/wrong that were not tried on these sources, over what `make` has kept
 # make contracts     writes docs/contracts anew, after an intended change of public contracts
 # make manual        writes docs/da65.info.5 anew, after a change of docs/INFORMATION_FILE.md
 # make definitions   writes docs/DEFINITIONS.md anew, after a change of the comments at the head of definitions
@@ -32,7 +33,7 @@ SHELL := bash
 # Debian's pytest, which has its xdist.
 pytest = $(or $(shell command -v pytest-3),pytest)
 .SHELLFLAGS := -eu -o pipefail -c
-.PHONY: all kit try test check contracts manual definitions proofs speed install uninstall dist deb clean help
+.PHONY: all kit try test check wrong contracts manual definitions proofs speed install uninstall dist deb clean help
 
 # Crates that do not depend on each other are proved side by side, each with up to four jobs of its own; `make -j1` proves one at a time.
 ifeq ($(shell [ "$$(nproc)" -gt 1 ] && awk '/^MemTotal/ { exit $$2 < 12000000 }' /proc/meminfo && echo wide),wide)
@@ -181,6 +182,9 @@ test:
 	@tail -n 1 bin/gate.log
 
 check: test
+
+wrong:
+	@tests/wrong_bodies
 
 contracts:
 	python3 tests/lint --write contracts

@@ -1,6 +1,6 @@
 """What `make` does with the prover, for which tests/stand_ins/rt stands in; and that the gate needs ca65.
 Some rows are in tests/rows/make.txt."""
-import functools, os, re, shutil
+import functools, os, pathlib, re, shutil, sys
 import pytest
 from conftest import MADE, ROOT, Program, holds, read, write
 
@@ -48,8 +48,12 @@ def proved(tmp_path_factory):
         for part in "src", "specs", "proofs":
             os.makedirs(here / "checkout/crates" / crate.name / part)
         write(here / "checkout/crates" / crate.name / "src/lib.rt", "// one\n")
-    for name in "Makefile", "crates.txt", "HANDLES":
-        shutil.copy(ROOT / name, here / "checkout")
+    for name in "Makefile", "crates.txt", "HANDLES", "tests/wrong_bodies":
+        os.makedirs((here / "checkout" / name).parent, exist_ok=True)
+        shutil.copy(ROOT / name, here / "checkout" / name)
+    for name in "tests/lint", "tests/wrong", "docs/contracts":
+        ignored = shutil.ignore_patterns("__pycache__", "stamps.txt")
+        shutil.copytree(ROOT / name, here / "checkout" / name, ignore=ignored)
     run(here, "-s -j3", ALL)
     yield here
     shutil.rmtree(here)
@@ -159,6 +163,36 @@ def test_how_far_it_is(make, program, words, shown):
 def test_one_at_a_time(make):
     write("crates/text65/src/lib.rt", "// two\n")
     make("-s -j1", above("text65"), env={"WAITS": "0"})
+
+
+def test_wrong_bodies(make):
+    """`make wrong` tries those whose stamp is old, and lint fails while one is: after a change of its crate, of a
+    contract below, of the edit, or of the stamp. A comment ages none. What is not refused gets no stamp."""
+    bodies = sorted(str(path)[12:-5] for path in pathlib.Path("tests/wrong").rglob("*.edit"))
+
+    def tries(old, missed=""):
+        ran = Program(sys.executable).run("tests/lint stamps").gives(int(bool(old)), None, "")
+        assert sorted(re.findall("stamps: (.*): was not refused on these sources", ran.out.decode())) == old
+        last = f"{len(old) - bool(missed)} wrong bodies are refused"
+        last += f"; not refused, or changed meanwhile: {missed}" if missed else ""
+        edits = [f"crates/{body.replace('/', '/must-fail/')}.edit" for body in old]
+        make("-s wrong", edits, 2 if missed else 0, last, {"MISSED": missed})
+
+    tries(bodies, "as65/image_cut_short")
+    tries(["as65/image_cut_short"])
+    write("crates/as65/src/lib.rt", "// another comment\n")
+    tries([])
+    for file, crates in (("crates/as65/specs/Own.antt", "as65"), ("docs/contracts/reach65.txt", "trace65")):
+        write(file, "more\n")
+        tries([body for body in bodies if body.partition("/")[0] in crates.split()])
+    write("tests/wrong/as65/image_cut_short.edit", "old: other\n")
+    tries(["as65/image_cut_short"])
+    stamps = read("tests/wrong/stamps.txt").decode()
+    write("tests/wrong/stamps.txt", re.sub("(?m)(?<=^html65/unescaped_text_read_as_text )....", "0000", stamps))
+    tries(["html65/unescaped_text_read_as_text"])
+    assert read("tests/wrong/stamps.txt").decode() == stamps
+    make("html65", [f"crates/html65/must-fail/{path.name}" for path in pathlib.Path("tests/wrong/html65").iterdir()],
+         program="tests/wrong_bodies")
 
 
 def test_the_gate_without_ca65(folder, apt_get, ca65, status, said):

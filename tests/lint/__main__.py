@@ -1,6 +1,6 @@
 """Checks what can be seen of the tree without the prover, in a few seconds. CHECKS lists what has to hold.
 
-Usage: python3 tests/lint                    fails if one of these does not hold, and says what
+Usage: python3 tests/lint [CHECK..]          fails if one of these does not hold, and says what; all, or those that are named
        python3 tests/lint --write contracts  writes docs/contracts anew, `manual` the man page, `page` docs/DEFINITIONS.md,
                                              and `proofs` the tables of docs/PROOFS.md
 """
@@ -10,12 +10,13 @@ import sys
 sys.dont_write_bytecode = True
 
 import columns, contracts, edits, imports, manual, memory, moved_rows, page, pages, promises, proofs, readings, rows, scripts  # noqa: E401
-import words, worked_rows  # noqa: E401
+import stamps, words, worked_rows  # noqa: E401
 from source import LeftOut, Refused
 
 CHECKS = {
     contracts: "the public contracts are those of docs/contracts",
     edits: "each edit that must fail can be applied, and each wrong body has its edit or its test",
+    stamps: "each wrong body of tests/wrong was refused on these sources",
     memory: "every answer out of memory is made in a listed place",
     imports: "definitions are imported from the Words of their crate, and its types from Types",
     readings: "a listing and the meaning of a text share no definition but those listed",
@@ -47,10 +48,12 @@ def main(args):
         for name in args[1:]:
             print(*faults(WRITTEN[name], write=True), sep="\n")
         return 0
-    if args:
+    if not set(args) <= {check.__name__ for check in CHECKS}:
         return __doc__
     failed = False
     for check, holds in CHECKS.items():
+        if args and check.__name__ not in args:
+            continue
         try:
             found = faults(check)
         except LeftOut as reason:

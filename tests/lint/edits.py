@@ -18,8 +18,8 @@ WRONG_BODIES = {
         empty_cells""",
 }
 
-# Those that tests/wrong_bodies tries, by hand: as long as the clauses stand that docs/contracts keeps, they stay refused. Those of run65,
-# which has no contract, are not safe.
+# Those that `make wrong` tries, since each would cost the gate a check. Their stamps hold that they are refused on these sources (stamps.py).
+# Those of run65, which has no contract, are not safe.
 BY_HAND = {
     "map65": "failed_reader_is_at_its_end write_of_no_byte_accepted",
     "info65": "out_of_memory_past_a_mebibyte",
