@@ -171,6 +171,7 @@ test:
 	@$(pytest) -q -n auto tests/test_make.py
 	@echo 'Everything from nothing: docs/GATE.md says how long that takes. bin/gate.log keeps what the prover says.'
 	@rt ci 2>&1 | tee bin/gate.log
+	@tests/proof_cost
 	@cp crates/da65_cli/out/da65_cli bin/da65
 	@cp crates/as65/out/as65 bin/as65
 	@cp crates/trace65/out/trace65 bin/trace65

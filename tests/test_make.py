@@ -48,7 +48,7 @@ def proved(tmp_path_factory):
         for part in "src", "specs", "proofs":
             os.makedirs(here / "checkout/crates" / crate.name / part)
         write(here / "checkout/crates" / crate.name / "src/lib.rt", "// one\n")
-    for name in "Makefile", "crates.txt", "HANDLES", "tests/wrong_bodies":
+    for name in "Makefile", "crates.txt", "HANDLES", "tests/wrong_bodies", "tests/proof_cost":
         os.makedirs((here / "checkout" / name).parent, exist_ok=True)
         shutil.copy(ROOT / name, here / "checkout" / name)
     for name in "tests/lint", "tests/wrong", "docs/contracts":
@@ -193,6 +193,19 @@ def test_wrong_bodies(make):
     assert read("tests/wrong/stamps.txt").decode() == stamps
     make("html65", [f"crates/html65/must-fail/{path.name}" for path in pathlib.Path("tests/wrong/html65").iterdir()],
          program="tests/wrong_bodies")
+
+
+def test_proof_cost(make, lts, proof, most, status, said):
+    """What is kept of as65, in bytes, under a limit in MB. It counts until the crate changes."""
+    os.makedirs("crates/as65/out/incremental/antt")
+    for name, size in ("a.T.f.Lts", lts), ("a.fn.T.f.all.Lts", 0), ("a.fn.T.f.all.Proof-1", proof), ("a.T.Lts", 0):
+        os.truncate(write(f"crates/as65/out/incremental/antt/Rattle-as65-proofs.{name}.oantt", ""), size)
+    os.makedirs("tests/rows")
+    write("tests/rows/proof_cost.txt", f"[proof_cost] crate | megabytes\nas65 | {most}\n")
+    Program("tests/proof_cost").run("--over 0.5 as65").gives(status, said, "")
+    write("crates/as65/src/lib.rt", "// two\n")
+    left = "not measured, since nothing is kept of them or they have changed: as65\n"
+    Program("tests/proof_cost").run("as65").gives(0, left, "")
 
 
 def test_the_gate_without_ca65(folder, apt_get, ca65, status, said):

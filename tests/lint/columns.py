@@ -23,7 +23,7 @@ WIDER = {
 PAGE = 120
 WIDEST = {
     120: ("tests/*.py", "tests/stand_ins/*", "tests/run65.*", "*.md", "docs/*.md", "crates/*/src/**/*.rt", "crates/*/specs/**/*.antt"),
-    140: ("Makefile", ".ci/run", "release/*", "tests/corpus/*", "tests/shim.c"),
+    140: ("Makefile", ".ci/run", "release/*", "tests/proof_cost", "tests/wrong_bodies", "tests/corpus/*", "tests/shim.c"),
     80: ("docs/*.[15]",),
 }
 # What is no comment of code; what is shown word for word, in a page and in a man page; tables and headings of a page.
