@@ -1,6 +1,6 @@
 //! The routines of a page: whom each calls, and who calls it.
 
-use crate::markup::{Address, Link, Put, Result, put};
+use crate::markup::{Address, Link, Put, Result, Text, put};
 use crate::survey::{Named, Reference, Survey};
 use crate::tables::{TABLE_END, put_title};
 use crate::way::Way;
@@ -42,46 +42,39 @@ fn calls_with(calls: &[Call], key: (usize, bool)) -> &[Call] {
 }
 
 /// Appends the other ones of calls as links, after a text, if there are some.
-fn put_others(
-    out: &mut Vec<u8>,
-    survey: &Survey<'_, '_>,
-    calls: &[Call],
-    text: &str,
-) -> Result<()> {
+fn put_others(out: &mut Text, survey: &Survey<'_, '_>, calls: &[Call], text: &str) {
     put!(out; if calls.is_empty() { "" } else { text });
     for (_, _, other) in calls {
         if let Some(named) = survey.names.get(*other) {
             put!(out; " ", Link(named.line, named.definition.name));
         }
     }
-    Ok(())
 }
 
 /// Where a routine ends: where the next one begins, or its code.
-fn end_of(survey: &Survey<'_, '_>, routine: &Named<'_>, next: Option<&Named<'_>>) -> u64 {
-    let begin = routine.definition.value;
-    let end = survey.run_at(begin).map_or(begin, |run| run.end as u64);
-    let next = next.map_or(u64::MAX, |next| next.definition.value);
-    if begin < next { end.min(next) } else { end }
+fn end_of(survey: &Survey<'_, '_>, begin: u64, next: Option<&Named<'_>>) -> u64 {
+    let Some(run) = survey.run_at(begin) else {
+        return begin
+    };
+    match next {
+        Some(next) if begin < next.definition.value => next.definition.value.min(run.end as u64),
+        _ => run.end as u64,
+    }
 }
 
 /// Appends the routines: where each begins, how many bytes it has, whom it calls, and who calls it.
-pub fn put_routines(alloc: Global, out: &mut Vec<u8>, survey: &Survey<'_, '_>) -> Result<()> {
+pub fn put_routines(alloc: Global, out: &mut Text, survey: &Survey<'_, '_>) -> Result<()> {
     let calls = calls_of(alloc, survey)?;
-    put_title(out, 0, survey.routines.len())?;
+    put_title(out, 0, survey.routines.len());
     for (place, named) in survey.routines.iter().enumerate() {
         let begin = named.definition.value;
-        let end = end_of(survey, named, survey.routines.get(place.saturating_add(1)));
+        let end = end_of(survey, begin, survey.routines.get(place.saturating_add(1)));
         put!(out; ("<tr><td>$", Address(begin as usize)), ("<td>$", Address(end.saturating_sub(1) as usize)));
         put!(out; ("<td>", end.saturating_sub(begin) as usize), "<td>", Link(named.line, named.definition.name));
-        let own = calls_with(&calls, (named.place, false));
-        put_others(out, survey, own, CALLS)?;
-        let text = if own.is_empty() {
-            CALLED
-        } else {
-            "; called by"
-        };
-        put_others(out, survey, calls_with(&calls, (named.place, true)), text)?;
+        let to = calls_with(&calls, (named.place, false));
+        put_others(out, survey, to, CALLS);
+        let text = if to.is_empty() { CALLED } else { "; called by" };
+        put_others(out, survey, calls_with(&calls, (named.place, true)), text);
         put!(out; "\n");
     }
     put!(out; TABLE_END);

@@ -1,7 +1,7 @@
 //! The head of a page: its styles, the name of the listing, and how many bytes of each kind there are.
 
 use crate::kind::KINDS;
-use crate::markup::{Address, Put, Result, put};
+use crate::markup::{Address, Put, Text, put};
 use crate::request::Showing;
 use crate::survey::Survey;
 
@@ -50,7 +50,7 @@ const STYLES: &str = "</title>\n<style>\n\
 
 /// Appends what stands before the map: the name of the listing, its addresses, and how many bytes of each kind there
 /// are.
-pub fn put_head(out: &mut Vec<u8>, showing: &Showing, survey: &Survey<'_, '_>) -> Result<()> {
+pub fn put_head(out: &mut Text, showing: &Showing, survey: &Survey<'_, '_>) {
     let name = showing.names.listing.as_bytes();
     let start = usize::from(survey.start);
     let count = survey.bytes.len();
@@ -59,13 +59,12 @@ pub fn put_head(out: &mut Vec<u8>, showing: &Showing, survey: &Survey<'_, '_>) -
     let mut counts: [usize; 6] = [0; 6];
     for run in &survey.runs {
         let count = &mut counts[run.kind as usize];
-        *count = count.saturating_add(run.end.saturating_sub(run.at));
+        *count = count.saturating_add(run.len());
     }
-    for (kind, count) in KINDS.iter().zip(counts) {
-        if 0 < count {
-            put!(out; " <span class=\"", *kind, "\">", *kind, (" ", count), "</span>");
+    for kind in 0..6 {
+        if 0 < counts[kind] {
+            put!(out; " <span class=\"", KINDS[kind], "\">", KINDS[kind], (" ", counts[kind]), "</span>");
         }
     }
     put!(out; "</header>\n<main>\n<nav>\n");
-    Ok(())
 }

@@ -25,7 +25,8 @@ impl Kind {
     /// That of a line which gives these bytes, by its mnemonic or directive and what its first operand that is no
     /// number shows: a string that it is text, a name that they are addresses.
     pub fn of(word: Word, shown: Option<Kind>, bytes: &[u8]) -> Kind {
-        let is_same = bytes.iter().all(|byte| Some(byte) == bytes.first());
+        // All are equal if what is after the first begins as they do.
+        let is_same = matches!(bytes, [_, rest @ ..] if bytes.starts_with(rest));
         let of_numbers = match &word {
             b".res" | b".seg" => return Kind::Filler,
             b".byt" if is_same && FILLER <= bytes.len() => Kind::Filler,

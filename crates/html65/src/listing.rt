@@ -2,7 +2,7 @@
 
 use crate::kind::Kind;
 use crate::lines::Line;
-use crate::markup::{FOLD, FOLD_END, Link, LinkTo, Piece, Put, Result, digits_of, is_plain, put};
+use crate::markup::{Link, LinkTo, Piece, Put, Result, Text, add, digits_of, is_plain, put};
 use crate::pictures::{LEAST, put_pictures};
 use crate::survey::{Mark, Run, Shown, Survey, part_of};
 use crate::uses::put_references;
@@ -20,15 +20,15 @@ const PARTED: usize = 262_144;
 
 const PART: usize = 512;
 
-/// What stands before folded filler; how many bytes it has stands between.
-const FILLER: &str = "<i class=\"r\"><label><input type=\"checkbox\">";
+/// What stands before folded bytes, and after filler; how many bytes there are stands between.
+const FOLD: &str = "<i class=\"r\"><label><input type=\"checkbox\">";
 
 const FILLER_END: &str = " bytes of filler</label>\n</i><b class=\"f\">";
 
 /// Appends the address of a line and its first bytes, if it has bytes. The tab goes on where the text begins.
-fn put_left(out: &mut Vec<u8>, at: usize, bytes: &[u8]) -> Result<()> {
+fn put_left(out: &mut Text, at: usize, bytes: &[u8]) {
     if bytes.is_empty() {
-        return out.extend_from_slice(b"<i>\t</i>");
+        return add(out, b"<i>\t</i>");
     }
     let mut left = *b"<i id=\"a0000\">0000 00 00 00 00..\t</i>";
     let digits = digits_of(at);
@@ -43,70 +43,67 @@ fn put_left(out: &mut Vec<u8>, at: usize, bytes: &[u8]) -> Result<()> {
         }
     }
     if BYTES < bytes.len() {
-        return out.extend_from_slice(&left);
+        return add(out, &left);
     }
     let end = 18 + 3 * bytes.len();
     for (to, from) in left[end..].iter_mut().zip(b"\t</i>") {
         *to = *from;
     }
-    out.extend_from_slice(&left[..end + 5])
+    add(out, &left[..end + 5]);
 }
 
 /// Appends a part of the text of a line with its markup.
-fn put_mark(
-    out: &mut Vec<u8>,
-    survey: &Survey<'_, '_>,
-    mark: &Mark,
-    text: Piece<'_>,
-) -> Result<()> {
+fn put_mark(out: &mut Text, survey: &Survey<'_, '_>, mark: &Mark, text: Piece<'_>) {
     match mark.1 {
         Shown::Definition => put!(out; ("<b id=\"l", mark.0), "\">", text, "</b>"),
         Shown::Text => put!(out; "<span class=\"t\">", text, "</span>"),
         Shown::Remark => put!(out; "<span class=\"c\">", text, "</span>"),
         Shown::Name(place) => {
-            let named = survey.names.get(place);
-            put!(out; Link(named.map_or(0, |named| named.line), text));
+            if let Some(named) = survey.names.get(place) {
+                put!(out; Link(named.line, text));
+            }
         }
         Shown::Address(address) => put!(out; LinkTo(b'r', address, text)),
     }
-    Ok(())
 }
 
 /// Appends a line as it stands up to a byte, with the first of these marks. Returns those that stand on later lines.
 fn put_line<'m>(
-    out: &mut Vec<u8>,
+    out: &mut Text,
     survey: &Survey<'_, '_>,
     (line, end): (Line<'_>, usize),
     marks: &'m [Mark],
-) -> Result<&'m [Mark]> {
+) -> &'m [Mark] {
     if line.text.is_empty() {
         put!(out; part_of(line.whole, 0, end));
-        return Ok(marks);
+        return marks;
     }
     let is_plain = is_plain(line.whole);
-    let own = marks.iter().take_while(|mark| mark.0 == line.number);
-    let count = own.count();
-    let own = marks.get(..count).unwrap_or(&[]);
-    put_left(out, line.at, survey.between(line.at, line.end))?;
+    put_left(out, line.at, survey.between(line.at, line.end));
     let mut from = 0;
-    for mark in own {
-        let span = mark.2;
+    let mut count: usize = 0;
+    for mark in marks {
+        let Mark(number, _, span) = *mark;
+        if number != line.number {
+            break;
+        }
         put!(out; Piece(part_of(line.text, from, span.from), is_plain));
         let text = Piece(part_of(line.text, span.from, span.to), is_plain);
-        put_mark(out, survey, mark, text)?;
+        put_mark(out, survey, mark, text);
         from = span.to;
+        count = count.saturating_add(1);
     }
     put!(out; Piece(part_of(line.whole, from, end), is_plain));
-    Ok(marks.get(count..).unwrap_or(&[]))
+    marks.get(count..).unwrap_or(&[])
 }
 
 /// Appends the bytes of a run as pictures, in what folds open above its first line.
-fn put_run(alloc: Global, out: &mut Vec<u8>, survey: &Survey<'_, '_>, run: &Run) -> Result<()> {
+fn put_run(alloc: Global, out: &mut Text, survey: &Survey<'_, '_>, run: &Run) -> Result<()> {
     let bytes = survey.between(run.at, run.end);
     if run.kind == Kind::Bytes && LEAST <= bytes.len() {
-        put!(out; "<i class=\"r\">", (FOLD, bytes.len()), " bytes as pixels<b>");
+        put!(out; (FOLD, bytes.len()), " bytes as pixels<b>");
         put_pictures(alloc, out, bytes)?;
-        put!(out; FOLD_END, "\n</i>");
+        put!(out; "</b></label>\n</i>");
     }
     Ok(())
 }
@@ -123,29 +120,27 @@ struct Holders {
 
 impl Holders {
     /// Begins what holds a line. A run may begin with it.
-    fn begin(&mut self, out: &mut Vec<u8>, line: usize, run: Option<&Run>) -> Result<()> {
+    fn begin(&mut self, out: &mut Text, line: usize, run: Option<&Run>) {
         if self.is_parted && line % PART == 1 && self.folded.is_none() {
             put!(out; if self.has_begun { "</b>" } else { "" }, "<b class=\"p\">");
             self.has_begun = true;
         }
-        match run {
-            Some(run) if run.kind == Kind::Filler && FOLDED <= run.last.saturating_sub(run.line) =>
-                {
-                    put!(out; (FILLER, run.end.saturating_sub(run.at)), FILLER_END);
-                    self.folded = Some(run.last);
-                }
-            _ => {}
+        if let Some(run) = run
+            && run.kind == Kind::Filler
+            && FOLDED <= run.last.saturating_sub(run.line)
+        {
+            put!(out; (FOLD, run.len()), FILLER_END);
+            self.folded = Some(run.last);
         }
-        Ok(())
     }
 }
 
 /// Appends the listing: above each name who refers to it, and above the first line of bytes these as pictures.
-pub fn put_listing(alloc: Global, out: &mut Vec<u8>, survey: &Survey<'_, '_>) -> Result<()> {
+pub fn put_listing(alloc: Global, out: &mut Text, survey: &Survey<'_, '_>) -> Result<()> {
     let mut line = Line::before(survey.text, survey.start);
     let mut marks = survey.marks.as_slice();
-    let mut names = survey.names.iter().peekable();
-    let mut runs = survey.runs.iter().peekable();
+    let mut names = survey.names.as_slice();
+    let mut runs = survey.runs.as_slice();
     let mut holders = Holders {
         is_parted: PARTED <= survey.text.len(),
         has_begun: false,
@@ -156,20 +151,27 @@ pub fn put_listing(alloc: Global, out: &mut Vec<u8>, survey: &Survey<'_, '_>) ->
     put!(out; "<pre id=\"listing\">", if is_feed_first { "<i></i>" } else { "" });
     for end in survey.ends {
         line = line.next(end);
-        let run = runs.next_if(|run| run.line == line.number);
-        holders.begin(out, line.number, run)?;
-        if let Some(named) = names.next_if(|named| named.line == line.number) {
-            put_references(out, survey, named)?;
+        let run = match runs {
+            [run, ..] if run.line == line.number => Some(run),
+            _ => None,
+        };
+        holders.begin(out, line.number, run);
+        if let [named, rest @ ..] = names
+            && named.line == line.number
+        {
+            put_references(out, survey, named);
+            names = rest;
         }
         if let Some(run) = run {
             put_run(alloc, out, survey, run)?;
+            runs = runs.get(1..).unwrap_or(&[]);
         }
-        if holders.folded == Some(line.number) {
-            marks = put_line(out, survey, (line, line.text.len()), marks)?;
-            put!(out; "</b>", part_of(line.whole, line.text.len(), line.whole.len()));
+        let is_last = holders.folded == Some(line.number);
+        let end = if is_last { line.text } else { line.whole }.len();
+        marks = put_line(out, survey, (line, end), marks);
+        if is_last {
+            put!(out; "</b>", part_of(line.whole, end, line.whole.len()));
             holders.folded = None;
-        } else {
-            marks = put_line(out, survey, (line, line.whole.len()), marks)?;
         }
     }
     put!(out; if holders.has_begun { "</b>" } else { "" }, "</pre>\n");

@@ -1,7 +1,7 @@
 //! The map of a page: the addresses of the image as rows of a picture.
 
 use crate::kind::{KINDS, Kind};
-use crate::markup::{Address, LinkTo, Page, Put, Result, put};
+use crate::markup::{Address, LinkTo, Page, Put, Result, Text, add, put};
 use crate::survey::{Run, Survey};
 use std::alloc::Global;
 
@@ -28,31 +28,29 @@ fn digits_of(number: usize) -> [u8; 3] {
 }
 
 /// Appends a line of a row: from where on, in which row, and how long. None of them has more than three digits.
-fn put_stretch(out: &mut Vec<u8>, from: usize, row: usize, len: usize) -> Result<()> {
+fn put_stretch(out: &mut Text, from: usize, row: usize, len: usize) {
     let ([a, b, c], [d, e, f], [g, h, i]) = (digits_of(from), digits_of(row), digits_of(len));
-    out.extend_from_slice(&[b'M', a, b, c, b' ', d, e, f, b'h', g, h, i])
+    add(out, &[b'M', a, b, c, b' ', d, e, f, b'h', g, h, i]);
 }
 
 impl Rows {
     /// Those of the runs. Up to 4 KiB are in rows of 64.
-    fn of(alloc: Global, runs: &[Run]) -> Result<Rows> {
-        let begin = runs.first().map_or(0, |run| run.at);
-        let end = runs.last().map_or(0, |run| run.end);
-        let is_small = end.saturating_sub(begin) <= 4096;
+    fn of(alloc: Global, survey: &Survey<'_, '_>) -> Result<Rows> {
+        let begin = usize::from(survey.start);
+        let end = begin.saturating_add(survey.bytes.len());
+        let is_small = survey.bytes.len() <= 4096;
         let wide: usize = if is_small { 64 } else { 256 };
         let above = begin / wide * wide;
         let count = end.saturating_sub(above).div_ceil(wide);
         let mut shown = Vec::new(alloc);
         shown.resize(count, 1)?;
-        for run in runs {
+        for run in &survey.runs {
             let first = run.at.saturating_sub(above).div_ceil(wide);
             let after = run.end.saturating_sub(above) / wide;
-            let more = first.saturating_add(1)..after;
-            if run.kind != Kind::Filler {
-                continue;
-            }
-            for row in more {
-                if let Some(one) = shown.get_mut(row) {
+            for row in first.saturating_add(1)..after {
+                if let Some(one) = shown.get_mut(row)
+                    && run.kind == Kind::Filler
+                {
                     *one = 0;
                 }
             }
@@ -67,11 +65,11 @@ impl Rows {
 
     /// How many rows the picture has.
     fn count(&self) -> usize {
-        self.shown.last().map_or(1, |row| row.saturating_add(1))
+        self.shown.last().copied().unwrap_or(0).saturating_add(1)
     }
 
     /// Appends a run as lines.
-    fn put(&self, out: &mut Vec<u8>, run: &Run) -> Result<()> {
+    fn put(&self, out: &mut Text, run: &Run) {
         let wide = self.wide.max(1);
         let at = run.at.saturating_sub(self.above);
         let end = run.end.saturating_sub(self.above);
@@ -82,66 +80,66 @@ impl Rows {
             let to = end.saturating_sub(begin).min(wide);
             let y = self.shown.get(row).copied().unwrap_or(0);
             if y != before {
-                put_stretch(out, from, y, to.saturating_sub(from))?;
+                put_stretch(out, from, y, to.saturating_sub(from));
             }
             before = y;
         }
-        Ok(())
+    }
+}
+
+/// Appends the label at an address, if there is one.
+fn put_label(out: &mut Text, survey: &Survey<'_, '_>, at: u64) {
+    let first = survey.by_value.partition_point(|one| one.0 < at);
+    for (value, place) in survey.by_value.get(first..).unwrap_or(&[]) {
+        if *value != at {
+            return;
+        }
+        if let Some(label) = survey.names.get(*place)
+            && !label.definition.constant
+        {
+            return put!(out; ": ", label.definition.name);
+        }
     }
 }
 
 /// Appends a run as a link to its first line, with its kind, its addresses, how many bytes it has if more than one, and
-/// the label at its first address, which is among these names by their values.
-fn put_run(out: &mut Vec<u8>, survey: &Survey<'_, '_>, rows: &Rows, run: &Run) -> Result<()> {
+/// the label at its first address.
+fn put_run(out: &mut Text, survey: &Survey<'_, '_>, rows: &Rows, run: &Run) {
     let (at, end, kind) = (run.at, run.end, KINDS[run.kind as usize]);
     put!(out; ("<a href=\"#a", Address(at)), "\" class=\"", kind, "\"><title>", kind, (" $", Address(at)));
-    let count = end.saturating_sub(at);
-    if 1 < count {
-        put!(out; (" to $", Address(end.saturating_sub(1))), (", ", count), " bytes");
+    if 1 < run.len() {
+        put!(out; (" to $", Address(end.saturating_sub(1))), (", ", run.len()), " bytes");
     }
-    let names = survey.by_value.as_slice();
-    let first = names.partition_point(|one| one.0 < at as u64);
-    let own = names.get(first..).unwrap_or(&[]).iter();
-    for (_, place) in own.take_while(|one| one.0 == at as u64) {
-        if let Some(label) = survey.names.get(*place)
-            && !label.definition.constant
-        {
-            put!(out; ": ", label.definition.name);
-            break;
-        }
-    }
+    put_label(out, survey, at as u64);
     put!(out; "</title><path d=\"");
-    rows.put(out, run)?;
+    rows.put(out, run);
     put!(out; "\"/></a>");
-    Ok(())
 }
 
 /// Appends the map: each run is a link, unless it has less than a sixteenth of a row of 256.
-pub fn put_map(alloc: Global, out: &mut Vec<u8>, survey: &Survey<'_, '_>) -> Result<()> {
-    let rows = Rows::of(alloc, &survey.runs)?;
+pub fn put_map(alloc: Global, out: &mut Text, survey: &Survey<'_, '_>) -> Result<()> {
+    let rows = Rows::of(alloc, survey)?;
     let count = rows.count();
     let height = count.saturating_mul((600 / count.max(1)).clamp(2, 10));
     let least = if rows.wide == 64 { 1 } else { 16 };
     put!(out; ("<svg width=\"", WIDTH), ("\" height=\"", height), ("\" viewBox=\"0 -.5 ", rows.wide), (" ", count));
     put!(out; "\" preserveAspectRatio=\"none\" role=\"group\" aria-label=\"map\">\n");
-    let len_of = |run: &Run| run.end.saturating_sub(run.at);
     for (place, kind) in KINDS.iter().enumerate() {
         let mut has_some = false;
         for run in &survey.runs {
-            if run.kind as usize == place && len_of(run) < least {
-                put!(out; if has_some { "" } else { "<path class=\"" });
+            if run.kind as usize == place && run.len() < least {
                 if !has_some {
-                    put!(out; *kind, "\" d=\"");
+                    put!(out; "<path class=\"", *kind, "\" d=\"");
                 }
                 has_some = true;
-                rows.put(out, run)?;
+                rows.put(out, run);
             }
         }
         put!(out; if has_some { "\"/>\n" } else { "" });
     }
     for run in &survey.runs {
-        if least <= len_of(run) {
-            put_run(out, survey, &rows, run)?;
+        if least <= run.len() {
+            put_run(out, survey, &rows, run);
         }
     }
     put!(out; "\n</svg>\n");
@@ -149,11 +147,10 @@ pub fn put_map(alloc: Global, out: &mut Vec<u8>, survey: &Survey<'_, '_>) -> Res
 }
 
 /// Appends the pages of 256 bytes, each a link to the first line that has bytes of it.
-pub fn put_pages(out: &mut Vec<u8>, survey: &Survey<'_, '_>) -> Result<()> {
+pub fn put_pages(out: &mut Text, survey: &Survey<'_, '_>) {
     put!(out; "<p>Go to $");
     for (page, at) in survey.pages.iter().enumerate() {
         put!(out; " ", LinkTo(b'a', *at, Page(survey.first_page().saturating_add(page))));
     }
     put!(out; "; of $FC95 is <code>#aFC95</code> after the name of this page</p>\n");
-    Ok(())
 }

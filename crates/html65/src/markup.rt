@@ -2,11 +2,11 @@
 
 use std::alloc::AllocError;
 use std::simd::prelude::{SimdPartialEq, u8x16};
-use text65::{hex_digit, put_address, put_decimal};
+use text65::{hex_digit, put_decimal};
 
 /// Appends parts to a page, one after the other.
 macro_rules! put {
-    ($out:expr; $($part:expr),+) => {{ $(Put::put($part, $out)?;)+ }};
+    ($out:expr; $($part:expr),+) => {{ $(Put::put($part, $out);)+ }};
 }
 
 pub(crate) use put;
@@ -14,22 +14,30 @@ pub(crate) use put;
 /// What there is, unless an allocation is refused.
 pub type Result<T> = std::result::Result<T, AllocError>;
 
-/// What stands before what folds open, and after it. How many of what there are stands between, before a `<b>`.
-pub const FOLD: &str = "<label><input type=\"checkbox\">";
+/// The text of a page so far, unless an allocation was refused. It is asked once, at its end.
+pub type Text = Result<Vec<u8>>;
 
-pub const FOLD_END: &str = "</b></label>";
+/// Appends bytes as they stand.
+#[inline(always)]
+pub fn add(out: &mut Text, bytes: &[u8]) {
+    if let Ok(text) = out
+        && let Err(cause) = text.extend_from_slice(bytes)
+    {
+        *out = Err(cause);
+    }
+}
 
 /// What a page can be written with.
 pub trait Put {
     /// Appends it.
-    fn put(self, out: &mut Vec<u8>) -> Result<()>;
+    fn put(self, out: &mut Text);
 }
 
 /// Markup, as it stands.
 impl Put for &str {
     #[inline(always)]
-    fn put(self, out: &mut Vec<u8>) -> Result<()> {
-        out.extend_from_slice(self.as_bytes())
+    fn put(self, out: &mut Text) {
+        add(out, self.as_bytes());
     }
 }
 
@@ -61,9 +69,9 @@ pub fn is_plain(text: &[u8]) -> bool {
 
 /// A text of the listing, with entities.
 impl Put for &[u8] {
-    fn put(self, out: &mut Vec<u8>) -> Result<()> {
+    fn put(self, out: &mut Text) {
         if is_plain(self) {
-            return out.extend_from_slice(self);
+            return add(out, self);
         }
         for piece in self.split_inclusive(is_special) {
             let (text, entity) = match piece {
@@ -72,12 +80,11 @@ impl Put for &[u8] {
                 [text @ .., b'>'] => (text, "&gt;"),
                 [text @ .., b'\r'] => (text, "&#13;"),
                 [text @ .., 0] => (text, "&#0;"),
-                text => return out.extend_from_slice(text),
+                text => return add(out, text),
             };
-            out.extend_from_slice(text)?;
+            add(out, text);
             put!(out; entity);
         }
-        Ok(())
     }
 }
 
@@ -87,19 +94,23 @@ pub struct Piece<'t>(pub &'t [u8], pub bool);
 
 impl Put for Piece<'_> {
     #[inline(always)]
-    fn put(self, out: &mut Vec<u8>) -> Result<()> {
+    fn put(self, out: &mut Text) {
         if self.1 {
-            return out.extend_from_slice(self.0);
+            return add(out, self.0);
         }
-        self.0.put(out)
+        self.0.put(out);
     }
 }
 
 /// Markup, and a number in decimal after it.
 impl Put for (&str, usize) {
     #[inline(always)]
-    fn put(self, out: &mut Vec<u8>) -> Result<()> {
-        put_decimal(out, self.0.as_bytes(), self.1)
+    fn put(self, out: &mut Text) {
+        if let Ok(text) = out
+            && let Err(cause) = put_decimal(text, self.0.as_bytes(), self.1)
+        {
+            *out = Err(cause);
+        }
     }
 }
 
@@ -109,8 +120,9 @@ pub struct Address(pub usize);
 
 /// Markup, and an address after it.
 impl Put for (&str, Address) {
-    fn put(self, out: &mut Vec<u8>) -> Result<()> {
-        put_address(out, self.0.as_bytes(), self.1.0)
+    fn put(self, out: &mut Text) {
+        put!(out; self.0);
+        add(out, &digits_of(self.1.0));
     }
 }
 
@@ -129,12 +141,9 @@ pub fn digits_of(address: usize) -> [u8; 4] {
 pub struct Page(pub usize);
 
 impl Put for Page {
-    fn put(self, out: &mut Vec<u8>) -> Result<()> {
-        let digits = [
-            hex_digit((self.0 / 16 % 16) as u8),
-            hex_digit((self.0 % 16) as u8),
-        ];
-        out.extend_from_slice(&digits)
+    fn put(self, out: &mut Text) {
+        let [_, _, high, low] = digits_of(self.0);
+        add(out, &[high, low]);
     }
 }
 
@@ -143,9 +152,8 @@ impl Put for Page {
 pub struct Link<P>(pub usize, pub P);
 
 impl<P: Put + Drop> Put for Link<P> {
-    fn put(self, out: &mut Vec<u8>) -> Result<()> {
+    fn put(self, out: &mut Text) {
         put!(out; ("<a href=\"#l", self.0), "\">", self.1, "</a>");
-        Ok(())
     }
 }
 
@@ -154,15 +162,15 @@ impl<P: Put + Drop> Put for Link<P> {
 pub struct LinkTo<P>(pub u8, pub usize, pub P);
 
 impl<P: Put + Drop> Put for LinkTo<P> {
-    fn put(self, out: &mut Vec<u8>) -> Result<()> {
+    fn put(self, out: &mut Text) {
         let mut tag = *b"<a href=\"#a0000\">";
         tag[10] = self.0;
-        for (to, digit) in tag[11..15].iter_mut().zip(digits_of(self.1)) {
-            *to = digit;
+        let digits = digits_of(self.1);
+        for place in 0..4 {
+            tag[11 + place] = digits[place];
         }
-        out.extend_from_slice(&tag)?;
+        add(out, &tag);
         put!(out; self.2, "</a>");
-        Ok(())
     }
 }
 
@@ -171,10 +179,9 @@ impl<P: Put + Drop> Put for LinkTo<P> {
 pub struct Quoted<'t>(pub &'t [u8]);
 
 impl Put for Quoted<'_> {
-    fn put(self, out: &mut Vec<u8>) -> Result<()> {
+    fn put(self, out: &mut Text) {
         for (place, part) in self.0.split(|byte: &u8| *byte == b'"').enumerate() {
             put!(out; if 0 < place { "&quot;" } else { "" }, part);
         }
-        Ok(())
     }
 }

@@ -12,6 +12,7 @@ use crate::faults::{Fault, fault_in};
 use crate::head::put_head;
 use crate::listing::put_listing;
 use crate::map::{put_map, put_pages};
+use crate::markup::{Put, put};
 use crate::request::Showing;
 use crate::survey::Survey;
 use crate::tables::{LINKS, put_groups, put_lists};
@@ -26,18 +27,18 @@ fn page_with(
     survey: &Survey<'_, '_>,
 ) -> Result<Vec<u8>, AllocError> {
     let room = survey.bytes.len().saturating_mul(100);
-    let mut out = Vec::with_capacity(alloc, room.saturating_add(survey.text.len()))?;
-    put_head(&mut out, showing, survey)?;
-    put_pages(&mut out, survey)?;
-    out.extend_from_slice(LINKS.as_bytes())?;
+    let mut out = Ok(Vec::with_capacity(alloc, room.saturating_add(survey.text.len()))?);
+    put_head(&mut out, showing, survey);
+    put_pages(&mut out, survey);
+    put!(&mut out; LINKS);
     put_map(alloc, &mut out, survey)?;
     put_routines(alloc, &mut out, survey)?;
-    put_lists(&mut out, survey)?;
-    put_groups(&mut out, survey)?;
-    out.extend_from_slice(b"</nav>\n")?;
+    put_lists(&mut out, survey);
+    put_groups(&mut out, survey);
+    put!(&mut out; "</nav>\n");
     put_listing(alloc, &mut out, survey)?;
-    out.extend_from_slice(b"</main>\n</body>\n</html>\n")?;
-    Ok(out)
+    put!(&mut out; "</main>\n</body>\n</html>\n");
+    out
 }
 
 /// A page of a listing that assembles so. What it was made of is not kept.

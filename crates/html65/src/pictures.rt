@@ -1,6 +1,6 @@
 //! Bytes as pixels of one bit: pictures in the format BMP, each in a `data:` address.
 
-use crate::markup::{Put, Result, put};
+use crate::markup::{Put, Result, Text, put};
 use base64::engine::general_purpose::STANDARD;
 use std::alloc::Global;
 
@@ -81,7 +81,7 @@ fn put_numbers(out: &mut Vec<u8>, numbers: &[usize]) -> Result<()> {
 }
 
 /// Appends bytes as pictures. A pixel is shown two wide and two high.
-pub fn put_pictures(alloc: Global, out: &mut Vec<u8>, bytes: &[u8]) -> Result<()> {
+pub fn put_pictures(alloc: Global, out: &mut Text, bytes: &[u8]) -> Result<()> {
     for layout in LAYOUTS {
         let (wide, high) = layout.size(bytes.len());
         let text = STANDARD.encode(alloc, &layout.bitmap(alloc, bytes)?)?;

@@ -1,7 +1,7 @@
 //! How a line refers to a name or an address.
 
 /// How a line refers to a name or an address, in the order in which a page shows them.
-#[derive(Clone, Copy, PartialEq, Eq, PartialOrd, Ord)]
+#[derive(Clone, Copy, PartialEq, Eq)]
 pub enum Way {
     /// By `jsr`.
     Call,
