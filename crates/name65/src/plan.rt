@@ -26,10 +26,9 @@ pub struct PlacedLine<'w, 't> {
     pub end: u64,
 }
 
-/// The lines of a text as they become, those that stand after the last one, and the line that is being changed.
+/// The lines of a text as they become, and those that stand after the last one.
 #[derive(Drop)]
 pub struct NewText {
     pub lines: Vec<u8>,
     pub tail: Vec<u8>,
-    pub change: Vec<u8>,
 }

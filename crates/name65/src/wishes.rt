@@ -85,9 +85,10 @@ impl<'g, 't> TagGroup<'g, 't> {
 
     /// The address this many bytes after one, if there is one.
     fn place(self, address: Option<u16>, count: u16) -> Result<Option<u16>, Refusal> {
-        address
-            .map(|address| self.later(address, count))
-            .transpose()
+        match address {
+            Some(address) => Ok(Some(self.later(address, count)?)),
+            None => Ok(None),
+        }
     }
 
     /// The name of an address.
@@ -138,7 +139,12 @@ impl<'g, 't> TagGroup<'g, 't> {
     /// Whether this is a table of return addresses: one of its addresses has to be written by the name of the next
     /// one.
     fn are_returns(self, count: u16) -> bool {
-        1 < count && (0..count).any(|place| self.counts(place) && self.is_return(place))
+        for place in 0..count {
+            if 1 < count && self.counts(place) && self.is_return(place) {
+                return true;
+            }
+        }
+        false
     }
 }
 
@@ -201,8 +207,10 @@ impl<'t> Wishes<'t> {
         let low = group.place(group.tag.low, place)?;
         let high = group.place(group.tag.high, place)?;
         if group.tag.address.is_none() {
-            for at in [low, high].into_iter().flatten() {
-                group.byte(at)?;
+            for at in [low, high] {
+                if let Some(at) = at {
+                    group.byte(at)?;
+                }
             }
         }
         let Some(address) = group.pair_address(place) else {
@@ -268,6 +276,11 @@ impl<'t> Wishes<'t> {
 
     /// Whether something is wished of one of the bytes from an address to before another.
     pub fn has_one(&self, at: u64, end: u64) -> bool {
-        (at..end).any(|address| self.by_address.has(address))
+        for address in at..end {
+            if self.by_address.has(address) {
+                return true;
+            }
+        }
+        false
     }
 }
