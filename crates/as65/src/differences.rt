@@ -130,16 +130,14 @@ fn change_lines(
     Ok(out)
 }
 
-/// What differs in a listing of which labels have moved, apart from what has only moved with them. If that is not
-/// clear, all that differs.
-fn moved_differences(
+/// What a listing and an image have from one of these labels, or the START of a segment that is entered, to the next.
+fn parts_by(
     alloc: Global,
     image: &Image,
     listed: &Listed<'_, '_, '_, '_>,
     labels: &[Label],
-) -> Result<Vec<u8>, AllocError> {
+) -> Result<Vec<Part>, AllocError> {
     let source = listed.assembled().source();
-    let lines = placed_lines(alloc, source, listed.ends())?;
     let mut places = Places::new(alloc, image)?;
     for label in labels {
         places.add(label.at, label.named)?;
@@ -150,11 +148,23 @@ fn moved_differences(
             break;
         };
         if let Some(start) = start_entered(alloc, source, text)? {
-            places.add(start, start)?;
+            places.add(u64::from(start), u64::from(start))?;
         }
         rest = after;
     }
-    let parts = places.parts(listed.assembled().bytes().len())?;
+    places.parts(listed.bytes().len())
+}
+
+/// What differs in a listing of which labels have moved, apart from what has only moved with them. If that is not
+/// clear, all that differs.
+fn moved_differences(
+    alloc: Global,
+    image: &Image,
+    listed: &Listed<'_, '_, '_, '_>,
+    labels: &[Label],
+) -> Result<Vec<u8>, AllocError> {
+    let lines = placed_lines(alloc, listed.assembled().source(), listed.ends())?;
+    let parts = parts_by(alloc, image, listed, labels)?;
     let scene = Scene {
         alloc,
         image,

@@ -48,6 +48,7 @@ use segments::need_segments;
 use sizes::need_size;
 use status::{Ended, status_of};
 use std::process::ExitCode;
+use stmt65::Source;
 use usage65::{FileNames, Request, RequestFault, words_of};
 
 /// The image that the information file has by its INPUTNAME. The listing may not be the same stream.
@@ -80,33 +81,59 @@ fn start_in(rt: &HostRuntime, names: &FileNames, info: &Info) -> Result<u16, Fai
 fn len_in(rt: &HostRuntime, listing: &str, info: &Info) -> Result<Option<usize>, Failure> {
     match info.settings().size {
         Some(size) => Ok(Some(size as usize)),
-        None => Ok(named_image(rt, listing, info)?.map(|image| image.bytes().len())),
+        None => match named_image(rt, listing, info)? {
+            Some(image) => Ok(Some(image.bytes().len())),
+            None => Ok(None),
+        },
     }
+}
+
+/// Writes the names of a listing.
+fn write_names(
+    rt: &HostRuntime,
+    writing: &mut Writing,
+    source: &Source<'_, '_, '_>,
+    info: &Info,
+) -> Result<(), Failure> {
+    let name = writing.names.listing.as_str();
+    let text = names_in(rt.alloc(), source, name)?;
+    need_segments(rt.alloc(), source, name, info.segments())?;
+    let mut output = Output::create(rt, writing.names.output.take())?;
+    Ok(write_text(&mut output, &text)?)
+}
+
+/// Writes the bytes of a listing.
+fn write_bytes(
+    rt: &HostRuntime,
+    writing: &mut Writing,
+    source: &Source<'_, '_, '_>,
+    info: &Info,
+) -> Result<(), Failure> {
+    let name = writing.names.listing.as_str();
+    let assembled = Assembled::new(rt.alloc(), source, name)?;
+    need_bytes(rt.alloc(), &assembled, name)?;
+    need_segments(rt.alloc(), source, name, info.segments())?;
+    if writing.place.in_place {
+        need_in_place(rt.alloc(), &assembled, name)?;
+        need_size(rt.alloc(), &assembled, name, len_in(rt, name, info)?)?;
+    }
+    let mut output = Output::create(rt, writing.names.output.take())?;
+    Ok(assembled.write(&mut output)?)
 }
 
 /// Reads the listing, and writes its bytes or its names. The output may not be what the information file names either,
 /// and is created once they are there.
 fn write_listing(rt: &HostRuntime, writing: &mut Writing, info: &Info) -> Result<Ended, Failure> {
-    let names = &mut writing.names;
+    let names = &writing.names;
     keep_named(rt, names.output.as_deref(), info)?;
     let start = start_in(rt, names, info)?;
     let layout = layout_of(rt.alloc(), info.segments(), writing.place.fill)?;
-    let name = names.listing.as_str();
-    let text = read_listing(rt, name)?;
+    let text = read_listing(rt, names.listing.as_str())?;
     let source = repair(&layout, start, &text);
     if writing.labels {
-        let text = names_in(rt.alloc(), &source, name)?;
-        need_segments(rt.alloc(), &source, name, info.segments())?;
-        write_text(&mut Output::create(rt, names.output.take())?, &text)?;
+        write_names(rt, writing, &source, info)?;
     } else {
-        let assembled = Assembled::new(rt.alloc(), &source, name)?;
-        need_bytes(rt.alloc(), &assembled, name)?;
-        need_segments(rt.alloc(), &source, name, info.segments())?;
-        if writing.place.in_place {
-            need_in_place(rt.alloc(), &assembled, name)?;
-            need_size(rt.alloc(), &assembled, name, len_in(rt, name, info)?)?;
-        }
-        assembled.write(&mut Output::create(rt, names.output.take())?)?;
+        write_bytes(rt, writing, &source, info)?;
     }
     Ok(Ended::Done)
 }
