@@ -1,5 +1,5 @@
-# make               proves the programs, builds them into bin/ (da65, as65, trace65, name65, move65, html65), and lists an example. It
-#                    proves three crates at a time if there are two processors and 12 GB of memory, or as many as -j says. It prints its
+# make               proves the programs, builds them into bin/ (da65, as65, trace65, name65, move65, html65, open65), and lists an example.
+#                    It proves three crates at a time if there are two processors and 12 GB of memory, or as many as -j says. It prints its
 #                    progress: on a terminal in one line, otherwise each minute (or each EVERY seconds).
 # make try           runs a program without proving anything, in three minutes: `make try IMAGE=my.bin START=0x8000` lists an image.
 #                    INFO is an information file, OUT the file for what is printed, and PROGRAM another of the programs; IMAGE is its
@@ -40,7 +40,7 @@ ifeq ($(shell [ "$$(nproc)" -gt 1 ] && awk '/^MemTotal/ { exit $$2 < 12000000 }'
 MAKEFLAGS += -j3
 endif
 
-all: kit bin/da65 bin/as65 bin/trace65 bin/name65 bin/move65 bin/html65
+all: kit bin/da65 bin/as65 bin/trace65 bin/name65 bin/move65 bin/html65 bin/open65
 	bin/da65 examples/three.bin
 
 # The kits of the prover that have proved this version, or that of the last change of a contract.
@@ -52,7 +52,7 @@ kit:
 bin/da65: bin/made/da65_cli
 	@cp crates/da65_cli/out/da65_cli $@
 
-bin/as65 bin/trace65 bin/name65 bin/move65 bin/html65: bin/%: bin/made/%
+bin/as65 bin/trace65 bin/name65 bin/move65 bin/html65 bin/open65: bin/%: bin/made/%
 	@cp crates/$*/out/$* $@
 
 # Prints the progress of the crates that are being proved, from bin/made/CRATE.log. The first of them prints it for all, until it is
@@ -82,7 +82,7 @@ export PROGRESS
 # folder of its own, with links to its sources and to the libraries below. bin/da65 comes first: the crates that it does not stand on give
 # way, and the other programs wait for it.
 crates := $(shell sed -nE 's/^([a-z0-9_]+):.*/\1/p' crates.txt)
-programs := da65_cli as65 trace65 name65 move65 html65
+programs := da65_cli as65 trace65 name65 move65 html65 open65
 direct = $(filter $(crates),$(shell sed -nE 's/^$(1)://p' crates.txt))
 below = $(sort $(foreach name,$(call direct,$(1)),$(name) $(call below,$(name))))
 first := da65_cli $(call below,da65_cli)
@@ -178,6 +178,7 @@ test:
 	@cp crates/name65/out/name65 bin/name65
 	@cp crates/move65/out/move65 bin/move65
 	@cp crates/html65/out/html65 bin/html65
+	@cp crates/open65/out/open65 bin/open65
 	@$(pytest) -q -n auto --ignore tests/test_make.py tests
 	@grep 'left out: ' bin/lint.log || true
 	@tail -n 1 bin/gate.log
@@ -204,8 +205,8 @@ speed: $(patsubst %,bin/%,da65 as65 trace65 name65 html65)
 
 share := $(DESTDIR)$(PREFIX)/share
 
-install: bin/da65 bin/as65 bin/trace65 bin/name65 bin/move65 bin/html65
-	@for program in da65 as65 trace65 name65 move65 html65; do \
+install: bin/da65 bin/as65 bin/trace65 bin/name65 bin/move65 bin/html65 bin/open65
+	@for program in da65 as65 trace65 name65 move65 html65 open65; do \
 	    name='$(PROGRAM_PREFIX)'$$program; \
 	    install -D -m 755 bin/$$program "$(DESTDIR)$(PREFIX)/bin/$$name"; \
 	    install -D -m 644 docs/$$program.1 "$(share)/man/man1/$$name.1"; \
@@ -222,7 +223,7 @@ install: bin/da65 bin/as65 bin/trace65 bin/name65 bin/move65 bin/html65
 
 uninstall:
 	@for name in '$(PROGRAM_PREFIX)da65' '$(PROGRAM_PREFIX)as65' '$(PROGRAM_PREFIX)trace65' '$(PROGRAM_PREFIX)name65' \
-	    '$(PROGRAM_PREFIX)move65' '$(PROGRAM_PREFIX)html65'; do \
+	    '$(PROGRAM_PREFIX)move65' '$(PROGRAM_PREFIX)html65' '$(PROGRAM_PREFIX)open65'; do \
 	    rm -f "$(DESTDIR)$(PREFIX)/bin/$$name" "$(share)/man/man1/$$name.1" \
 	        "$(share)/bash-completion/completions/$$name" "$(share)/zsh/site-functions/_$$name"; \
 	done
