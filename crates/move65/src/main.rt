@@ -6,6 +6,7 @@
 //! written; 1 if something does; and otherwise 2.
 #![tactic(auto)]
 
+mod calls;
 mod command;
 mod failure;
 mod judge;
