@@ -68,13 +68,11 @@ fn start_in(rt: &HostRuntime, names: &FileNames, info: &Info) -> Result<u16, Fai
     if let Some(image) = named_image(rt, names.listing.as_str(), info)? {
         return Ok(image.start());
     }
-    match names.info.as_deref() {
-        Some(name) => {
-            let name = String::from_str(rt.alloc(), name)?;
-            Err(Failure::Own(Refused::NoStart(name)))
-        }
-        None => Err(Failure::Request(RequestFault::NoStart)),
-    }
+    let Some(name) = names.info.as_deref() else {
+        return Err(Failure::Request(RequestFault::NoStart));
+    };
+    let name = String::from_str(rt.alloc(), name)?;
+    Err(Failure::Own(Refused::NoStart(name)))
 }
 
 /// How many bytes the information file says that there are: INPUTSIZE, or those of its INPUTNAME.
@@ -158,10 +156,9 @@ fn compare_under(rt: &HostRuntime, comparing: &Comparing, info: &Info) -> Result
     let source = repair(&layout, image.start(), &text);
     let alloc = rt.alloc();
     let listed = Listed::new(&alloc, &source, name)?;
-    let assembled = listed.assembled();
-    need_bytes(alloc, assembled, name)?;
+    need_bytes(alloc, listed.assembled(), name)?;
     need_segments(alloc, &source, name, info.segments())?;
-    if info.settings().start.is_none() && image.bytes() != assembled.bytes() {
+    if info.settings().start.is_none() && image.bytes() != listed.bytes() {
         let named = named_start(alloc, &image, &listed)?;
         say_starts(rt, comparing.image.as_str(), image.start(), named)?;
     }
