@@ -138,23 +138,44 @@ fn are_put(
     Ok(are_put && (is_changed || before.file.0 == after.file.0))
 }
 
+/// The bytes of a file with this image of a part.
+fn put_image(
+    found: &Found<'_>,
+    bytes: &[u8],
+    index: usize,
+    image: &[u8],
+) -> Result<Vec<u8>, Failure> {
+    let before = found_in(found.alloc, Bytes(bytes), found.given);
+    with_image(&before, index, image)
+}
+
+/// Whether these bytes are read back as the file with the images.
+fn is_read_back(
+    found: &Found<'_>,
+    bytes: &[u8],
+    images: &[Option<Vec<u8>>],
+) -> Result<bool, Failure> {
+    let after = found_in(found.alloc, Bytes(bytes), found.given);
+    if after.lost {
+        return Err(Failure::Memory);
+    }
+    Ok(are_put(found, &after, images)?)
+}
+
 /// Returns the file with images in the place of some of its parts. It is read back: unless its parts are the images and
 /// the other parts, and all that is in no part stays, or follows from the parts, there is none. Without another image
 /// it is the file.
 pub fn with_images(found: &Found<'_>, images: &[Option<Vec<u8>>]) -> Result<Vec<u8>, Failure> {
-    let (alloc, given) = (found.alloc, found.given);
+    let alloc = found.alloc;
     let mut bytes = Vec::from_slice(alloc, found.file.0)?;
     for (index, image) in images.iter().enumerate() {
         if let Some(image) = image {
-            bytes = with_image(&found_in(alloc, Bytes(&bytes), given), index, image)?;
+            bytes = put_image(found, &bytes, index, image)?;
         }
     }
-    let after = found_in(alloc, Bytes(&bytes), given);
-    if after.lost {
-        return Err(Failure::Memory);
+    if is_read_back(found, &bytes, images)? {
+        return Ok(bytes);
     }
-    if !are_put(found, &after, images)? {
-        return Err(Failure::Own(Refused::Other(String::from_str(alloc, given.name)?)));
-    }
-    Ok(bytes)
+    let name = String::from_str(alloc, found.given.name)?;
+    Err(Failure::Own(Refused::Other(name)))
 }

@@ -55,16 +55,19 @@ fn put_tables(text: &mut Text, source: &Source<'_>) -> usize {
 
 /// Appends a range for each stretch of filler before an address.
 fn put_filler(text: &mut Text, source: &Source<'_>, limit: usize) {
-    let (mut begin, mut at) = (source.part.start, source.part.start);
-    let mut rest = source.image;
-    while let Some((byte, later)) = rest.split_first() {
-        rest = later;
-        at = at.saturating_add(1);
-        let (is_last, end) = (later.first() != Some(byte), at.min(limit));
-        if is_last && FILLER <= end.saturating_sub(begin) && *byte != NOP {
+    let start = source.part.start;
+    let mut begin = start;
+    for (place, byte) in source.image.iter().enumerate() {
+        let after = place.saturating_add(1);
+        if source.image.get(after) == Some(byte) {
+            continue;
+        }
+        let at = start.saturating_add(after);
+        let end = at.min(limit);
+        if FILLER <= end.saturating_sub(begin) && *byte != NOP {
             put_range(text, begin, end, "ByteTable");
         }
-        begin = if is_last { at } else { begin };
+        begin = at;
     }
 }
 
@@ -106,10 +109,22 @@ pub fn information(found: &Found<'_>, source: &Source<'_>) -> Result<Vec<u8>, Fa
     let mut text = Text::new(found.alloc);
     put_information(&mut text, found, source);
     let text = text.whole()?;
-    match information_at::<Refused>(found.alloc, None, &text) {
-        Ok(info) if says(&info, source) => Ok(text),
-        Err(Failure::Memory) => Err(Failure::Memory),
-        _ => Err(Failure::Own(Refused::Name(String::from_str(found.alloc, source.name)?))),
+    let info = match information_at::<Refused>(found.alloc, None, &text) {
+        Ok(info) => info,
+        Err(Failure::Memory) => return Err(Failure::Memory),
+        Err(_refused) => return Err(unnamed(found, source)),
+    };
+    if says(&info, source) {
+        return Ok(text);
+    }
+    Err(unnamed(found, source))
+}
+
+/// The failure of a name that no information file can have.
+fn unnamed(found: &Found<'_>, source: &Source<'_>) -> Failure {
+    match String::from_str(found.alloc, source.name) {
+        Ok(name) => Failure::Own(Refused::Name(name)),
+        Err(_lost) => Failure::Memory,
     }
 }
 
