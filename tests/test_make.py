@@ -166,7 +166,7 @@ def test_one_at_a_time(make):
 
 
 def test_wrong_bodies(make):
-    """`make wrong` tries those whose stamp is old, and lint fails while one is: after a change of its crate, of a
+    """`make wrong` tries those whose stamp is old, and lint names them: after a change of its crate, of a
     contract below, of the edit, or of the stamp. A comment ages none. What is not refused gets no stamp."""
     bodies = sorted(str(path)[12:-5] for path in pathlib.Path("tests/wrong").rglob("*.edit"))
 

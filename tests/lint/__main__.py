@@ -1,6 +1,6 @@
 """Checks what can be seen of the tree without the prover, in a few seconds. CHECKS lists what has to hold.
 
-Usage: python3 tests/lint [CHECK..]          fails if one of these does not hold, and says what; all, or those that are named
+Usage: python3 tests/lint [CHECK..]          fails if one of these does not hold, and says what: those that are named, or all but BY_NAME
        python3 tests/lint --write contracts  writes docs/contracts anew, `manual` the man page, `page` docs/DEFINITIONS.md,
                                              and `proofs` the tables of docs/PROOFS.md
 """
@@ -32,6 +32,8 @@ CHECKS = {
     moved_rows: "each row of the lists moved_rows_*.txt is where they say",
     scripts: "shellcheck finds nothing in the scripts",
 }
+# Trying all wrong bodies takes an hour.
+BY_NAME = {stamps}
 WRITTEN = {module.__name__: module for module in (contracts, manual, page, proofs)}
 
 
@@ -52,7 +54,7 @@ def main(args):
         return __doc__
     failed = False
     for check, holds in CHECKS.items():
-        if args and check.__name__ not in args:
+        if check.__name__ not in args if args else check in BY_NAME:
             continue
         try:
             found = faults(check)

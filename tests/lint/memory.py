@@ -20,7 +20,7 @@ ALLOWED = {
     "move65": "failure_for 2, has_found 1, refused 2",
     "name65": "Failure::from 2, Refusal::from 1, with_labels_first 2",
     "step65": "program 2",
-    "open65": "Text::whole 1, information 2, run 1, with_images 1",
+    "open65": "Text::whole 1, information 2, is_read_back 1, run 1, unnamed 1",
     "stmt65": "AsmFault::from 1, Symbols::define 1",
     "trace65": "failure_of 2",
     "usage65": "RequestFault::from 3, UsageFault::from 2, UsageFault::of_words 2, accepted 2",
