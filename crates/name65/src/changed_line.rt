@@ -1,11 +1,11 @@
 //! What stands in the place of a line that gives a byte that groups name.
 
-use crate::complaint::Refusal;
+use crate::complaint::{Refusal, after};
 use crate::operands::{Style, keep_free, next_item, put_operand};
 use crate::plan::PlacedLine;
 use crate::reference::{Reference, put_reference};
-use crate::rewriting::{Text, add, blank_len, column_of, part_of, put_gap, put_rest};
-use crate::wishes::{Wish, Wishes};
+use crate::rewriting::{blank_len, column_of, cut_at, put_gap, put_rest};
+use crate::wishes::{Wish, Wished, Wishes};
 use stmt65::{Half, Language, Part, Places, Span};
 
 /// The list of operands of a line: its style, where the `#` or the directive stands that opens it, whether that is a
@@ -64,47 +64,53 @@ fn list_of<'t>(placed: &PlacedLine<'_, 't>) -> Option<List<'t>> {
 
 /// Appends what stands in a line before its first operand, and returns where in the line the rest begins. A `.byte`
 /// whose bytes all become halves of a kind is `.lobytes` or `.hibytes`.
-fn open_list(out: &mut Text, line: &[u8], list: &List<'_>) -> usize {
-    let Span { from, to } = list.opening;
-    add(out, part_of(line, 0, from));
-    let directive: &[u8] = match list.style {
-        Style::Halves(Half::Low) => b".lobytes",
-        Style::Halves(Half::High) => b".hibytes",
-        Style::Bytes | Style::Words => {
-            add(out, part_of(line, from, to));
-            return to;
-        }
+fn open_list(out: &mut Vec<u8>, line: &[u8], list: &List<'_>) -> Result<usize, Refusal> {
+    let found = cut_at(line, list.opening.from, list.opening.to)?;
+    out.extend_from_slice(found.before)?;
+    let Style::Halves(half) = list.style else {
+        out.extend_from_slice(found.within)?;
+        return Ok(list.opening.to);
     };
-    add(out, directive);
-    let rest = part_of(line, to, line.len());
-    let (blanks, _) = rest.split_at(blank_len(rest));
-    let place = to.saturating_add(blanks.len());
-    put_gap(out, blanks, column_of(line, place));
-    place
+    let directive: &[u8] = match half {
+        Half::Low => b".lobytes",
+        Half::High => b".hibytes",
+    };
+    out.extend_from_slice(directive)?;
+    let (blanks, _) = found.after.split_at(blank_len(found.after));
+    let place = list.opening.to.saturating_add(blanks.len());
+    put_gap(out, blanks, column_of(line, place))?;
+    Ok(place)
 }
 
-/// A line with other operands in its list.
-fn changed_list(placed: &PlacedLine<'_, '_>, mut list: List<'_>) -> Result<Vec<u8>, Refusal> {
-    let (plan, line, mut at) = (placed.plan, placed.line, placed.at);
+/// Appends a line with other operands in its list.
+fn put_list(
+    out: &mut Vec<u8>,
+    placed: &PlacedLine<'_, '_>,
+    mut list: List<'_>,
+) -> Result<(), Refusal> {
+    let PlacedLine {
+        plan,
+        line,
+        mut at,
+        ..
+    } = *placed;
     if list.is_immediate {
         keep_free(plan.wishes, at, 1)?;
-        at = at.saturating_add(1);
+        at = after(at, 1)?;
     }
-    let mut out = Ok(Vec::new(plan.alloc));
-    let mut place = open_list(&mut out, line, &list);
+    let mut place = open_list(out, line, &list)?;
     for _ in 0..=line.len() {
         let Some(item) = next_item(plan, list.style, &mut list.places, at)? else {
             break;
         };
-        let Span { from, to } = item.span;
-        add(&mut out, part_of(line, place, from));
-        put_operand(&mut out, list.style, part_of(line, from, to), item.wish);
-        at = at.saturating_add(item.count);
-        place = to;
+        out.extend_from_slice(cut_at(line, place, item.span.from)?.within)?;
+        let text = cut_at(line, item.span.from, item.span.to)?.within;
+        put_operand(out, list.style, text, item.wish)?;
+        at = after(at, item.count)?;
+        place = item.span.to;
     }
     let kept = list.places.end().saturating_sub(place);
-    put_rest(&mut out, line, part_of(line, place, line.len()), kept);
-    Ok(out?)
+    Ok(put_rest(out, line, cut_at(line, place, place)?.after, kept)?)
 }
 
 /// Where the operand of an instruction stands, and where its last part ends. A directive is none.
@@ -123,41 +129,45 @@ fn operand_of(language: Language, line: &[u8]) -> Option<(Span, usize)> {
     Some((span, places.end()))
 }
 
-/// A line with another address in the operand of its instruction.
-fn changed_address(
+/// Appends a line with another address in the operand of its instruction.
+fn put_address(
+    out: &mut Vec<u8>,
     placed: &PlacedLine<'_, '_>,
     reference: Reference<'_>,
-) -> Result<Vec<u8>, Refusal> {
-    let (plan, line, at) = (placed.plan, placed.line, placed.at);
-    let next = at.saturating_add(1);
-    keep_free(plan.wishes, next, placed.end.saturating_sub(next))?;
-    let Some((Span { from, to }, last)) = operand_of(plan.language, line) else {
+) -> Result<(), Refusal> {
+    let PlacedLine {
+        plan,
+        line,
+        at,
+        end,
+    } = *placed;
+    let next = after(at, 1)?;
+    keep_free(plan.wishes, next, end.saturating_sub(next))?;
+    let Some((span, last)) = operand_of(plan.language, line) else {
         keep_free(plan.wishes, at, 1)?;
         return Err(Refusal::Changed);
     };
-    let mut out = Ok(Vec::new(plan.alloc));
-    add(&mut out, part_of(line, 0, from));
-    put_reference(&mut out, reference);
-    put_rest(
-        &mut out,
-        line,
-        part_of(line, to, line.len()),
-        last.saturating_sub(to),
-    );
-    Ok(out?)
+    let found = cut_at(line, span.from, span.to)?;
+    out.extend_from_slice(found.before)?;
+    put_reference(out, reference)?;
+    Ok(put_rest(out, line, found.after, last.saturating_sub(span.to))?)
 }
 
-/// What stands in the place of a line that gives a byte of which something is wished, without a line feed.
-pub fn changed_operation(placed: &PlacedLine<'_, '_>) -> Result<Vec<u8>, Refusal> {
+/// Appends what stands in the place of a line that gives a byte of which something is wished, without a line feed.
+pub fn put_operation(out: &mut Vec<u8>, placed: &PlacedLine<'_, '_>) -> Result<(), Refusal> {
     let PlacedLine { plan, at, end, .. } = *placed;
-    if let Some(wished) = plan.wishes.at(at)
-        && let Wish::Address(reference) = wished.wish
+    if let Some(
+        Wished {
+            wish: Wish::Address(reference),
+            ..
+        },
+    ) = plan.wishes.at(at)
     {
-        return changed_address(placed, reference);
+        return put_address(out, placed, reference);
     }
     let Some(list) = list_of(placed) else {
         keep_free(plan.wishes, at, end.saturating_sub(at))?;
         return Err(Refusal::Changed);
     };
-    changed_list(placed, list)
+    put_list(out, placed, list)
 }

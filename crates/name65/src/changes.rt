@@ -7,7 +7,7 @@ ghost use Rattle.name65.specs.Changes.{LinesBecome};
 ghost use Rattle.name65.specs.NamedText.{IsNamed, listing_of};
 ghost use Rattle.name65.specs.Written.{AppendsLine, IsRenamedLine, scope_seen};
 
-use crate::changed_line::changed_operation;
+use crate::changed_line::put_operation;
 use crate::compared::{Compared, are_renamed, cursor_of};
 use crate::complaint::{Refusal, need};
 use crate::constant_line::{put_idle, put_kept};
@@ -25,12 +25,24 @@ use text65::first_line;
 fn is_renamed(placed: &PlacedLine<'_, '_>, new: &[u8]) -> Result<bool, Refusal>
     ensures { IfOk result (λ is. IsTrue is → IsRenamedLine placed.now new.now) }
 {
-    let (plan, old) = (placed.plan, placed.line);
-    if !plan.named.names_one(placed.at, placed.end) {
+    let PlacedLine {
+        plan,
+        line,
+        at,
+        end,
+    } = *placed;
+    if !plan.named.names_one(at, end) {
         return Ok(false);
     }
     let cursor = cursor_of(placed)?;
-    are_renamed(plan, Compared { cursor, old, new })
+    are_renamed(
+        plan,
+        Compared {
+            cursor,
+            old: line,
+            new,
+        },
+    )
 }
 
 /// Appends what stands in the place of a line. What changes in it is read once more: nothing is trusted of how it was
@@ -44,8 +56,9 @@ fn put_line(out: &mut NewText, placed: &PlacedLine<'_, '_>) -> Result<(), Refusa
     if !placed.plan.wishes.has_one(placed.at, placed.end) {
         return Ok(put_kept(&mut out.lines, placed.line)?);
     }
-    let text = changed_operation(placed)?;
-    let change = text.as_slice();
+    out.change.clear();
+    put_operation(&mut out.change, placed)?;
+    let change = out.change.as_slice();
     need(is_renamed(placed, change)?)?;
     Ok(put_kept(&mut out.lines, change)?)
 }
@@ -62,6 +75,7 @@ fn new_lines<'w, 't>(
     let mut out = NewText {
         lines: Vec::new(plan.alloc),
         tail: Vec::new(plan.alloc),
+        change: Vec::new(plan.alloc),
     };
     let mut at = u64::from(source.start);
     let mut rest = source.text;

@@ -131,8 +131,13 @@ pub fn cursor_of(placed: &PlacedLine<'_, '_>) -> Result<Cursor, Refusal>
     ensures { IfOk result (λ c. c ≡ cursor_of
         (parts placed.now.plan.now.language placed.now.line.now) placed.now.at placed.now.end) }
 {
-    let (at, end) = (placed.at, placed.end);
-    let (stay, operation) = head_of(placed.plan.language, placed.line)?;
+    let PlacedLine {
+        plan,
+        line,
+        at,
+        end,
+    } = *placed;
+    let (stay, operation) = head_of(plan.language, line)?;
     let width = width_of(operation);
     let to = if is_directive(operation) {
         after(at, width)?

@@ -36,7 +36,7 @@ pub enum Complaint {
 }
 
 /// Why a listing can't be written by names.
-#[derive(Clone, Copy)]
+#[derive(Clone, Copy, Debug)]
 pub enum Refusal {
     /// Memory ran out.
     Memory,

@@ -10,9 +10,10 @@ use crate::compared::{Compared, Cursor, are_renamed};
 use crate::complaint::{Refusal, after, need};
 use crate::constants::{Fate, fate_of};
 use crate::plan::{NewText, PlacedLine, Plan};
-use crate::rewriting::{add, add_number, part_of, put_rest};
+use crate::rewriting::{cut_at, put_rest};
 use std::alloc::AllocError;
 use stmt65::{Language, Numeral, Places, SourceLine, Span, read_line};
+use text65::put_decimal;
 
 /// Appends a line as it was.
 pub fn put_kept(out: &mut Vec<u8>, line: &[u8]) -> Result<(), AllocError>
@@ -34,14 +35,15 @@ fn value_of(language: Language, line: &[u8]) -> Option<Span> {
 
 /// The constant line of a name whose value is this far from the end of the text: `NAME := * + n`.
 fn moved(plan: &Plan<'_, '_>, line: &[u8], distance: u64) -> Result<Vec<u8>, Refusal> {
-    let Some(Span { from, to }) = value_of(plan.language, line) else {
+    let Some(span) = value_of(plan.language, line) else {
         return Err(Refusal::Changed);
     };
-    let mut out = Ok(Vec::new(plan.alloc));
-    add(&mut out, part_of(line, 0, from));
-    add_number(&mut out, b":= * + ", distance as usize);
-    put_rest(&mut out, line, part_of(line, to, line.len()), 0);
-    Ok(out?)
+    let found = cut_at(line, span.from, span.to)?;
+    let mut out = Vec::new(plan.alloc);
+    out.extend_from_slice(found.before)?;
+    put_decimal(&mut out, b":= * + ", distance as usize)?;
+    put_rest(&mut out, line, found.after, 0)?;
+    Ok(out)
 }
 
 /// Whether a line differs from one that was only in the value.
@@ -55,8 +57,14 @@ fn is_revalued(plan: &Plan<'_, '_>, line: &[u8], new: &[u8], value: u64) -> Resu
         from: value,
         to: after(value, 1)?,
     };
-    let old = line;
-    are_renamed(plan, Compared { cursor, old, new })
+    are_renamed(
+        plan,
+        Compared {
+            cursor,
+            old: line,
+            new,
+        },
+    )
 }
 
 /// Whether a line defines a name so that it has this value after the last line.

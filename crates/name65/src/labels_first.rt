@@ -12,7 +12,6 @@ ghost use Rattle.name65.specs.Reordered.{IsReordered, is_place_line, other_in, o
 
 use crate::constant_line::put_kept;
 use crate::failure::{Failure, Refused};
-use crate::rewriting::{Text, add};
 use files65::assembled;
 use std::alloc::{AllocError, Global};
 use stmt65::{AsmFaultKind, Language, Operation, Source, SourceLine, assemble_source, read_line};
@@ -46,67 +45,62 @@ fn kind_of(alloc: Global, language: Language, line: &[u8]) -> Result<Kind, Alloc
     }
 }
 
-/// Appends a line as it was.
-fn put_line(out: &mut Text, line: &[u8]) {
-    add(out, line);
-    add(out, b"\n");
-}
-
 /// Appends a line with a label, above the rest of it the lines `NAME := * + n`; the rest keeps its column.
-fn put_cut(out: &mut Text, places: &[u8], line: &[u8]) {
+fn put_cut(out: &mut Vec<u8>, places: &[u8], line: &[u8]) -> Result<(), AllocError> {
     let count = line.iter().take_while(|byte| **byte != b':').count();
     let (label, rest) = line.split_at(count.min(line.len()));
-    add(out, label);
-    add(out, b":\n");
-    add(out, places);
+    out.extend_from_slice(label)?;
+    out.extend_from_slice(b":\n")?;
+    out.extend_from_slice(places)?;
     for &byte in label {
-        add(out, &[if is_blank(byte) { byte } else { b' ' }]);
+        out.push(if is_blank(byte) { byte } else { b' ' })?;
     }
-    add(out, b" ");
-    put_line(out, rest.get(1..).unwrap_or(b""));
+    out.extend_from_slice(b" ")?;
+    put_kept(out, rest.get(1..).unwrap_or(b""))
 }
 
 /// The lines of a text as they become, and after these the lines `NAME := * + n` that are held back.
 #[derive(Drop)]
 struct Reordering {
-    lines: Text,
-    places: Text,
+    lines: Vec<u8>,
+    places: Vec<u8>,
 }
 
 /// Takes one line more. Lines `NAME := * + n` are held back until another line comes: if that has a label, the label
 /// comes first.
-fn take_line(out: &mut Reordering, kind: Kind, line: &[u8]) {
+fn take_line(out: &mut Reordering, kind: Kind, line: &[u8]) -> Result<(), AllocError> {
     if let Kind::Place = kind {
-        return put_line(&mut out.places, line);
+        return put_kept(&mut out.places, line);
     }
-    let Ok(places) = &mut out.places else { return };
     match kind {
+        _ if out.places.is_empty() => put_kept(&mut out.lines, line)?,
         Kind::Label => {
-            put_line(&mut out.lines, line);
-            add(&mut out.lines, places);
+            put_kept(&mut out.lines, line)?;
+            out.lines.extend_from_slice(&out.places)?;
         }
-        Kind::Labelled if !places.is_empty() => put_cut(&mut out.lines, places, line),
-        _ => {
-            add(&mut out.lines, places);
-            put_line(&mut out.lines, line);
+        Kind::Labelled => put_cut(&mut out.lines, &out.places, line)?,
+        Kind::Place | Kind::Other => {
+            out.lines.extend_from_slice(&out.places)?;
+            put_kept(&mut out.lines, line)?;
         }
     }
-    places.clear();
+    out.places.clear();
+    Ok(())
 }
 
 /// The lines of a text, each label before the names inside its instruction.
 fn reordered(alloc: Global, language: Language, text: &[u8]) -> Result<Vec<u8>, AllocError> {
     let mut out = Reordering {
-        lines: Ok(Vec::new(alloc)),
-        places: Ok(Vec::new(alloc)),
+        lines: Vec::new(alloc),
+        places: Vec::new(alloc),
     };
     let mut rest = text;
     'lines: while let Some((line, after)) = first_line(rest) {
-        take_line(&mut out, kind_of(alloc, language, line)?, line);
+        take_line(&mut out, kind_of(alloc, language, line)?, line)?;
         rest = after;
     }
-    add(&mut out.lines, &out.places?);
-    out.lines
+    out.lines.extend_from_slice(&out.places)?;
+    Ok(out.lines)
 }
 
 // ---- what stays

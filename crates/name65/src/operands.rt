@@ -3,7 +3,6 @@
 use crate::complaint::{Complaint, Refusal};
 use crate::plan::Plan;
 use crate::reference::{Reference, put_in_list};
-use crate::rewriting::{Text, add};
 use crate::wishes::{Wish, Wished, Wishes};
 use stmt65::{Datum, Half, Places, Span, Value};
 
@@ -107,14 +106,21 @@ pub fn next_item<'t>(
 }
 
 /// Appends what stands in the place of an operand of a list.
-pub fn put_operand(out: &mut Text, style: Style, text: &[u8], wish: Option<Wish<'_>>) {
+pub fn put_operand(
+    out: &mut Vec<u8>,
+    style: Style,
+    text: &[u8],
+    wish: Option<Wish<'_>>,
+) -> Result<(), Refusal> {
     match wish {
-        Some(Wish::Half(half, reference)) => put_in_list(out, style, half, reference),
+        None => out.extend_from_slice(text)?,
+        Some(Wish::Half(half, reference)) => put_in_list(out, style, half, reference)?,
         Some(Wish::Difference(to, from)) => {
-            add(out, to);
-            add(out, b" - ");
-            add(out, from);
+            out.extend_from_slice(to)?;
+            out.extend_from_slice(b" - ")?;
+            out.extend_from_slice(from)?;
         }
-        _ => add(out, text),
+        Some(_) => return Err(Refusal::Changed),
     }
+    Ok(())
 }

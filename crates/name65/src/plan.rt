@@ -26,9 +26,10 @@ pub struct PlacedLine<'w, 't> {
     pub end: u64,
 }
 
-/// The lines of a text as they become, and those that stand after the last one.
+/// The lines of a text as they become, those that stand after the last one, and the line that is being changed.
 #[derive(Drop)]
 pub struct NewText {
     pub lines: Vec<u8>,
     pub tail: Vec<u8>,
+    pub change: Vec<u8>,
 }

@@ -7,36 +7,10 @@ ghost use Rattle.name65.specs.Compared.{IsCut};
 
 use crate::complaint::{Refusal, need};
 use std::alloc::AllocError;
-use text65::{is_blank, put_decimal};
+use text65::is_blank;
 
 /// How many columns a tab has at most.
 const TAB: usize = 8;
-
-/// A text that bytes are appended to, unless an allocation was refused. It is asked once, at its end.
-pub type Text = Result<Vec<u8>, AllocError>;
-
-/// Appends bytes.
-pub fn add(out: &mut Text, bytes: &[u8]) {
-    if let Ok(text) = out
-        && let Err(cause) = text.extend_from_slice(bytes)
-    {
-        *out = Err(cause);
-    }
-}
-
-/// Appends bytes, and a number in decimal after them.
-pub fn add_number(out: &mut Text, before: &[u8], number: usize) {
-    if let Ok(text) = out
-        && let Err(cause) = put_decimal(text, before, number)
-    {
-        *out = Err(cause);
-    }
-}
-
-/// What stands from a place to before another, if bytes have both in this order.
-pub fn part_of(bytes: &[u8], from: usize, to: usize) -> &[u8] {
-    bytes.get(from..to).unwrap_or(&[])
-}
 
 /// Bytes that are cut at two places.
 #[derive(Clone, Copy)]
@@ -93,11 +67,10 @@ pub fn column_of(line: &[u8], place: usize) -> usize {
 
 /// Appends blanks up to a column, but at least one: those that stood before it if they end there. Otherwise there are
 /// tabs only if one was among them.
-pub fn put_gap(out: &mut Text, blanks: &[u8], column: usize) {
-    let Ok(text) = out else { return };
-    let mut at = column_after(0, text);
+pub fn put_gap(out: &mut Vec<u8>, blanks: &[u8], column: usize) -> Result<(), AllocError> {
+    let mut at = column_after(0, out);
     if at < column && column_after(at, blanks) == column {
-        return add(out, blanks);
+        return out.extend_from_slice(blanks);
     }
     let mut tabs = 0;
     if blanks.contains(&b'\t') {
@@ -108,21 +81,27 @@ pub fn put_gap(out: &mut Text, blanks: &[u8], column: usize) {
     }
     let spaces = column.saturating_sub(at);
     for place in 0..tabs.saturating_add(spaces).max(1) {
-        add(out, if place < tabs { b"\t" } else { b" " });
+        out.push(if place < tabs { b'\t' } else { b' ' })?;
     }
+    Ok(())
 }
 
 /// Appends the rest of a line, which stands after its operands: so many bytes, and then blanks and a comment, which
 /// stays in its column if there is room.
-pub fn put_rest(out: &mut Text, line: &[u8], rest: &[u8], kept: usize) {
+pub fn put_rest(
+    out: &mut Vec<u8>,
+    line: &[u8],
+    rest: &[u8],
+    kept: usize,
+) -> Result<(), AllocError> {
     let (before, after) = rest.split_at(kept.min(rest.len()));
     let (blanks, comment) = after.split_at(blank_len(after));
-    add(out, before);
+    out.extend_from_slice(before)?;
     if comment.first() == Some(&b';') && !blanks.is_empty() {
         let place = line.len().saturating_sub(comment.len());
-        put_gap(out, blanks, column_of(line, place));
+        put_gap(out, blanks, column_of(line, place))?;
     } else {
-        add(out, blanks);
+        out.extend_from_slice(blanks)?;
     }
-    add(out, comment);
+    out.extend_from_slice(comment)
 }

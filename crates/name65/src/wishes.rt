@@ -85,10 +85,9 @@ impl<'g, 't> TagGroup<'g, 't> {
 
     /// The address this many bytes after one, if there is one.
     fn place(self, address: Option<u16>, count: u16) -> Result<Option<u16>, Refusal> {
-        match address {
-            Some(address) => Ok(Some(self.later(address, count)?)),
-            None => Ok(None),
-        }
+        address
+            .map(|address| self.later(address, count))
+            .transpose()
     }
 
     /// The name of an address.
@@ -139,12 +138,7 @@ impl<'g, 't> TagGroup<'g, 't> {
     /// Whether this is a table of return addresses: one of its addresses has to be written by the name of the next
     /// one.
     fn are_returns(self, count: u16) -> bool {
-        for place in 0..count {
-            if 1 < count && self.counts(place) && self.is_return(place) {
-                return true;
-            }
-        }
-        false
+        1 < count && (0..count).any(|place| self.counts(place) && self.is_return(place))
     }
 }
 
@@ -207,10 +201,8 @@ impl<'t> Wishes<'t> {
         let low = group.place(group.tag.low, place)?;
         let high = group.place(group.tag.high, place)?;
         if group.tag.address.is_none() {
-            for at in [low, high] {
-                if let Some(at) = at {
-                    group.byte(at)?;
-                }
+            for at in [low, high].into_iter().flatten() {
+                group.byte(at)?;
             }
         }
         let Some(address) = group.pair_address(place) else {
@@ -276,11 +268,6 @@ impl<'t> Wishes<'t> {
 
     /// Whether something is wished of one of the bytes from an address to before another.
     pub fn has_one(&self, at: u64, end: u64) -> bool {
-        for address in at..end {
-            if self.by_address.has(address) {
-                return true;
-            }
-        }
-        false
+        (at..end).any(|address| self.by_address.has(address))
     }
 }
