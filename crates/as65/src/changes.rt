@@ -10,11 +10,12 @@
 //!   the rest is one change.
 
 use crate::lines::PlacedLine;
-use crate::parts::{Part, add};
+use crate::parts::Part;
 use crate::scene::Scene;
-use crate::stretches::{Stretch, next_stretch};
+use crate::stretches::Stretch;
 use files65::at_most;
 use std::alloc::AllocError;
+use std::ops::Range;
 
 /// What is compared, and what was found.
 #[derive(Drop)]
@@ -28,21 +29,20 @@ struct Search<'s, 'c, 'a, 't, 'l, 'n> {
 /// A part without the bytes that are alike at its beginning and its end.
 fn trimmed(scene: &Scene<'_, '_, '_, '_, '_>, mut part: Part) -> Part {
     let (image, bytes) = (scene.image.bytes(), scene.bytes());
-    let (was, is) = (part.was.of(image), part.is.of(bytes));
-    let first = match next_stretch(was, is, 0) {
-        Some(stretch) => stretch.at,
-        None => was.len().min(is.len()),
-    };
+    let pairs = part.was.of(image).iter().zip(part.is.of(bytes).iter());
+    let first = pairs.take_while(|(byte, other)| byte == other).count();
     part.was.at = part.was.at.saturating_add(first);
     part.is.at = part.is.at.saturating_add(first);
-    let (was, is) = (part.was.of(image), part.is.of(bytes));
-    for (byte, other) in was.iter().rev().zip(is.iter().rev()) {
-        if byte != other {
-            break;
-        }
-        part.was.end = part.was.end.saturating_sub(1);
-        part.is.end = part.is.end.saturating_sub(1);
-    }
+    let (was, is) = (
+        part.was.of(image).iter().rev(),
+        part.is.of(bytes).iter().rev(),
+    );
+    let last = was
+        .zip(is)
+        .take_while(|(byte, other)| byte == other)
+        .count();
+    part.was.end = part.was.end.saturating_sub(last);
+    part.is.end = part.is.end.saturating_sub(last);
     part
 }
 
@@ -56,17 +56,13 @@ impl<'s, 'c, 'a, 't, 'l, 'n> Search<'s, 'c, 'a, 't, 'l, 'n> {
         }
     }
 
-    /// How many lines begin before an offset.
-    fn count_before(&self, offset: usize) -> usize {
-        let at = usize::from(self.scene.image.start()).saturating_add(offset) as u64;
-        self.scene.lines.partition_point(|line| line.at < at)
-    }
-
-    /// The lines that begin in a stretch.
-    fn lines_in(&self, stretch: Stretch) -> &'c [PlacedLine<'t>] {
-        let from = self.count_before(stretch.at);
-        let to = self.count_before(stretch.end);
-        self.scene.lines.get(from..to).unwrap_or(&[])
+    /// The places of the lines that begin in a stretch.
+    fn places_in(&self, stretch: Stretch) -> Range<usize> {
+        let start = u64::from(self.scene.image.start());
+        let at = start.saturating_add(stretch.at as u64);
+        let end = start.saturating_add(stretch.end as u64);
+        let lines = self.scene.lines;
+        lines.partition_point(|line| line.at < at)..lines.partition_point(|line| line.at < end)
     }
 
     /// The bytes of a line; in place of those that the image does not have from an offset on, those that the line gave
@@ -98,9 +94,28 @@ impl<'s, 'c, 'a, 't, 'l, 'n> Search<'s, 'c, 'a, 't, 'l, 'n> {
         }
     }
 
+    /// Adds a byte that differs, or makes the last change longer, if that has as many bytes of both and ends there.
+    fn add(&mut self, was: usize, is: usize) -> Result<(), AllocError> {
+        let byte = Part {
+            was: Stretch::of_byte(was),
+            is: Stretch::of_byte(is),
+        };
+        if let Some(last) = self.changes.last_mut()
+            && last.is_even()
+            && last.was.end == was
+            && last.is.end == is
+        {
+            (last.was.end, last.is.end) = (byte.was.end, byte.is.end);
+            return Ok(());
+        }
+        self.changes.push(byte)?;
+        Ok(())
+    }
+
     /// Adds what differs in a part that has as many bytes as it had.
     fn compare_bytes(&mut self, part: Part) -> Result<(), AllocError> {
-        for line in self.lines_in(part.is) {
+        let scene = self.scene;
+        for line in scene.lines.get(self.places_in(part.is)).unwrap_or(&[]) {
             let at = self.stretch(line).at;
             let was = part.was.at.saturating_add(at.saturating_sub(part.is.at));
             let earlier = self.earlier(line, was)?;
@@ -109,8 +124,7 @@ impl<'s, 'c, 'a, 't, 'l, 'n> Search<'s, 'c, 'a, 't, 'l, 'n> {
             for (offset, byte) in earlier.iter().enumerate() {
                 let (was, is) = (was.saturating_add(offset), at.saturating_add(offset));
                 if self.scene.image.bytes().get(was) != Some(byte) {
-                    let (was, is) = (Stretch::of_byte(was), Stretch::of_byte(is));
-                    add(&mut self.changes, Part { was, is })?;
+                    self.add(was, is)?;
                 }
             }
         }
@@ -131,7 +145,8 @@ impl<'s, 'c, 'a, 't, 'l, 'n> Search<'s, 'c, 'a, 't, 'l, 'n> {
     /// have only moved and its last ones.
     fn compare_ends(&mut self, part: Part) -> Result<(), AllocError> {
         let Part { mut was, mut is } = part;
-        let lines = self.lines_in(is);
+        let scene = self.scene;
+        let lines = scene.lines.get(self.places_in(is)).unwrap_or(&[]);
         let mut first = 0usize;
         for line in lines {
             let [taken, rest] = was.halves(self.stretch(line).len());
@@ -158,17 +173,17 @@ impl<'s, 'c, 'a, 't, 'l, 'n> Search<'s, 'c, 'a, 't, 'l, 'n> {
         let mut out = Vec::new(self.scene.alloc);
         let mut rest = self.changes.as_slice();
         for part in self.scene.parts {
-            let mut count = 0usize;
+            let own = rest.iter().take_while(|change| change.is_within(*part));
+            let count = own.count();
             let mut was = part.was;
-            for change in rest {
-                if !change.is_within(*part) {
-                    break;
-                }
-                count = count.saturating_add(1);
+            for change in rest.get(..count).unwrap_or(&[]) {
                 was.end = change.was.at;
                 out.extend_from_slice(was.of(self.scene.image.bytes()))?;
                 out.extend_from_slice(change.is.of(self.scene.bytes()))?;
-                (was.at, was.end) = (change.was.end, part.was.end);
+                was = Stretch {
+                    at: change.was.end,
+                    end: part.was.end,
+                };
             }
             out.extend_from_slice(was.of(self.scene.image.bytes()))?;
             rest = rest.get(count..).unwrap_or(&[]);
@@ -185,15 +200,15 @@ pub fn changes(scene: &Scene<'_, '_, '_, '_, '_>) -> Result<Option<Vec<Part>>, A
         gave: Vec::from_slice(scene.alloc, scene.bytes())?,
         changes: Vec::new(scene.alloc),
     };
-    let mut taken = 0usize;
     for part in scene.parts {
-        taken = taken.saturating_add(part.was.len());
         if part.is_even() {
             search.compare_bytes(*part)?;
         } else {
             search.compare_ends(*part)?;
         }
     }
+    let parts = scene.parts.iter();
+    let taken = parts.fold(0usize, |sum, part| sum.saturating_add(part.was.len()));
     if taken != scene.image.bytes().len() || search.applied()? != search.gave {
         return Ok(None);
     }

@@ -130,14 +130,16 @@ fn change_lines(
     Ok(out)
 }
 
-/// What a listing and an image have from one of these labels, or the START of a segment that is entered, to the next.
-fn parts_by(
+/// What differs in a listing of which labels have moved, apart from what has only moved with them. If that is not
+/// clear, all that differs.
+fn moved_differences(
     alloc: Global,
     image: &Image,
     listed: &Listed<'_, '_, '_, '_>,
     labels: &[Label],
-) -> Result<Vec<Part>, AllocError> {
+) -> Result<Vec<u8>, AllocError> {
     let source = listed.assembled().source();
+    let lines = placed_lines(alloc, source, listed.ends())?;
     let mut places = Places::new(alloc, image)?;
     for label in labels {
         places.add(label.at, label.named)?;
@@ -148,23 +150,11 @@ fn parts_by(
             break;
         };
         if let Some(start) = start_entered(alloc, source, text)? {
-            places.add(u64::from(start), u64::from(start))?;
+            places.add(start, start)?;
         }
         rest = after;
     }
-    places.parts(listed.bytes().len())
-}
-
-/// What differs in a listing of which labels have moved, apart from what has only moved with them. If that is not
-/// clear, all that differs.
-fn moved_differences(
-    alloc: Global,
-    image: &Image,
-    listed: &Listed<'_, '_, '_, '_>,
-    labels: &[Label],
-) -> Result<Vec<u8>, AllocError> {
-    let lines = placed_lines(alloc, listed.assembled().source(), listed.ends())?;
-    let parts = parts_by(alloc, image, listed, labels)?;
+    let parts = places.parts(listed.assembled().bytes().len())?;
     let scene = Scene {
         alloc,
         image,

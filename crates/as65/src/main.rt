@@ -48,7 +48,6 @@ use segments::need_segments;
 use sizes::need_size;
 use status::{Ended, status_of};
 use std::process::ExitCode;
-use stmt65::Source;
 use usage65::{FileNames, Request, RequestFault, words_of};
 
 /// The image that the information file has by its INPUTNAME. The listing may not be the same stream.
@@ -68,70 +67,46 @@ fn start_in(rt: &HostRuntime, names: &FileNames, info: &Info) -> Result<u16, Fai
     if let Some(image) = named_image(rt, names.listing.as_str(), info)? {
         return Ok(image.start());
     }
-    let Some(name) = names.info.as_deref() else {
-        return Err(Failure::Request(RequestFault::NoStart));
-    };
-    let name = String::from_str(rt.alloc(), name)?;
-    Err(Failure::Own(Refused::NoStart(name)))
+    match names.info.as_deref() {
+        Some(name) => {
+            let name = String::from_str(rt.alloc(), name)?;
+            Err(Failure::Own(Refused::NoStart(name)))
+        }
+        None => Err(Failure::Request(RequestFault::NoStart)),
+    }
 }
 
 /// How many bytes the information file says that there are: INPUTSIZE, or those of its INPUTNAME.
 fn len_in(rt: &HostRuntime, listing: &str, info: &Info) -> Result<Option<usize>, Failure> {
     match info.settings().size {
         Some(size) => Ok(Some(size as usize)),
-        None => match named_image(rt, listing, info)? {
-            Some(image) => Ok(Some(image.bytes().len())),
-            None => Ok(None),
-        },
+        None => Ok(named_image(rt, listing, info)?.map(|image| image.bytes().len())),
     }
-}
-
-/// Writes the names of a listing.
-fn write_names(
-    rt: &HostRuntime,
-    writing: &mut Writing,
-    source: &Source<'_, '_, '_>,
-    info: &Info,
-) -> Result<(), Failure> {
-    let name = writing.names.listing.as_str();
-    let text = names_in(rt.alloc(), source, name)?;
-    need_segments(rt.alloc(), source, name, info.segments())?;
-    let mut output = Output::create(rt, writing.names.output.take())?;
-    Ok(write_text(&mut output, &text)?)
-}
-
-/// Writes the bytes of a listing.
-fn write_bytes(
-    rt: &HostRuntime,
-    writing: &mut Writing,
-    source: &Source<'_, '_, '_>,
-    info: &Info,
-) -> Result<(), Failure> {
-    let name = writing.names.listing.as_str();
-    let assembled = Assembled::new(rt.alloc(), source, name)?;
-    need_bytes(rt.alloc(), &assembled, name)?;
-    need_segments(rt.alloc(), source, name, info.segments())?;
-    if writing.place.in_place {
-        need_in_place(rt.alloc(), &assembled, name)?;
-        need_size(rt.alloc(), &assembled, name, len_in(rt, name, info)?)?;
-    }
-    let mut output = Output::create(rt, writing.names.output.take())?;
-    Ok(assembled.write(&mut output)?)
 }
 
 /// Reads the listing, and writes its bytes or its names. The output may not be what the information file names either,
 /// and is created once they are there.
 fn write_listing(rt: &HostRuntime, writing: &mut Writing, info: &Info) -> Result<Ended, Failure> {
-    let names = &writing.names;
+    let names = &mut writing.names;
     keep_named(rt, names.output.as_deref(), info)?;
     let start = start_in(rt, names, info)?;
     let layout = layout_of(rt.alloc(), info.segments(), writing.place.fill)?;
-    let text = read_listing(rt, names.listing.as_str())?;
+    let name = names.listing.as_str();
+    let text = read_listing(rt, name)?;
     let source = repair(&layout, start, &text);
     if writing.labels {
-        write_names(rt, writing, &source, info)?;
+        let text = names_in(rt.alloc(), &source, name)?;
+        need_segments(rt.alloc(), &source, name, info.segments())?;
+        write_text(&mut Output::create(rt, names.output.take())?, &text)?;
     } else {
-        write_bytes(rt, writing, &source, info)?;
+        let assembled = Assembled::new(rt.alloc(), &source, name)?;
+        need_bytes(rt.alloc(), &assembled, name)?;
+        need_segments(rt.alloc(), &source, name, info.segments())?;
+        if writing.place.in_place {
+            need_in_place(rt.alloc(), &assembled, name)?;
+            need_size(rt.alloc(), &assembled, name, len_in(rt, name, info)?)?;
+        }
+        assembled.write(&mut Output::create(rt, names.output.take())?)?;
     }
     Ok(Ended::Done)
 }
@@ -156,9 +131,10 @@ fn compare_under(rt: &HostRuntime, comparing: &Comparing, info: &Info) -> Result
     let source = repair(&layout, image.start(), &text);
     let alloc = rt.alloc();
     let listed = Listed::new(&alloc, &source, name)?;
-    need_bytes(alloc, listed.assembled(), name)?;
+    let assembled = listed.assembled();
+    need_bytes(alloc, assembled, name)?;
     need_segments(alloc, &source, name, info.segments())?;
-    if info.settings().start.is_none() && image.bytes() != listed.bytes() {
+    if info.settings().start.is_none() && image.bytes() != assembled.bytes() {
         let named = named_start(alloc, &image, &listed)?;
         say_starts(rt, comparing.image.as_str(), image.start(), named)?;
     }

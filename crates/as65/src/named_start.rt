@@ -1,7 +1,6 @@
 //! The start that the names of a listing speak for: da65 calls an address `LXXXX` that has no name.
 
 use crate::assembled::Listed;
-use crate::moves::IN_PLACE;
 use map65::Image;
 use std::alloc::{AllocError, Global};
 
@@ -21,18 +20,15 @@ pub fn named_start(
 ) -> Result<Option<NamedStart>, AllocError> {
     let labels = listed.labels(alloc)?;
     let taken = u64::from(image.start());
-    let first = labels.first().copied().unwrap_or(IN_PLACE);
-    let Some(start) = first.earlier(taken) else {
+    let Some(start) = labels.first().and_then(|label| label.earlier(taken)) else {
         return Ok(None);
     };
     if start == taken || 65_536 < start.saturating_add(image.bytes().len() as u64) {
         return Ok(None);
     }
-    let mut found = NamedStart { start, labels: 0 };
-    for label in &labels {
-        if label.earlier(taken) == Some(start) {
-            found.labels = found.labels.saturating_add(1);
-        }
-    }
-    Ok(Some(found))
+    let speaking = labels
+        .iter()
+        .filter(|label| label.earlier(taken) == Some(start));
+    let labels = speaking.count();
+    Ok(Some(NamedStart { start, labels }))
 }

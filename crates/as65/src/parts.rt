@@ -25,10 +25,12 @@ impl Part {
     /// As much of it as both have, and what one of them has after that.
     fn halves(self) -> [Part; 2] {
         let len = self.was.len().min(self.is.len());
-        let [old, was] = self.was.halves(len);
-        let [new, is] = self.is.halves(len);
-        let after = Part { was, is };
-        let (was, is) = (old, new);
+        let [was, was_after] = self.was.halves(len);
+        let [is, is_after] = self.is.halves(len);
+        let after = Part {
+            was: was_after,
+            is: is_after,
+        };
         [Part { was, is }, after]
     }
 }
@@ -75,23 +77,25 @@ impl<'i> Places<'i> {
             named.push((*was, index))?;
         }
         named.sort()?;
-        let mut ends = vec![in self.alloc; self.image.bytes().len(); named.len()]?;
-        for pair in named.windows(2) {
-            if let [(_, index), (later, _)] = pair
-                && let Some(end) = ends.get_mut(*index)
-            {
-                *end = *later;
-            }
-        }
         let mut parts = Vec::new(self.alloc);
-        for (index, (&(at, was), &end)) in self.places.iter().zip(&ends).enumerate() {
-            let was = Stretch { at: was, end };
-            if let Some(&(end, _)) = self.places.get(index.saturating_add(1)) {
-                let is = Stretch { at, end };
-                add(&mut parts, Part { was, is })?;
+        for (index, &(is, was)) in self.places.iter().enumerate() {
+            let later = named.get(named.partition_point(|other| *other <= (was, index)));
+            let next = self.places.get(index.saturating_add(1));
+            let (old, new) = (self.image.bytes().len(), len);
+            let part = Part {
+                was: Stretch {
+                    at: was,
+                    end: later.map_or(old, |later| later.0),
+                },
+                is: Stretch {
+                    at: is,
+                    end: next.map_or(new, |next| next.0),
+                },
+            };
+            if next.is_some() {
+                add(&mut parts, part)?;
             } else {
-                let is = Stretch { at, end: len };
-                for half in (Part { was, is }).halves() {
+                for half in part.halves() {
                     add(&mut parts, half)?;
                 }
             }
@@ -100,13 +104,12 @@ impl<'i> Places<'i> {
     }
 }
 
-/// Adds a part, or makes the last one longer, if both are even and one follows the other in both.
-pub fn add(parts: &mut Vec<Part>, part: Part) -> Result<(), AllocError> {
+/// Adds a part, or makes the last one longer, if both are even and one follows the other in the image.
+fn add(parts: &mut Vec<Part>, part: Part) -> Result<(), AllocError> {
     if let Some(last) = parts.last_mut()
         && last.is_even()
         && part.is_even()
         && last.was.end == part.was.at
-        && last.is.end == part.is.at
     {
         (last.was.end, last.is.end) = (part.was.end, part.is.end);
         return Ok(());

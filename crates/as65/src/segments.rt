@@ -33,11 +33,13 @@ pub fn start_entered(
     alloc: Global,
     source: &Source<'_, '_, '_>,
     line: &[u8],
-) -> Result<Option<u16>, AllocError> {
-    match segment_in(alloc, source.language, line)? {
-        Some(name) => Ok(source.layout.start_of(name)),
-        None => Ok(None),
-    }
+) -> Result<Option<u64>, AllocError> {
+    let entered = segment_in(alloc, source.language, line)?;
+    Ok(
+        entered
+            .and_then(|name| source.layout.start_of(name))
+            .map(u64::from),
+    )
 }
 
 /// The segments that a line `.segment` places, from the start on, by their STARTs: of those with one name the first.

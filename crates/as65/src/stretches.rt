@@ -35,10 +35,14 @@ impl Stretch {
     /// Its first bytes, at most this many, and the rest.
     pub fn halves(self, len: usize) -> [Stretch; 2] {
         let middle = self.at.saturating_add(len.min(self.len()));
-        let (at, end) = (self.at, middle);
-        let first = Stretch { at, end };
-        let (at, end) = (middle, self.end);
-        [first, Stretch { at, end }]
+        let (first, rest) = (
+            Stretch {
+                end: middle,
+                ..self
+            },
+            Stretch { at: middle, ..self },
+        );
+        [first, rest]
     }
 }
 
