@@ -207,7 +207,7 @@ def test_bash_completes(installed, program):
 @pytest.mark.parametrize("program", MADE)
 def test_zsh_completes(installed, program):
     prefix, made = installed
-    listed = zsh_completes(f"{made}/share/zsh/site-functions", f"{prefix}{program} -", "-o ")
+    listed = zsh_completes(f"{made}/share/zsh/site-functions", f"{prefix}{program} -", "-o  ")
     assert not [option for option in options(program) if not re.search(rf"(^|[ ]){re.escape(option)} ", listed, re.M)]
 
 
