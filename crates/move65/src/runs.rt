@@ -97,9 +97,9 @@ fn run_at(machine: &mut Both, lines: &Lines, at: u16) -> bool {
         }
         Some(0x60 | 0x6C) if goes_on => {
             let world = &mut machine.bus;
-            let stack = machine.registers.s.here;
-            world.calls.end(&world.scene, lines, stack, to);
-            machine.registers.pc = lines.behind_data(to);
+            world
+                .calls
+                .end(&world.scene, lines, machine.registers.s.here, to);
         }
         _ => {}
     }
@@ -117,7 +117,6 @@ fn come_back(machine: &mut Both, lines: &Lines) -> bool {
     forget(machine);
     let is_known = machine.come_back();
     machine.bus.lead_nowhere();
-    machine.registers.pc = lines.behind_data(machine.registers.pc);
     is_known
 }
 
@@ -134,7 +133,8 @@ fn run_from(machine: &mut Both, lines: &Lines, from: u16, steps: u32) -> u32 {
     machine.bus.begin_run();
     let mut outside = 0u32;
     for step in 0..steps {
-        let at = machine.registers.pc;
+        let at = lines.behind_data(machine.registers.pc);
+        machine.registers.pc = at;
         let goes_on = if machine.bus.scene.has(at) || machine.bus.copied_from(at).is_some() {
             outside = 0;
             run_at(machine, lines, at)
