@@ -149,8 +149,8 @@ pub fn move_found(world: &mut World) -> bool {
 }
 
 /// Moves what is touched behind the image, and the operands of the listing that have an address there, or at most
-/// `NEXT` bytes later: what has not run has more of them. Appends these addresses, and returns whether there are any.
-/// What lies too far behind the image is kept for a question.
+/// `NEXT` bytes later: what has not run has more of them. Appends these addresses, and returns whether there are any. What lies
+/// too far behind the image is kept for a question.
 pub fn move_variables(
     world: &mut World,
     lines: &Lines,
