@@ -237,12 +237,12 @@ impl World {
     /// Whether an instruction of the listing begins at an address, or one that was copied there, or one of code that
     /// has been found, or is found now because an instruction leads there.
     pub fn may_run(&mut self, lines: &Lines, address: u16) -> bool {
-        if lines.instructions.get(address) {
+        if let Some(place) = self.copied_from(address) {
+            self.ran.set(place);
             self.is_found = false;
             return true;
         }
-        if let Some(place) = self.copied_from(address) {
-            self.ran.set(place);
+        if lines.instructions.get(address) {
             self.is_found = false;
             return true;
         }
