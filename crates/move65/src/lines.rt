@@ -1,7 +1,7 @@
 //! The lines of a listing: which bytes are numbers of their own, which are instructions, and where routines begin.
 
 use crate::scene::Scene;
-use info65::{Info, Tag, TagKind};
+use info65::Info;
 use isa65::{Cpu, Mnemonic, Op, OpcodeSet, Pattern};
 use map65::Marks;
 use std::alloc::{AllocError, Global};
@@ -22,7 +22,7 @@ pub struct Lines {
     pub words: Marks,
     pub instructions: Marks,
     /// The bytes of instructions.
-    pub code: Marks,
+    code: Marks,
     /// The CPU that runs.
     cpu: Cpu,
     /// An instruction begins there that has an address of two bytes as its operand, and is no jump or call of it.
@@ -32,15 +32,11 @@ pub struct Lines {
     pub routines: Marks,
     /// The address has a name, in the listing or in the information file.
     pub named: Marks,
-    /// Addresses that groups INLINE have.
-    pub inlines: Marks,
-    /// Data behind calls of these.
-    skipped: Marks,
 }
 
 impl Lines {
     /// No lines yet. The information file says which CPU runs, and has names.
-    fn none(alloc: Global, info: &Info, tags: &[Tag]) -> Result<Lines, AllocError> {
+    fn none(alloc: Global, info: &Info) -> Result<Lines, AllocError> {
         let mut lines = Lines {
             numbers: Marks::none(alloc)?,
             texts: Marks::none(alloc)?,
@@ -51,14 +47,7 @@ impl Lines {
             operands: Marks::none(alloc)?,
             routines: Marks::none(alloc)?,
             named: Marks::none(alloc)?,
-            inlines: Marks::none(alloc)?,
-            skipped: Marks::none(alloc)?,
         };
-        for tag in tags {
-            if let (TagKind::Inline, Some(address)) = (tag.kind, tag.address) {
-                lines.inlines.set(address);
-            }
-        }
         for index in 0..info.given_count() {
             lines.named.set(info.given(index).address);
         }
@@ -71,16 +60,6 @@ impl Lines {
             return None;
         }
         self.cpu.decode(opcode)
-    }
-
-    /// Where code goes on that comes to an address: behind the data there, if that follows a call of a group INLINE.
-    pub fn behind_data(&self, address: u16) -> u16 {
-        for at in address..=u16::MAX {
-            if !self.skipped.get(at) || self.code.get(at) {
-                return at;
-            }
-        }
-        address
     }
 
     /// Whether a name can stand for half of an address in place of the byte.
@@ -114,24 +93,16 @@ pub struct LineReader<'s> {
     lines: Lines,
     /// Whether the line before is code that goes on with the next line.
     goes_on: bool,
-    /// Whether the last instruction is a call of an address that a group INLINE has.
-    skips: bool,
 }
 
 impl<'s> LineReader<'s> {
     /// Has taken no lines. The information file says which CPU runs, and has further names.
-    pub fn new(
-        alloc: Global,
-        scene: &'s Scene,
-        info: &Info,
-        tags: &[Tag],
-    ) -> Result<LineReader<'s>, AllocError> {
+    pub fn new(alloc: Global, scene: &'s Scene, info: &Info) -> Result<LineReader<'s>, AllocError> {
         Ok(LineReader {
             alloc,
             scene,
-            lines: Lines::none(alloc, info, tags)?,
+            lines: Lines::none(alloc, info)?,
             goes_on: false,
-            skips: false,
         })
     }
 
@@ -174,14 +145,8 @@ impl<'s> LineReader<'s> {
             return Ok(());
         };
         let goes_on = take(&mut self.goes_on);
-        if self.skips {
-            let end = usize::from(at).saturating_add(len as usize);
-            self.lines.skipped.set_span(usize::from(at), end);
-        }
         match &operation {
             Operation::Instr(mnemonic, form) => {
-                let to = self.scene.word(at.saturating_add(1), at.saturating_add(2));
-                self.skips = *mnemonic == Mnemonic::Jsr && self.lines.inlines.get(to.unwrap_or(0));
                 if !goes_on && label.is_some() {
                     self.lines.routines.set(at);
                 }

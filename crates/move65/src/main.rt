@@ -6,7 +6,6 @@
 //! written; 1 if something does; and otherwise 2.
 #![tactic(auto)]
 
-mod calls;
 mod command;
 mod failure;
 mod judge;

@@ -185,7 +185,7 @@ fn report_of_source(
     let mut scene = scene_of(alloc, setup, source, &assembly.bytes)?;
     take_defined(&mut scene, assembly.names.definitions());
     scene.limit = limit_of(&scene, assembly.names.definitions(), setup.info);
-    let reader = LineReader::new(alloc, &scene, setup.info, setup.tags)?;
+    let reader = LineReader::new(alloc, &scene, setup.info)?;
     let lines = reader.read(source.text, &assembly)?;
     Ok(report_of_runs(rt, setup, &lines, scene)?)
 }

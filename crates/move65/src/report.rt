@@ -5,7 +5,6 @@ use crate::lines::Lines;
 use crate::scene::Scene;
 use crate::variables::variable_at;
 use crate::world::{Kind, Sighting, World};
-use info65::TagKind;
 use map65::Marks;
 use run65::Purpose;
 use std::alloc::{AllocError, Global};
@@ -61,13 +60,7 @@ fn put_halves(out: &mut String, run: &[Claim]) -> Result<(), AllocError> {
 }
 
 /// Appends as a comment how many instructions have run, and the stretches of those that have not, eight to a line.
-/// Returns whether these are less than a tenth.
-fn put_ran(
-    alloc: Global,
-    out: &mut String,
-    lines: &Lines,
-    ran: &Marks,
-) -> Result<bool, AllocError> {
+fn put_ran(alloc: Global, out: &mut String, lines: &Lines, ran: &Marks) -> Result<(), AllocError> {
     let mut all = Vec::new(alloc);
     for at in 0..=u16::MAX {
         if lines.instructions.get(at) {
@@ -93,44 +86,7 @@ fn put_ran(
         }
         index = index.saturating_add(1);
     }
-    write!(out, "\n")?;
-    Ok(len.saturating_sub(count).saturating_mul(10) < len)
-}
-
-/// Appends a group INLINE for each routine whose calls skip bytes, unless a group has it.
-fn put_inlines(out: &mut String, world: &World, lines: &Lines) -> Result<(), AllocError> {
-    for routine in 0..=u16::MAX {
-        if let Some(Some(skips)) = world.calls.skips.get(usize::from(routine))
-            && skips.are_said()
-            && !lines.inlines.get(routine)
-        {
-            write!(out, "#: INLINE {{ ADDR ${routine:04X}")?;
-            if !skips.are_texts {
-                write!(out, "; SIZE {}", skips.size)?;
-            }
-            write!(
-                out,
-                "; }}; # ${:04X} skips {} bytes\n",
-                skips.at, skips.size
-            )?;
-        }
-    }
-    Ok(())
-}
-
-/// Appends as comments where a run from an entry goes on elsewhere in the other image.
-fn put_partings(out: &mut String, world: &World) -> Result<(), AllocError> {
-    for seen in world.seen.iter().flatten() {
-        if let Kind::Stays(purpose) | Kind::Moves(purpose) = seen.kind
-            && matches!(purpose, Purpose::Jump | Purpose::Call | Purpose::Return)
-            && seen.is_sure
-            && !seen.is_mixed
-        {
-            write!(out, "# the runs part: ")?;
-            put_use(out, seen)?;
-        }
-    }
-    Ok(())
+    write!(out, "\n")
 }
 
 impl Findings<'_> {
@@ -176,23 +132,12 @@ impl Findings<'_> {
         Ok(())
     }
 
-    /// The last address behind the image that a name is written for, or a group AFTER has, if there are such names.
-    fn last_behind(&self, scene: &Scene) -> Option<u16> {
-        let mut last = scene.last_named;
-        for tag in self.tags {
-            if tag.kind == TagKind::After {
-                last = last.max(tag.last.unwrap_or(0));
-            }
-        }
-        (scene.last_named != 0).then_some(last)
-    }
-
-    /// Appends a group for the addresses behind the image, if names are written for some, and those of the bytes that
-    /// move and must not. Then comments: what stays and no name can be written for.
+    /// Appends a group for the addresses behind the image that names are written for, unless groups have them, and
+    /// those of the bytes that move and must not. Then comments: what stays and no name can be written for.
     fn put_others(&self, out: &mut String, world: &World) -> Result<(), AllocError> {
         let scene = &world.scene;
-        let end = scene.end();
-        if let Some(last) = self.last_behind(scene) {
+        let (end, last) = (scene.end(), scene.last_named);
+        if last != 0 {
             write!(out, "#: AFTER {{ START ${end:04X}; END ${last:04X}; }};\n")?;
         }
         for (at, seen) in &self.numbers {
@@ -201,12 +146,7 @@ impl Findings<'_> {
         }
         for (at, seen) in &self.strays {
             if !world.used.get(*at) {
-                let what = match (scene.stays(*at), self.pair_with(*at)) {
-                    (true, _) => "stays, and an address that moves is compared with it",
-                    (false, None) => "moves, and no group has it",
-                    (false, Some(_)) => "moves, and an address that stays is compared with it",
-                };
-                write!(out, "# ${at:04X} {what}: ")?;
+                write!(out, "# ${at:04X} moves, and no group has it: ")?;
                 put_use(out, seen)?;
             }
         }
@@ -275,20 +215,10 @@ impl Findings<'_> {
         self.put_names(alloc, &mut text, lines)?;
         self.put_claims(&mut text)?;
         self.put_others(&mut text, world)?;
-        put_inlines(&mut text, world, lines)?;
         self.put_entries(&mut text, &world.arrivals)?;
-        if text.is_empty() {
-            put_partings(&mut text, world)?;
-        }
-        let mut ran = String::new(alloc);
-        let is_enough = put_ran(alloc, &mut ran, lines, &world.ran)?;
-        let parts = !text.is_empty() || !is_enough;
+        let parts = !text.is_empty();
         self.put_question(&mut text, &world.scene, lines)?;
-        if is_enough {
-            text.push_str(ran.as_str())?;
-            return Ok(Moved { text, parts });
-        }
-        ran.push_str(text.as_str())?;
-        Ok(Moved { text: ran, parts })
+        put_ran(alloc, &mut text, lines, &world.ran)?;
+        Ok(Moved { text, parts })
     }
 }

@@ -12,11 +12,6 @@ pub const LONG: u32 = 400_000;
 /// How many instructions run from a routine, at most.
 const SHORT: u32 = 1_500;
 
-/// How often what returns is called again, and in how many instructions, at most.
-const AGAIN: u32 = 200;
-
-const FRAME: u32 = 20_000;
-
 /// How often each runs, with other unknown bytes.
 const ENTRY_SEEDS: u32 = 2;
 
@@ -80,30 +75,15 @@ fn forget(machine: &mut Both) {
     machine.registers.flags[DECIMAL] = Pair::of(0);
 }
 
-/// Runs the instruction at an address. Returns whether it is one of the listing, of code that is found or of bytes of
-/// the image that were copied there, and it is known where code goes on. A run ends at `brk`.
+/// Runs the instruction at an address of the image. Returns whether it is one of the listing or of code that is found,
+/// and it is known where code goes on. A run ends at `brk` and `rti`.
 fn run_at(machine: &mut Both, lines: &Lines, at: u16) -> bool {
     let opcode = machine.bus.cell(at).map(|pair| pair.here);
-    if matches!(opcode, None | Some(0x00)) || !machine.bus.may_run(lines, at) {
+    if matches!(opcode, None | Some(0x00 | 0x40)) || !machine.bus.may_run(lines, at) {
         return false;
     }
     machine.bus.begin(at);
-    let before = machine.registers.s.here;
-    let goes_on = machine.step();
-    let to = machine.registers.pc;
-    match opcode {
-        Some(0x20) if machine.bus.scene.has(at) => {
-            machine.bus.is_out_of_memory |= machine.bus.calls.begin(at, to, before).is_err();
-        }
-        Some(0x60 | 0x6C) if goes_on => {
-            let world = &mut machine.bus;
-            world
-                .calls
-                .end(&world.scene, lines, machine.registers.s.here, to);
-        }
-        _ => {}
-    }
-    goes_on
+    machine.step()
 }
 
 /// Comes back from code outside of the image, with unknown registers. Returns whether it is known where code goes on.
@@ -120,22 +100,17 @@ fn come_back(machine: &mut Both, lines: &Lines) -> bool {
     is_known
 }
 
-/// Runs from an address, at most so many instructions. What leads out of the image comes back with unknown registers,
-/// unless that leads out of it again, or bytes of the image were copied there; what leads to data behind a call of a
-/// group INLINE goes on behind it. Registers are 0 where unknown bytes are, and else unknown. Returns how many
-/// instructions it took.
+/// Runs from an address, at most so many instructions, and only those that the listing has. What leads out of the
+/// image comes back with unknown registers, unless that leads out of it again. Returns how many instructions it took.
 fn run_from(machine: &mut Both, lines: &Lines, from: u16, steps: u32) -> u32 {
     machine.registers = Registers::at(from);
     machine.registers.s = Pair::of(0xFF);
-    if machine.bus.seed != 0 {
-        forget(machine);
-    }
+    forget(machine);
     machine.bus.begin_run();
     let mut outside = 0u32;
     for step in 0..steps {
-        let at = lines.behind_data(machine.registers.pc);
-        machine.registers.pc = at;
-        let goes_on = if machine.bus.scene.has(at) || machine.bus.copied_from(at).is_some() {
+        let at = machine.registers.pc;
+        let goes_on = if machine.bus.scene.has(at) {
             outside = 0;
             run_at(machine, lines, at)
         } else {
@@ -149,22 +124,6 @@ fn run_from(machine: &mut Both, lines: &Lines, from: u16, steps: u32) -> u32 {
     steps
 }
 
-/// Runs from an entry. What returns within `FRAME` instructions is called again, up to `AGAIN` times, with the memory
-/// that it left, as a player or an interrupt is, until half of the instructions that are left are gone.
-fn run_entry(machine: &mut Both, lines: &Lines, entry: u16, shared: &mut Shared) {
-    let steps = shared.next();
-    let mut taken = run_from(machine, lines, entry, steps);
-    shared.take(taken);
-    let least = shared.left / 2;
-    for _ in 0..AGAIN {
-        if FRAME <= taken || shared.left < least.max(FRAME) || !machine.bus.has_returned() {
-            break;
-        }
-        taken = run_from(machine, lines, entry, FRAME);
-        shared.left = shared.left.saturating_sub(taken);
-    }
-}
-
 /// Runs from all entries that no run with the same unknown bytes has come to.
 fn run_entries(machine: &mut Both, runs: &Runs<'_>, shown: &mut Progress<'_>) {
     let count = u32::try_from(runs.entries.len()).unwrap_or(u32::MAX);
@@ -176,7 +135,8 @@ fn run_entries(machine: &mut Both, runs: &Runs<'_>, shown: &mut Progress<'_>) {
                 continue;
             }
             shown.say(entry);
-            run_entry(machine, runs.lines, entry, &mut shared);
+            let steps = shared.next();
+            shared.take(run_from(machine, runs.lines, entry, steps));
         }
     }
 }

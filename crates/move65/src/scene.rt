@@ -19,7 +19,7 @@ pub struct Scene {
     pub limit: usize,
     /// The first and the end of what may be variables, if it lies too far behind the image to be moved with it.
     pub far: Option<(u16, usize)>,
-    /// The greatest address behind the image that a name is written for.
+    /// The greatest address behind the image that a name is written for, and that no group has.
     pub last_named: u16,
 }
 
@@ -51,7 +51,7 @@ impl Scene {
 
     /// Takes down that a name is written for the address.
     pub fn name_behind(&mut self, address: u16) {
-        if self.is_behind(address) {
+        if self.is_behind(address) && !self.after.get(address) {
             self.last_named = self.last_named.max(address);
         }
     }

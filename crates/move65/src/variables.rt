@@ -13,9 +13,6 @@ const GAP: usize = 256;
 /// How far a variable may lie behind the one before it if there are `MANY` from it on.
 const WIDE: usize = 2048;
 
-/// How far a variable that only an operand of the listing has may lie behind those that code has written.
-const NEXT: usize = 1024;
-
 /// How many there are at least, each both read and written, if they lie further behind.
 const MANY: usize = 8;
 
@@ -148,9 +145,8 @@ pub fn move_found(world: &mut World) -> bool {
     has_moved
 }
 
-/// Moves what is touched behind the image, and the operands of the listing that have an address there, or at most
-/// `NEXT` bytes later: what has not run has more of them. Appends these addresses, and returns whether there are any. What lies
-/// too far behind the image is kept for a question.
+/// Moves what is touched behind the image, and the operands of the listing that have an address there. Appends these
+/// addresses, and returns whether there are any. What lies too far behind the image is kept for a question.
 pub fn move_variables(
     world: &mut World,
     lines: &Lines,
@@ -161,16 +157,7 @@ pub fn move_variables(
     if world.scene.far.is_some() {
         return Ok(false);
     }
-    let mut last = end;
-    for at in 0..=u16::MAX {
-        if let Some(address) = variable_at(&world.scene, lines, at)
-            && world.scene.end() < end
-            && usize::from(address) < world.scene.limit.min(end.saturating_add(NEXT))
-        {
-            last = last.max(usize::from(address).saturating_add(1));
-        }
-    }
-    world.scene.after_end = world.scene.after_end.max(last);
+    world.scene.after_end = end;
     let before = found.len();
     let scene = &mut world.scene;
     for at in 0..=u16::MAX {

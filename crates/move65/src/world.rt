@@ -1,7 +1,6 @@
 //! What both runs are connected to: the image, unknown memory, and what is seen: where they part, and which
 //! places of the image that comes from.
 
-use crate::calls::Calls;
 use crate::lines::Lines;
 use crate::pair::{Pair, Places};
 use crate::scene::Scene;
@@ -68,8 +67,8 @@ pub struct World {
     at: u16,
     /// How many instructions have run.
     clock: u32,
-    /// What decides the unknown bytes. With 0 they are zeros.
-    pub seed: u32,
+    /// What decides the unknown bytes.
+    seed: u32,
     /// Where instructions have run.
     pub ran: Marks,
     /// Those that have run since nothing was known.
@@ -87,7 +86,6 @@ pub struct World {
     pub found_words: Marks,
     /// How many calls of code outside of the image have been looked at.
     handed: u32,
-    pub calls: Calls,
     pub seen: Vec<Vec<Sighting>>,
     /// What is read behind the image, and what is written there, by addresses that are known.
     pub read: Marks,
@@ -132,7 +130,6 @@ impl World {
             found: Marks::none(alloc)?,
             found_words: Marks::none(alloc)?,
             handed: 0,
-            calls: Calls::none(alloc)?,
             seen,
             read: Marks::none(alloc)?,
             written: Marks::none(alloc)?,
@@ -209,7 +206,6 @@ impl World {
 
     /// A run begins.
     pub fn begin_run(&mut self) {
-        self.calls.forget();
         self.leads = None;
         self.is_found = false;
     }
@@ -219,29 +215,9 @@ impl World {
         self.leads = None;
     }
 
-    /// Whether the last instruction was `rts`.
-    pub fn has_returned(&self) -> bool {
-        matches!(self.cell(self.at), Some(pair) if pair.here == 0x60)
-    }
-
-    /// Which byte of the image was copied to an address outside of it, and stands there.
-    pub fn copied_from(&self, address: u16) -> Option<u16> {
-        let byte = self.cell(address)?;
-        let is_copy = byte.is_known && !byte.is_mixed && self.is_plain(byte);
-        if is_copy && !self.scene.has(address) {
-            return byte.places.as_slice().first().copied();
-        }
-        None
-    }
-
-    /// Whether an instruction of the listing begins at an address, or one that was copied there, or one of code that
-    /// has been found, or is found now because an instruction leads there.
+    /// Whether an instruction of the listing begins at an address, or one of code that has been found, or is found now
+    /// because an instruction leads there.
     pub fn may_run(&mut self, lines: &Lines, address: u16) -> bool {
-        if let Some(place) = self.copied_from(address) {
-            self.ran.set(place);
-            self.is_found = false;
-            return true;
-        }
         if lines.instructions.get(address) {
             self.is_found = false;
             return true;
